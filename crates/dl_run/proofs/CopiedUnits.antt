@@ -62,19 +62,15 @@ discriminator_small (op.SetDiscriminator m) n small e = subst (λ (k : ℕ). k <
 discriminator_small o n small e = absurd (none_is_some e)
 
 module _ (sets : Operation → Option ℕ) (each : SetsSmall sets) where
-  last_small : (os : List Operation) (n : ℕ) → AllByRecursion Small os → last_set sets os ≡ Some n → n < 2 ^ 64
-  last_small [] n small e = absurd (none_is_some e)
-  last_small (o ∷ os) n small e = by (last_set sets os) (last_small os n small.1) e where
-    by : (later : Option ℕ) → (later ≡ Some n → n < 2 ^ 64) → option_or later (sets o) ≡ Some n → n < 2 ^ 64
-    by (Some m) is e = is e
-    by None is e = each o n small.0 e
-
   set_small : (os : List Operation) (d : ℕ) → d < 2 ^ 64 → AllByRecursion Small os
       → unwrap_or (last_set sets os) d < 2 ^ 64
-  set_small os d lt small = by (last_set sets os) refl where
-    by : (o : Option ℕ) → last_set sets os ≡ o → unwrap_or o d < 2 ^ 64
-    by (Some n) is = last_small os n small is
-    by None is = lt
+  set_small [] d lt small = lt
+  set_small (o ∷ os) d lt small = by (last_set sets os) (sets o) refl (set_small os d lt small.1) where
+    by : (later own : Option ℕ) → sets o ≡ own → unwrap_or later d < 2 ^ 64
+        → unwrap_or (option_or later own) d < 2 ^ 64
+    by (Some m) own e lt = lt
+    by None (Some n) e lt = each o n small.0 e
+    by None None e lt = lt
 
 all_drop : {A : Type 0} (P : A → Type 0) (n : ℕ) (xs : List A) → AllByRecursion P xs → AllByRecursion P (drop n xs)
 all_drop P zero xs all = all
@@ -116,15 +112,13 @@ module _ (h : Params) (some : 1 ≤ h.maximum_operations_per_instruction)
 -- ---- one unit
 
 pub standard_sound : (h : HeaderData) → IsSoundHeader h → IsSoundHeader (with_standard_opcodes h)
-standard_sound h sound =
-    record {
-      params = standard_fault h sound.params;
-      maximum_operations = sound.maximum_operations;
-      line_base =
-          sound.line_base;
-      directories = sound.directories;
-      files = sound.files;
-    }
+standard_sound h sound = record {
+  params = standard_fault h sound.params;
+  maximum_operations = sound.maximum_operations;
+  line_base = sound.line_base;
+  directories = sound.directories;
+  files = sound.files;
+}
 
 -- the header of bytes, and the rows after it
 pub record HasHeader (dialect : Dialect) (u : List ℕ) (h : HeaderData) : Type 0 where

@@ -1,12 +1,12 @@
 -- What is copied of visits one after the other, and of those of a unit.
-use Rattle.dl_run.proofs.Names.{◌++◌, ◌∙◌, ◌∷◌, ◌≡◌, ◌⊎◌, [], AllByRecursion, ap, append-nil, append_assoc, Bool}
-use Rattle.dl_run.proofs.Names.{comes_to, Dialect, false, fold_stays, foreign_in, foreign_no_header, goes, header_in}
-use Rattle.dl_run.proofs.Names.{header_of, HeaderData, inl, inr, List, Made, map, None, of_header, of_open, of_row}
-use Rattle.dl_run.proofs.Names.{of_version, open_visit, Option, Order, parts, refl, Row, rows_in, RunFault, Some}
-use Rattle.dl_run.proofs.Names.{stopped, sym, true, unit_rows, Visit, visited, visits, ℕ, ⊤}
+use Rattle.dl_run.proofs.Names.{◌++◌, ◌∙◌, ◌∷◌, ◌≡◌, ◌⊎◌, [], ap, append-nil, append_assoc, Bool, comes_to, Dialect}
+use Rattle.dl_run.proofs.Names.{false, fold_stays, foreign_in, foreign_no_header, goes, header_in, header_of}
+use Rattle.dl_run.proofs.Names.{HeaderData, inl, inr, List, Made, map, None, of_header, of_open, of_row, of_version}
+use Rattle.dl_run.proofs.Names.{open_visit, Option, Order, parts, refl, Row, rows_in, RunFault, Some, stopped, sym}
+use Rattle.dl_run.proofs.Names.{true, unit_rows, Visit, visited, visits, ℕ}
 use Rattle.dl_run.proofs.Names.fault
 use Rattle.dl_run.proofs.EventLemmas.{rows_visited}
-use Rattle.dl_run.proofs.Fronts.{none_is_some, all_front}
+use Rattle.dl_run.proofs.Fronts.{empty_both, none_is_some}
 
 -- ---- visits one after the other
 
@@ -24,29 +24,22 @@ module _ (made : Made) (order : Order) where
   after_rows offset before text (r ∷ rows) is_open =
       rw (append_assoc before (r ∷ []) rows) at (after_rows offset (before ++ r ∷ []) text rows is_open)
 
-  abbrev IsPlain : Visit → Type 0
-  IsPlain (of_row r) = ⊤
-  IsPlain of_open = ⊤
-  IsPlain other = ⊥
-
-  rows_plain : (rows : List Row) (is_open : Bool) → AllByRecursion IsPlain (map of_row rows ++ open_visit is_open)
-  rows_plain [] true = (tt, tt)
-  rows_plain [] false = tt
-  rows_plain (r ∷ rows) is_open = (tt, rows_plain rows is_open)
-
-  after_plain : (offset : ℕ) (rows : List Row) (text : List ℕ) (visits : List Visit) → AllByRecursion IsPlain visits
-      → (now : List Row) × (comes_to made order (goes offset rows text) visits ≡ goes offset now text)
-  after_plain offset rows text [] all = (rows, refl)
-  after_plain offset rows text (of_row r ∷ visits) all = after_plain offset (rows ++ r ∷ []) text visits all.1
-  after_plain offset rows text (of_open ∷ visits) all = after_plain offset rows text visits all.1
-  after_plain offset rows text (v ∷ visits) all = absurd all.0
-
-  -- the first of rows
+  -- the first of these
   pub after_some : (offset : ℕ) (before : List Row) (text : List ℕ) (rows : List Row) (is_open : Bool)
       (heard x : List Visit) → map of_row rows ++ open_visit is_open ≡ heard ++ x
       → (now : List Row) × (comes_to made order (goes offset before text) heard ≡ goes offset now text)
-  after_some offset before text rows is_open heard x e =
-      after_plain offset before text heard (all_front IsPlain heard x (rw e at (rows_plain rows is_open)))
+  after_some offset before text rows is_open [] x e = (before, refl)
+  after_some offset before text [] false (w ∷ heard) x e = absurd cc
+  after_some offset before text [] true (w ∷ heard) x e =
+      let first : w ≡ of_open = cc in
+      let nothing : heard ≡ [] = (empty_both heard x (let none : heard ++ x ≡ [] = cc in none)).0 in
+      (before, rw (first, nothing) refl)
+  after_some offset before text (r ∷ rows) is_open (w ∷ heard) x e =
+      from_row w (cc) (after_some offset (before ++ r ∷ []) text rows is_open heard x (cc)) where
+        from_row : (w : Visit) → w ≡ of_row r
+            → (now : List Row) × (comes_to made order (goes offset (before ++ r ∷ []) text) heard ≡ goes offset now text)
+            → (now : List Row) × (comes_to made order (goes offset before text) (w ∷ heard) ≡ goes offset now text)
+        from_row w first later = (later.0, rw first later.1)
 
 -- ---- the visits of a unit, or of the front of one
 
