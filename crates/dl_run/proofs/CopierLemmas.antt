@@ -1,10 +1,12 @@
 -- How a copier goes on, and what stops it.
-use Rattle.dl_run.proofs.Names.{◌++◌, ◌∙◌, ◌∷◌, ◌≡◌, [], ap, Appends-nil, bytes_of_rows, Copier, copy_story, Copying}
-use Rattle.dl_run.proofs.Names.{EmitFault, Err, fold-append, goes, HasPrinted, HasPrinted-nothing, header_bytes}
-use Rattle.dl_run.proofs.Names.{header_told, HeaderData, IsGrown, IsGrowth, List, made_by, None, of_end, of_header}
-use Rattle.dl_run.proofs.Names.{of_open, of_row, of_version, Ok, Option, Order, Params, Printed, PrintsPart}
-use Rattle.dl_run.proofs.Names.{program_len, ProgramData, refl, refusal, Result, Row, rows_refusal, RunFault, Some}
-use Rattle.dl_run.proofs.Names.{StopsIn, sym, TellsOut-front, told_to, unit_of, Visit, visited, visits, Write, ℕ, ⊤}
+use Rattle.dl_run.proofs.Names.{◌++◌, ◌+◌, ◌<◌, ◌∙◌, ◌∷◌, ◌≡◌, [], ap, Appends, Appends-nil, arith, bytes_of_rows}
+use Rattle.dl_run.proofs.Names.{Copier, copy_story, Copying, EmitFault, Err, fold-append, goes, HasOut-pending}
+use Rattle.dl_run.proofs.Names.{HasPrinted, HasPrinted-flushed, HasPrinted-more, HasPrinted-nothing, header_bytes}
+use Rattle.dl_run.proofs.Names.{header_told, HeaderData, IsGrown, IsGrowth, length, length-append, length-drop, List}
+use Rattle.dl_run.proofs.Names.{made_by, None, of_end, of_header, of_open, of_row, of_version, Ok, Option, Order}
+use Rattle.dl_run.proofs.Names.{Params, Printed, PrintsPart, program_len, ProgramData, refl, refusal, Result, Row}
+use Rattle.dl_run.proofs.Names.{rows_refusal, RunFault, Some, StopsIn, sym, take, TellsOut, TellsOut-front, told_to}
+use Rattle.dl_run.proofs.Names.{unit_of, Visit, visited, visits, Write, ℕ, ⊤}
 use Rattle.dl_run.proofs.Names.fault
 use Rattle.dl_run.proofs.Fronts.{none_is_some, value_same, neither}
 use Rattle.dl_run.proofs.HeadersTold.{header_told-append}
@@ -201,3 +203,39 @@ begins first start pending out = record {
   grown = λ h told. absurd (none_is_some told);
   printed = HasPrinted-nothing start start first.printer (Appends-nil start) pending out;
 }
+
+-- ---- a header that is written on the output itself, after all that was printed before
+
+module _ (start a : Option (List ℕ)) (text more : List ℕ) (p : Printed) (printed : HasPrinted start a text p)
+    (empty : p.pending ≡ []) where
+  -- all of the text is out
+  all_out : p.out ≡ length text
+  all_out =
+      let within = printed.first.within in
+      let none = sym (length-drop p.out text) ∙ ap length (printed.rest ∙ empty) in omega arith
+
+  -- what comes next, as if it were held
+  as_held : HasPrinted start a (text ++ more) (record { pending = more; out = p.out })
+  as_held = rw empty at (HasPrinted-more start a text more p.out p.pending printed)
+
+  module _ (b : Option (List ℕ)) where
+    -- a part of it was written
+    pub part_passed : (part : ℕ) → part < length more → Appends a b (take part more)
+        → TellsOut start b (text ++ more) (Write (p.out + part))
+    part_passed part short written =
+        let all = all_out in
+        let len = length-append text more in (
+          omega arith,
+          HasOut-pending start a b (text ++ more) p.out more part as_held (record { within = omega arith; written = written }),
+        )
+
+    -- all of it was written, and counted
+    pub all_passed : (q : Printed) (n : ℕ) → n ≡ length more → Appends a b more → q.pending ≡ p.pending
+        → q.out ≡ p.out + n → HasPrinted start b (text ++ more) q
+    all_passed q n len written pending out =
+        let done = HasPrinted-flushed start a b (text ++ more) p.out more as_held written in
+        let is : p.out + length more ≡ q.out = ap (λ (k : ℕ). p.out + k) (sym len) ∙ sym out in
+        record {
+          first = rw is at done.first;
+          rest = rw (← is) (done.rest ∙ sym (pending ∙ empty));
+        }

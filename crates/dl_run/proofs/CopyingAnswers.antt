@@ -5,7 +5,7 @@ use Rattle.dl_run.proofs.Names.{ends, EndsAs, Err, fold-append, foreign_in, goes
 use Rattle.dl_run.proofs.Names.{IsUnit, length, List, Made, made_by, None, of_end, of_version, Ok, Option, Order}
 use Rattle.dl_run.proofs.Names.{Progress, Ran, refl, refusal, Result, Row, RunFault, same_from_push, section_visits}
 use Rattle.dl_run.proofs.Names.{Settled, Some, Sound, stop_in, stopped, StopsAt, Summary, take, TellsOut, text_in}
-use Rattle.dl_run.proofs.Names.{told_to, unit_of, units_as, Visit, visited, VisitorStops, WithinUnit, Write}
+use Rattle.dl_run.proofs.Names.{told_to, unit_of, units_as, Visit, visited, VisitorStops, visits, WithinUnit, Write}
 use Rattle.dl_run.proofs.Names.{zero-add, ℕ}
 use Rattle.dl_run.proofs.Names.fault
 use Rattle.dl_run.proofs.CopyingSections.{StopIs, Now, Heard, heard_of}
@@ -112,14 +112,14 @@ module _ (dialect : Dialect) (limit : ℕ) (bytes : List ℕ) (left : Option (Li
     told : Heard made dialect 0 units b stops.more [] (told_to first heard)
     told = heard_in units b heard stops.more has.each (stops.whole ∙ simp append_assoc)
 
-    by_stop : HasMade told.done → (g : RunFault) → StopIs made dialect 0 told.done told.after b g → Copied (Err g)
+    by_stop : HasMade told.done → (g : RunFault) → StopIs made dialect told.place told.after b g → Copied (Err g)
     by_stop out (fault.ForeignUnit offset) (c, more, version, whole, at, within, foreign) = (
       told.done,
       c,
       more ++ back,
       version,
       after_units told.done told.after c more told.whole whole within,
-      at ∙ zero-add (length (concat told.done)),
+      at ∙ told.at ∙ zero-add (length (concat told.done)),
       foreign,
       out,
     )
@@ -129,7 +129,7 @@ module _ (dialect : Dialect) (limit : ℕ) (bytes : List ℕ) (left : Option (Li
       concat later ++ (b ++ back),
       h,
       has_front dialect s units (told.done ++ u ∷ []) later (b ++ back) (told.whole ∙ rw whole (simp append_assoc)) has,
-      at ∙ zero-add (length (concat told.done)),
+      at ∙ told.at ∙ zero-add (length (concat told.done)),
       header,
       refused,
       too_long dialect made ranges offset u h g header refused,
@@ -149,7 +149,7 @@ module _ (dialect : Dialect) (limit : ℕ) (bytes : List ℕ) (left : Option (Li
 
       by : (p : Progress)
           → visited made first.program.order (goes new.unit stops.tells.rows stops.tells.text) stops.visit ≡ p
-          → Now made dialect 0 told.done told.after b stops.more (units_as made dialect 0 told.done) p
+          → Now made dialect told.place told.after b stops.more (units_as made dialect 0 told.done) p
           → stop_in p ≡ Some f → Copied (Err f)
       by (goes offset rows text) at is reason = absurd (none_is_some reason)
       by (stopped text g) at is reason =

@@ -1,28 +1,27 @@
 -- What is copied of the visits of a section.
-use Rattle.dl_run.proofs.Names.{visited, ◌++◌, ◌+◌, ◌∙◌, ◌∷◌, ◌≡◌, ◌≢◌, ◌⊎◌, [], AllByRecursion, ap, append-nil, append_assoc}
-use Rattle.dl_run.proofs.Names.{AreMade, arith, Bool, comes_to, concat, Dialect, EmitFault, ended_as}
-use Rattle.dl_run.proofs.Names.{ends_open, false, fold-append, foreign_in, foreign_of, goes, header_in}
-use Rattle.dl_run.proofs.Names.{header_is_found, header_of, HeaderData, inl, inr, IsGrowth, IsMade, IsUnit, length}
-use Rattle.dl_run.proofs.Names.{length-append, length_of_unit, List, Made, None, of_end, of_header, of_version}
-use Rattle.dl_run.proofs.Names.{open_visit, Option, Progress, refl, refusal, Row, RunFault, Some, some_same, Sound}
-use Rattle.dl_run.proofs.Names.{stopped, sym, unit_as, unit_is_not_refused, unit_of, unit_rows, units_as}
-use Rattle.dl_run.proofs.Names.{units_visits, Visit, visits, WithinUnit, ℕ}
+use Rattle.dl_run.proofs.Names.{◌++◌, ◌+◌, ◌∙◌, ◌∷◌, ◌≡◌, ◌≢◌, ◌⊎◌, [], AllByRecursion, ap, append-nil, append_assoc}
+use Rattle.dl_run.proofs.Names.{AreMade, arith, Bool, comes_to, concat, Dialect, EmitFault, ended_as, ends_open}
+use Rattle.dl_run.proofs.Names.{false, fold-append, foreign_in, foreign_of, goes, header_in, header_is_found}
+use Rattle.dl_run.proofs.Names.{header_of, HeaderData, inl, inr, IsGrowth, IsMade, IsUnit, length, length-append}
+use Rattle.dl_run.proofs.Names.{length_of_unit, List, Made, None, of_end, of_header, of_version, open_visit, Option}
+use Rattle.dl_run.proofs.Names.{Progress, refl, refusal, Row, RunFault, Some, some_same, Sound, stopped, sym, unit_as}
+use Rattle.dl_run.proofs.Names.{unit_is_not_refused, unit_of, unit_rows, units_as, units_visits, Visit, visited}
+use Rattle.dl_run.proofs.Names.{visits, WithinUnit, ℕ}
 use Rattle.dl_run.proofs.Names.fault
 use Rattle.dl_run.proofs.CopyingVisits.{stays_stopped, Foreign, Own, Neither, one_of}
 use Rattle.dl_run.proofs.CopyingVisits.{foreign_visits, own_visits, no_visits, Front, at_version, before_version}
 use Rattle.dl_run.proofs.CopyingVisits.{goes_on, front_of, header_is, own_front, foreign_front}
 use Rattle.dl_run.proofs.Fronts.{fronts_of, empty_both}
 
--- the fault is that of what stands after the units that are done, the first of which is at n
-abbrev pub StopIs : Made → Dialect → (n : ℕ) (done after : List (List ℕ)) (b : List ℕ) → RunFault → Type 0
-StopIs made dialect n done after b (fault.ForeignUnit offset) =
-    (c : List ℕ) × (back : List ℕ) × (version : ℕ) × (concat after ++ b ≡ c ++ back)
-    × (offset ≡ n + length (concat done)) × WithinUnit dialect c × (foreign_in dialect c ≡ Some version)
-StopIs made dialect n done after b (fault.Emit offset f) =
-    (u : List ℕ) × (later : List (List ℕ)) × (h : HeaderData) × (after ≡ u ∷ later)
-    × (offset ≡ n + length (concat done)) × (header_of dialect u ≡ Some h)
-    × (refusal (made offset h) (unit_rows dialect u) ≡ Some f)
-StopIs made dialect n done after b other = ⊥
+-- the fault is that of what stands at this place, which is these units and b
+abbrev pub StopIs : Made → Dialect → (place : ℕ) (after : List (List ℕ)) (b : List ℕ) → RunFault → Type 0
+StopIs made dialect place after b (fault.ForeignUnit offset) =
+    (c : List ℕ) × (back : List ℕ) × (version : ℕ) × (concat after ++ b ≡ c ++ back) × (offset ≡ place)
+    × WithinUnit dialect c × (foreign_in dialect c ≡ Some version)
+StopIs made dialect place after b (fault.Emit offset f) =
+    (u : List ℕ) × (later : List (List ℕ)) × (h : HeaderData) × (after ≡ u ∷ later) × (offset ≡ place)
+    × (header_of dialect u ≡ Some h) × (refusal (made offset h) (unit_rows dialect u) ≡ Some f)
+StopIs made dialect place after b other = ⊥
 
 -- of the units that aren't copied, or of b after them, the current bytes are at fault in no way, and memory grows for
 -- them
@@ -37,14 +36,14 @@ pub record CurrentUnit (dialect : Dialect) (after : List (List ℕ)) (b : List �
 
 -- What visits came to, of which the units that are done give the text. They go on: where all is told no unit is left, and
 -- b isn't of another version; where memory grows next there is a current unit. Or they stopped at what is after those units.
-abbrev pub Now : Made → Dialect → (n : ℕ) (done after : List (List ℕ)) (b : List ℕ) (more : List Visit) (text : List ℕ)
+abbrev pub Now : Made → Dialect → (place : ℕ) (after : List (List ℕ)) (b : List ℕ) (more : List Visit) (text : List ℕ)
     → Progress → Type 0
-Now made dialect n done after b more text (goes offset rows own) =
+Now made dialect place after b more text (goes offset rows own) =
     (own ≡ text) × (more ≡ [] → (after ≡ []) × (foreign_in dialect b ≡ None))
     × ((visit : Visit) (others : List Visit) → more ≡ visit ∷ others → IsGrowth visit → WithinUnit dialect b
     → Sound dialect b → CurrentUnit dialect after b)
-Now made dialect n done after b more text (stopped own f) =
-    (own ≡ text) × (WithinUnit dialect b → StopIs made dialect n done after b f)
+Now made dialect place after b more text (stopped own f) =
+    (own ≡ text) × (WithinUnit dialect b → StopIs made dialect place after b f)
 
 -- of the units some first ones are copied, after this text
 pub record Heard (made : Made) (dialect : Dialect) (n : ℕ) (units : List (List ℕ)) (b : List ℕ) (more : List Visit)
@@ -53,7 +52,9 @@ pub record Heard (made : Made) (dialect : Dialect) (n : ℕ) (units : List (List
   pub after : List (List ℕ)
   pub whole : units ≡ done ++ after
   pub copied : AreMade made dialect n done
-  pub now : Now made dialect n done after b more (text ++ units_as made dialect n done) p
+  pub place : ℕ
+  pub at : place ≡ n + length (concat done)
+  pub now : Now made dialect place after b more (text ++ units_as made dialect n done) p
 
 -- rows are told where memory grows among the visits of the front of a unit
 growth_rows : (dialect : Dialect) (n : ℕ) (c : List ℕ) (heard : List Visit) (visit : Visit) (others : List Visit)
@@ -81,12 +82,14 @@ module _ (made : Made) (dialect : Dialect) where
   unit_within u is n len = omega (arith, some_same (length u) n (sym (length_of_unit dialect u is) ∙ len))
 
   none_done : {n : ℕ} {units : List (List ℕ)} {b : List ℕ} {more : List Visit} {text : List ℕ} {p : Progress}
-      → Now made dialect n [] units b more text p → Heard made dialect n units b more text p
+      → Now made dialect n units b more text p → Heard made dialect n units b more text p
   none_done {n} {units} {b} {more} {text} {p} now = record {
     done = [];
     after = units;
     whole = refl;
     copied = tt;
+    place = n;
+    at = omega arith;
     now = rw (append-nil text) now;
   }
 
@@ -100,23 +103,10 @@ module _ (made : Made) (dialect : Dialect) where
     after = later.after;
     whole = ap (λ (l : List (List ℕ)). u ∷ l) later.whole;
     copied = (is, later.copied);
-    now = by p (rw append_assoc at later.now);
-  } where
-    stop : (f : RunFault) → StopIs made dialect (n + length u) later.done later.after b f
-        → StopIs made dialect n (u ∷ later.done) later.after b f
-    stop (fault.ForeignUnit offset) s =
-        (s.0, s.1, s.2, s.3, omega (arith, s.4, length-append u (concat later.done)), s.5, s.6)
-    stop (fault.Emit offset f) s =
-        (s.0, s.1, s.2, s.3, omega (arith, s.4, length-append u (concat later.done)), s.5, s.6)
-    stop f s = absurd s
-
-    by : (p : Progress)
-        → Now made dialect (n + length u) later.done later.after b more
-        (text ++ (unit_as made dialect n u ++ units_as made dialect (n + length u) later.done)) p
-        → Now made dialect n (u ∷ later.done) later.after b more
-        (text ++ (unit_as made dialect n u ++ units_as made dialect (n + length u) later.done)) p
-    by (goes offset rows own) now = now
-    by (stopped own f) now = (now.0, λ within. stop f (now.1 within))
+    place = later.place;
+    at = omega (arith, later.at, length-append u (concat later.done));
+    now = rw append_assoc at later.now;
+  }
 
   -- visits of the bytes after the units that are done, and that their sequence is open
   in_front : (n m : ℕ) (text : List ℕ) (after : List (List ℕ)) (b c tail : List ℕ) (heard x rest : List Visit)
@@ -125,9 +115,9 @@ module _ (made : Made) (dialect : Dialect) where
       → (rest ≡ [] → foreign_in dialect c ≡ None → (after ≡ []) × (foreign_in dialect b ≡ None))
       → ((visit : Visit) (others : List Visit) → x ++ rest ≡ visit ∷ others → IsGrowth visit
       → (unit_rows dialect c ≢ []) ⊎ IsUnit dialect c)
-      → Now made dialect n [] after b (x ++ rest) text (comes_to made dialect.order (goes m [] text) heard)
+      → Now made dialect n after b (x ++ rest) text (comes_to made dialect.order (goes m [] text) heard)
   in_front n m text after b c tail heard x rest (at_version v is) whole within sound last grows =
-      rw is (refl, λ in_unit. (c, tail, v.0, whole, omega arith, within in_unit, v.1))
+      rw is (refl, λ in_unit. (c, tail, v.0, whole, refl, within in_unit, v.1))
   in_front n m text after b c tail heard x rest (before_version version others none x_is) whole within sound last grows =
       rw none (
         refl,
@@ -191,15 +181,7 @@ module _ (made : Made) (dialect : Dialect) where
         with_end x left later (inl v) =
             rw (foreign_front made dialect n u is_open m text v (end_is ∷ x)) (none_done (
               refl,
-              λ within. (
-                u,
-                concat units ++ b,
-                v.0,
-                append_assoc u (concat units) b,
-                omega arith,
-                unit_within u all.0,
-                v.1,
-              ),
+              λ within. (u, concat units ++ b, v.0, append_assoc u (concat units) b, refl, unit_within u all.0, v.1),
             ))
         with_end x left later (inr own) =
             rw (
@@ -224,7 +206,7 @@ module _ (made : Made) (dialect : Dialect) where
               by_refusal (Some f) r =
                   rw (stays_stopped made dialect.order text (fault.Emit n f) x) (none_done (
                     refl,
-                    λ within. (u, units, own.0, refl, omega arith, header_is dialect n u own, r),
+                    λ within. (u, units, own.0, refl, refl, header_is dialect n u own, r),
                   ))
 
         kind : Foreign dialect n u ⊎ Own dialect n u

@@ -60,44 +60,29 @@ module _ (dialect : Dialect) (x : Place) where
   abbrev unit_seen : List ℕ → Search
   unit_seen u = answer_under (header_of dialect u) (answer (unit_rows dialect u) x)
 
-  abbrev step : Search → List ℕ → Search
-  step (finds h r) u = finds h r
-  step (seeks rows) u = unit_seen u
-
-  after_units : (n : ℕ) (units : List (List ℕ)) (more : List Visit)
-      → fold (seen x) (seeks []) (units_visits dialect n units ++ more)
-      ≡ fold (seen x) (fold step (seeks []) units) more
-  after_units n [] more = refl
-  after_units n (u ∷ units) more =
-      simp append_assoc (after_visits n u (open_visit is_open ++ of_end (header_of dialect u) ∷ rest)
-      ∙ after_open (unit_rows dialect u) is_open (of_end (header_of dialect u) ∷ rest)
-      ∙ by (header_of dialect u) (answer (unit_rows dialect u) x) (after_units (n + length u) units more)) where
-        is_open : Bool
-        is_open = ends_open (unit_rows dialect u)
-
+  -- units, and visits after them that give no answer
+  in_units : (n : ℕ) (units : List (List ℕ)) (more : List Visit) (rows : List Row)
+      → fold (seen x) (seeks []) more ≡ seeks rows
+      → Sought dialect x units rows (fold (seen x) (seeks []) (units_visits dialect n units ++ more))
+  in_units n [] more rows e = none tt e
+  in_units n (u ∷ units) more rows e =
+      by (header_in dialect u) refl (answer (unit_rows dialect u) x) refl (in_units (n + length u) units more rows e) where
         rest : List Visit
         rest = units_visits dialect (n + length u) units ++ more
 
-        by : (h : Option HeaderData) (a : Option Row)
-            → fold (seen x) (seeks []) rest ≡ fold (seen x) (fold step (seeks []) units) more
-            → fold (seen x) (answer_under h a) rest ≡ fold (seen x) (fold step (answer_under h a) units) more
-        by (Some h) (Some r) later =
-            rw (
-              fold_stays (seen x) (finds h r) (λ v. refl) rest,
-              fold_stays step (finds h r) (λ v. refl) units,
-              fold_stays (seen x) (finds h r) (λ v. refl) more,
-            ) refl
-        by (Some h) None later = later
-        by None a later = later
+        all : List Visit
+        all = units_visits dialect n (u ∷ units) ++ more
 
-  sought : (units : List (List ℕ)) → Sought dialect x units [] (fold step (seeks []) units)
-  sought [] = none tt refl
-  sought (u ∷ units) =
-      by (header_in dialect u) refl (answer (unit_rows dialect u) x) refl (sought units) where
+        after_unit : fold (seen x) (seeks []) all ≡ fold (seen x) (unit_seen u) rest
+        after_unit =
+            let is_open = ends_open (unit_rows dialect u) in
+            let end_is = of_end (header_of dialect u) ∷ rest in
+            simp append_assoc (after_visits n u (open_visit is_open ++ end_is) ∙ after_open (unit_rows dialect u) is_open end_is)
+
         silent : answer (unit_rows dialect u) x ≡ None → unit_seen u ≡ seeks []
-            → Sought dialect x units [] (fold step (seeks []) units)
-            → Sought dialect x (u ∷ units) [] (fold step (unit_seen u) units)
-        silent quiet is (none all e) = none (quiet, all) (rw is e)
+            → Sought dialect x units rows (fold (seen x) (seeks []) rest)
+            → Sought dialect x (u ∷ units) rows (fold (seen x) (seeks []) all)
+        silent quiet is (none each e) = none (quiet, each) (after_unit ∙ rw is e)
         silent quiet is (found h r f e) = found h r (record {
           before = u ∷ f.before;
           u = f.u;
@@ -106,11 +91,11 @@ module _ (dialect : Dialect) (x : Place) where
           none_before = (quiet, f.none_before);
           row = f.row;
           header = f.header;
-        }) (rw is e)
+        }) (after_unit ∙ rw is e)
 
         by : (parts : Option (HeaderData × List ℕ)) → header_in dialect u ≡ parts → (a : Option Row)
-            → answer (unit_rows dialect u) x ≡ a → Sought dialect x units [] (fold step (seeks []) units)
-            → Sought dialect x (u ∷ units) [] (fold step (unit_seen u) units)
+            → answer (unit_rows dialect u) x ≡ a → Sought dialect x units rows (fold (seen x) (seeks []) rest)
+            → Sought dialect x (u ∷ units) rows (fold (seen x) (seeks []) all)
         by None e a is later = silent (rw (no_rows dialect u e) refl) (rw e refl) later
         by (Some (h, program)) e None is later = silent is (rw (is, e) refl) later
         by (Some (h, program)) e (Some r) is later =
@@ -123,22 +108,14 @@ module _ (dialect : Dialect) (x : Place) where
               none_before = tt;
               row = is;
               header = header;
-            }) (rw (header, is) (fold_stays step (finds h r) (λ v. refl) units))
+            }) (after_unit ∙ rw (header, is) (fold_stays (seen x) (finds h r) (λ v. refl) rest))
 
   -- a section comes to what its units come to
   pub in_section : (units : List (List ℕ)) (b : List ℕ)
       → Sought dialect x units (unit_rows dialect b) (search_of x (section_visits dialect units b))
-  in_section units b = by (sought units) where
-    by_units : search_of x (section_visits dialect units b)
-        ≡ fold (seen x) (fold step (seeks []) units) (visits dialect (length (concat units)) b)
-    by_units = after_units 0 units (visits dialect (length (concat units)) b)
-
-    by : Sought dialect x units [] (fold step (seeks []) units)
-        → Sought dialect x units (unit_rows dialect b) (search_of x (section_visits dialect units b))
-    by (none all e) =
-        none all (by_units ∙ rw e (rw append-nil at (after_visits (length (concat units)) b [])))
-    by (found h r f e) =
-        found h r f (by_units ∙ rw e (fold_stays (seen x) (finds h r) (λ v. refl) (visits dialect (length (concat units)) b)))
+  in_section units b =
+      let n = length (concat units) in
+      in_units 0 units (visits dialect n b) (unit_rows dialect b) (rw append-nil at (after_visits n b []))
 
   -- where nothing is found, no unit answers
   pub none_answers : (units : List (List ℕ)) (b : List ℕ) (rows : List Row)

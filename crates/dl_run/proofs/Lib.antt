@@ -11,7 +11,6 @@ pub mod PlainCopies
 pub mod OneCopying
 pub mod UnitsLemmas
 pub mod VisitLemmas
-pub mod HeaderPassed
 pub mod HeadersTold
 pub mod ToldLemmas
 pub mod CountLemmas

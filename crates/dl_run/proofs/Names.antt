@@ -117,8 +117,8 @@ pub use Rattle.dl_run.specs.CopyLaws.{AreNewer, CopiesAreNewer, CopiesAreUnits, 
 pub use Rattle.dl_run.specs.Copying.{comes_to, copy_story, Copying, ended_as, goes, IsGrowth, made_by, Progress}
 pub use Rattle.dl_run.specs.Copying.{stop_in, stopped, StopsAt, text_in, told_to, visited}
 pub use Rattle.dl_run.specs.Dumping.{dump_story, HasDumped}
-pub use Rattle.dl_run.specs.Finding.{answer_under, find_story, finds, HasFound, Search, search_of, Seeks, seeks}
-pub use Rattle.dl_run.specs.Finding.{SeeksOn, seen, text_found}
+pub use Rattle.dl_run.specs.Finding.{answer_under, find_story, finds, HasFound, Search, search_of, Seeks, seeks, seen}
+pub use Rattle.dl_run.specs.Finding.{text_found}
 pub use Rattle.dl_run.specs.PassedOver.{AreTold, IsGreatest, IsLeast, other_versions, PassesOver}
 pub use Rattle.dl_run.specs.PassingOver.{IsPassedOver, Spans, version_story, version_told, versions_told}
 pub use Rattle.dl_run.specs.RunOutput.{TellsOut}

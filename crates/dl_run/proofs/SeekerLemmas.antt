@@ -2,8 +2,8 @@
 use Rattle.dl_run.proofs.Names.{◌++◌, ◌∙◌, ◌∷◌, ◌≡◌, [], answer, answer_under, Appends, Appends-nil, Err, false}
 use Rattle.dl_run.proofs.Names.{find_story, finds, Flow, Flushes, fold-append, found_text, HasFound, HasPrinted}
 use Rattle.dl_run.proofs.Names.{HasPrinted-nothing, HasPrinted-out, HeaderData, List, None, of_end, Ok, Option}
-use Rattle.dl_run.proofs.Names.{Printed, refl, Row, search_of, Seeker, Seeks, seeks, SeeksOn, seen, Some}
-use Rattle.dl_run.proofs.Names.{StopsIn, strings_of, TellsOut, true, Visit, Write, WriteFault, ℕ, ⊤}
+use Rattle.dl_run.proofs.Names.{Printed, refl, Row, row, search_of, Seeker, Seeks, seeks, seen, Some, StopsIn}
+use Rattle.dl_run.proofs.Names.{strings_of, TellsOut, true, Visit, visits, Write, WriteFault, ℕ, ⊤}
 use Rattle.dl_run.proofs.Names.fault
 use Rattle.dl_run.proofs.Names.flow
 use Rattle.dl_look.specs.FinderRows.{StandsFor}
@@ -19,13 +19,15 @@ module _ {first old : Seeker} {start held : Option (List ℕ)} {visits : List Vi
   seen_more visit = rw (fold-append (seen first.place) (seeks []) visits (visit ∷ []), s.told) refl
 
   -- it was told one visit more, which gives no answer
-  pub seeks_on : (new : Seeker) (visit : Visit) (rows : List Row) → SeeksOn old new → new.found ≡ false
+  pub seeks_on : (new : Seeker) (visit : Visit) (rows : List Row) → new.place ≡ old.place
+      → new.strings ≡ old.strings → new.found ≡ false
       → new.printer ≡ old.printer → seen first.place (seeks s.rows) visit ≡ seeks rows
       → StandsFor new.finder first.place rows → Seeks first new start held (visits ++ visit ∷ [])
-  seeks_on new visit rows same not_found printer none stands = record {
+  seeks_on new visit rows place strings not_found printer none stands = record {
     rows = rows;
     told = seen_more visit ∙ none;
-    same = record { place = same.place ∙ s.same.place; strings = same.strings ∙ s.same.strings };
+    place = place ∙ s.place;
+    strings = strings ∙ s.strings;
     not_found = not_found;
     stands = stands;
     printed = rw printer s.printed;
@@ -35,7 +37,7 @@ module _ {first old : Seeker} {start held : Option (List ℕ)} {visits : List Vi
   pub seeks_past : (visit : Visit) → seen first.place (seeks s.rows) visit ≡ seeks s.rows
       → Seeks first old start held (visits ++ visit ∷ [])
   seeks_past visit none =
-      seeks_on old visit s.rows (record { place = refl; strings = refl }) s.not_found refl none s.stands
+      seeks_on old visit s.rows refl refl s.not_found refl none s.stands
 
   -- a unit ended that has the first answer
   module _ {header : Option HeaderData} {h : HeaderData} {r : Row} (has : header ≡ Some h)
@@ -51,13 +53,13 @@ module _ {first old : Seeker} {start held : Option (List ℕ)} {visits : List Vi
       row = row;
       whole = rw has refl;
       found = is;
-      printed = rw s.same.strings at printed;
+      printed = rw s.strings at printed;
     }
 
     pub stops_printing : (out : ℕ) → TellsOut start after (found_text (strings_of old.strings) h r) (fault.Write out)
         → StopsIn find_story first new start after visits (of_end header ∷ []) (fault.Write out)
     stops_printing out t =
-        (of_end header ∷ [], [], refl, rw (seen_more (of_end header), has, row) (rw s.same.strings at t))
+        (of_end header ∷ [], [], refl, rw (seen_more (of_end header), has, row) (rw s.strings at t))
 
 -- where all that was printed goes out, or not
 module _ (first old : Seeker) (printer : Printed) (start held after : Option (List ℕ)) (visits : List Visit) where
@@ -74,7 +76,8 @@ module _ (first old : Seeker) (printer : Printed) (start held after : Option (Li
         record {
           rows = s.rows;
           told = s.told;
-          same = record { place = s.same.place; strings = s.same.strings };
+          place = s.place;
+          strings = s.strings;
           not_found = s.not_found;
           stands = s.stands;
           printed = printed;
@@ -111,7 +114,8 @@ pub begins : (first : Seeker) (start : Option (List ℕ)) → first.printer.pend
 begins first start pending out not_found stands = record {
   rows = [];
   told = refl;
-  same = record { place = refl; strings = refl };
+  place = refl;
+  strings = refl;
   not_found = not_found;
   stands = stands;
   printed = HasPrinted-nothing start start first.printer (Appends-nil start) pending out;

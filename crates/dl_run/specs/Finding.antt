@@ -41,16 +41,12 @@ text_found strings (finds h r) = found_text strings h r
 
 -- ---- the seeker
 
--- it looks for the same place, and prints with the same string sections
-pub record SeeksOn (first now : Seeker) : Type 0 where
-  pub place : now.place ≡ first.place
-  pub strings : now.strings ≡ first.strings
-
--- nothing was found, and nothing is printed
+-- it looks for the same place, and prints with the same string sections; nothing was found, and nothing is printed
 pub record Seeks (first now : Seeker) (start held : Option (List ℕ)) (visits : List Visit) : Type 0 where
   pub rows : List Row
   pub told : search_of first.place visits ≡ seeks rows
-  pub same : SeeksOn first now
+  pub place : now.place ≡ first.place
+  pub strings : now.strings ≡ first.strings
   pub not_found : now.found ≡ false
   pub stands : StandsFor now.finder first.place rows
   pub printed : HasPrinted start held [] now.printer

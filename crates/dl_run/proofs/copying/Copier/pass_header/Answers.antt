@@ -1,6 +1,6 @@
 use Rattle.dl_emit.specs.Writing.{WritesUnitHeader}
 use Rattle.dl_run.proofs.Names.{arith, EmitFault, Err, header_bytes, program_len, subst}
-use Rattle.dl_run.proofs.HeaderPassed.{all_passed, part_passed}
+use Rattle.dl_run.proofs.CopierLemmas.{all_passed, part_passed}
 use Rattle.dl_run.proofs.copying.Copier.pass_header.Goals as goal
 
 pub returns-in-Ok-clause-printed : goal.returns-in-Ok-clause-printed

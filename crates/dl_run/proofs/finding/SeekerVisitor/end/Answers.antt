@@ -13,8 +13,8 @@ returns-in_default g c first start visits s told =
       | in_default-via-in-Some+in_default w ↦ rw w.in_default.is-1 refl
       | in_default-via-in_default w ↦ no_answer c.args.header (sym answers ∙ w.in_default.is-0)
     ] in
-    seeks_on s new (of_end c.args.header) [] (record { place = refl; strings = refl }) s.not_found refl none
-    (rw s.same.place at c.new-self.ensures)
+    seeks_on s new (of_end c.args.header) [] refl refl s.not_found refl none
+    (rw s.place at c.new-self.ensures)
 
 pub returns-in_err-file : goal.returns-in_err-file
 returns-in_err-file g c first start visits s told =

@@ -5,5 +5,5 @@ use Rattle.dl_run.proofs.finding.SeekerVisitor.row.Goals as goal
 pub returns : goal.returns
 returns g c first start visits s =
     seeks_on s (record c.args.self.now { finder = c.row.new.self }) (of_row c.args.row.now)
-    (s.rows ++ c.args.row.now ∷ []) (record { place = refl; strings = refl }) s.not_found refl refl
+    (s.rows ++ c.args.row.now ∷ []) refl refl s.not_found refl refl
     (c.row.ensures first.place s.rows s.stands)
