@@ -208,30 +208,18 @@ module _ (directories : ℕ → Option (List ℕ)) (dialect : Dialect) where
       })
 
   -- the copies of units, the first of which stands at the offset
-  record Newer (offset : ℕ) (units : List (List ℕ)) : Type 0 where
-    newer : List (List ℕ)
-    joined : units_as (to_5 directories) dialect offset units ≡ concat newer
-    are_units : AllByRecursion (IsUnit dialect) newer
-    are_newer : AreNewer directories dialect offset units newer
-
   all_newer : (offset : ℕ) (units : List (List ℕ)) → AllBytes (concat units)
-      → AreMade (to_5 directories) dialect offset units → Newer offset units
-  all_newer offset [] all made = record { newer = []; joined = refl; are_units = tt; are_newer = tt }
+      → AreMade (to_5 directories) dialect offset units
+      → (newer : List (List ℕ)) × (units_as (to_5 directories) dialect offset units ≡ concat newer)
+      × AllByRecursion (IsUnit dialect) newer × AreNewer directories dialect offset units newer
+  all_newer offset [] all made = ([], refl, tt, tt)
   all_newer offset (u ∷ units) all made =
       let one = one_newer offset u (bytes_front u (concat units) all) made.0 in
       let more = all_newer (offset + length u) units (bytes_back u (concat units) all) made.1 in
-      record {
-        newer = unit_as (to_5 directories) dialect offset u ∷ more.newer;
-        joined = ap (λ (l : List ℕ). unit_as (to_5 directories) dialect offset u ++ l) more.joined;
-        are_units = (inr (_, _, one.unit), more.are_units);
-        are_newer = (one, more.are_newer);
-      }
+      let v = unit_as (to_5 directories) dialect offset u in
+      (v ∷ more.0, ap (λ (l : List ℕ). v ++ l) more.1, (inr (_, _, one.unit), more.2), (one, more.3))
 
 pub copies_are_newer : CopiesAreNewer
 copies_are_newer directories dialect s units rest all has made =
-    let n = all_newer directories dialect 0 units
-    (bytes_front (concat units) rest (subst AllBytes has.whole all)) made in (
-      n.newer,
-      record { whole = n.joined ∙ sym (append-nil (concat n.newer)); each = n.are_units },
-      n.are_newer,
-    )
+    let n = all_newer directories dialect 0 units (bytes_front (concat units) rest (rw has.whole at all)) made in
+    (n.0, record { whole = rw append-nil n.1; each = n.2 }, n.3)

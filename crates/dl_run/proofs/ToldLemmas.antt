@@ -2,7 +2,7 @@
 use Rattle.dl_run.proofs.Names.{ends, ◌++◌, ◌+◌, ◌-◌, ◌^◌, ◌∙◌, ◌∷◌, ◌≡◌, [], ap, append-nil, append_assoc, arith, cond}
 use Rattle.dl_run.proofs.Names.{Counted, Err, Event, Fault, Fed, HeardRows, Hears, length-append, List, map}
 use Rattle.dl_run.proofs.Names.{map-append, min, None, none_some, NoRow, of_row, Ok, Option, Reader, refl, Result}
-use Rattle.dl_run.proofs.Names.{Row, row_told, RowsFed, RowsOf, RunFault, same_Some, SectionUnits, SinkAfter}
+use Rattle.dl_run.proofs.Names.{Row, row, row_told, RowsFed, RowsOf, RunFault, same_Some, SectionUnits, SinkAfter}
 use Rattle.dl_run.proofs.Names.{SinkAt, Some, StopsAtRow, Story, sum_by-append, sym, told, Told, told_story, visits}
 use Rattle.dl_run.proofs.Names.{ℕ, ⊤}
 use Rattle.dl_run.proofs.Names.event
@@ -15,14 +15,13 @@ pub counts_more : (old_rows old_ends rows_now ends_now rows_new ends_new : ℕ) 
     → Counted old_rows old_ends rows_now ends_now rows
     → rows_new ≡ min (rows_now + 1) (2 ^ 64 - 1) → ends_new ≡ min (ends_now + cond r.end_sequence 1 0) (2 ^ 64 - 1)
     → Counted old_rows old_ends rows_new ends_new (rows ++ r ∷ [])
-counts_more old_rows old_ends rows_now ends_now rows_new ends_new rows r counts more_rows more_ends = record {
-  of_rows =
-      λ small. let size =
-      length-append rows (r ∷ []) in omega (arith, counts.of_rows (omega (arith, small, size)), more_rows, small, size);
-  of_ends =
-      λ small. let size =
-      ends-append rows (r ∷ []) in omega (arith, counts.of_ends (omega (arith, small, size)), more_ends, small, size);
-}
+counts_more old_rows old_ends rows_now ends_now rows_new ends_new rows r counts more_rows more_ends =
+    let size = length-append rows (r ∷ []) in
+    let ends_are = ends-append rows (r ∷ []) in
+    record {
+      of_rows = λ small. omega (arith, counts.of_rows (omega (arith, small, size)), more_rows, small);
+      of_ends = λ small. omega (arith, counts.of_ends (omega (arith, small, ends_are)), more_ends, small);
+    }
 
 module _ {W V : Type 0} (story : Story V) (contents : W → Option (List ℕ)) where
   -- rows that are told, and one at which the visitor stops
