@@ -6,7 +6,7 @@ use Rattle.dl_run.proofs.Names.{CopiesAreNewer, CopiesAreUnits, Dialect, drop, E
 use Rattle.dl_run.proofs.Names.{found_is_program, fresh, header_is_sound, header_of, HeaderData, inr, is_end}
 use Rattle.dl_run.proofs.Names.{is_within_limit, IsAnew, IsCopied, IsMade, IsNewer, IsRow, IsSoundHeader, IsUnit}
 use Rattle.dl_run.proofs.Names.{last_part, last_set, length, line, List, map, mod-lt, modulo, moves, negsuc, None}
-use Rattle.dl_run.proofs.Names.{op_index, Operation, operations_in, Option, option_or, Order, Params, params_are}
+use Rattle.dl_run.proofs.Names.{Operation, operations_in, Option, option_or, Order, Params, params_are}
 use Rattle.dl_run.proofs.Names.{parts, pos, program_len, refl, refusal, Row, row, row_from, rows_later, rows_refusal}
 use Rattle.dl_run.proofs.Names.{sequence, set_column, set_discriminator, set_file, set_isa, Some, SpellsOperation}
 use Rattle.dl_run.proofs.Names.{SpellsProgram, standard_fault, subst, suc, sym, tables_near, to_5, to_version_5}

@@ -82,7 +82,7 @@ front_stops old new before after refused offset part rest unit f whole p = absur
 
 module _ {first old : Copier} {start held : Option (List ℕ)} {visits : List Visit}
     (s : Copying first old start held visits) where
-  told_more : (visit : Visit) → told_to first (visits ++ visit ∷ [])
+  pub told_more : (visit : Visit) → told_to first (visits ++ visit ∷ [])
       ≡ visited (made_by first.becomes) first.program.order (goes old.unit s.rows s.text) visit
   told_more visit =
       rw (

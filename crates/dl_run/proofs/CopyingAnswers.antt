@@ -1,13 +1,13 @@
 -- What `copy` answers and writes.
 use Rattle.dl_run.proofs.Names.{◌++◌, ◌∙◌, ◌∷◌, ◌≡◌, [], AllByRecursion, append-nil, append_assoc, Appends, AreMade}
 use Rattle.dl_run.proofs.Names.{arith, concat, Copier, CopiesAs, copy_story, Copying, Dialect, EmitFault, ended_as}
-use Rattle.dl_run.proofs.Names.{ends, EndsAs, Err, fold-append, foreign_in, goes, HasBegun, HasUnits, inl, inr}
-use Rattle.dl_run.proofs.Names.{IsUnit, length, List, Made, made_by, None, of_end, of_version, Ok, Option, Order}
-use Rattle.dl_run.proofs.Names.{Progress, Ran, refl, refusal, Result, Row, RunFault, same_from_push, section_visits}
-use Rattle.dl_run.proofs.Names.{Settled, Some, Sound, stop_in, stopped, StopsAt, Summary, take, TellsOut, text_in}
-use Rattle.dl_run.proofs.Names.{told_to, unit_of, units_as, Visit, visited, VisitorStops, visits, WithinUnit, Write}
-use Rattle.dl_run.proofs.Names.{zero-add, ℕ}
+use Rattle.dl_run.proofs.Names.{ends, EndsAs, Err, foreign_in, goes, HasBegun, HasUnits, inl, inr, IsUnit, length}
+use Rattle.dl_run.proofs.Names.{List, Made, made_by, None, of_end, of_version, Ok, Option, Order, Progress, Ran, refl}
+use Rattle.dl_run.proofs.Names.{refusal, Result, Row, RunFault, same_from_push, section_visits, Settled, Some, Sound}
+use Rattle.dl_run.proofs.Names.{stop_in, stopped, StopsAt, Summary, sym, take, TellsOut, text_in, told_to, unit_of}
+use Rattle.dl_run.proofs.Names.{units_as, Visit, visited, VisitorStops, WithinUnit, Write, zero-add, ℕ}
 use Rattle.dl_run.proofs.Names.fault
+use Rattle.dl_run.proofs.CopierLemmas.{told_more}
 use Rattle.dl_run.proofs.CopyingSections.{StopIs, Now, Heard, heard_of}
 use Rattle.dl_run.proofs.Fronts.{none_is_some, value_same}
 use Rattle.dl_run.proofs.RangeLemmas.{KeepsRanges, too_long}
@@ -138,24 +138,17 @@ module _ (dialect : Dialect) (limit : ℕ) (bytes : List ℕ) (left : Option (Li
     by_stop out g stop = absurd stop
 
     stopped_there : stop_in (told_to first heard) ≡ Some f → Copied (Err f)
-    stopped_there reason = by (told_to first heard) last told.now reason where
-      last : visited made first.program.order (goes new.unit stops.tells.rows stops.tells.text) stops.visit
-          ≡ told_to first heard
-      last =
-          rw (
-            fold-append (visited made first.program.order) (goes first.unit [] []) stops.before (stops.visit ∷ []),
-            stops.tells.told,
-          ) refl
-
-      by : (p : Progress)
-          → visited made first.program.order (goes new.unit stops.tells.rows stops.tells.text) stops.visit ≡ p
-          → Now made dialect told.place told.after b stops.more (units_as made dialect 0 told.done) p
-          → stop_in p ≡ Some f → Copied (Err f)
-      by (goes offset rows text) at is reason = absurd (none_is_some reason)
-      by (stopped text g) at is reason =
-          let adds = stop_adds made first.program.order new.unit stops.tells.rows stops.tells.text text stops.visit g at in
-          let same : g ≡ f = value_same g f reason in
-          by_stop (told.copied, rw (← adds, is.0) at out_before) f (rw same at (is.1 begun.in_unit))
+    stopped_there reason =
+        by (told_to first heard) (sym (told_more stops.tells stops.visit)) told.now reason where
+          by : (p : Progress)
+              → visited made first.program.order (goes new.unit stops.tells.rows stops.tells.text) stops.visit ≡ p
+              → Now made dialect told.place told.after b stops.more (units_as made dialect 0 told.done) p
+              → stop_in p ≡ Some f → Copied (Err f)
+          by (goes offset rows text) at is reason = absurd (none_is_some reason)
+          by (stopped text g) at is reason =
+              let adds = stop_adds made first.program.order new.unit stops.tells.rows stops.tells.text text stops.visit g at in
+              let same : g ≡ f = value_same g f reason in
+              by_stop (told.copied, rw (← adds, is.0) at out_before) f (rw same at (is.1 begun.in_unit))
 
   settled : (units : List (List ℕ)) (b back : List ℕ) (f : RunFault)
       → EndsAs dialect limit bytes left units b back (Err f)

@@ -3,7 +3,7 @@ use Rattle.dl_run.proofs.Names.{◌++◌, ◌∙◌, ◌∷◌, ◌≡◌, [], a
 use Rattle.dl_run.proofs.Names.{Dumps, EndsAs, Err, Finds, header_of, HeaderData, IsFound, IsGreatest, IsLeast}
 use Rattle.dl_run.proofs.Names.{IsOfBytes, length, List, None, NoneAnswers, Ok, OneChecking, OneDump, OneDumping}
 use Rattle.dl_run.proofs.Names.{OneFinding, OneFound, OnePassingOver, Option, other_versions, PassedOver, PassesOver}
-use Rattle.dl_run.proofs.Names.{Place, refl, Result, Row, row, RunFault, section_text, Some, Strings, Summary}
+use Rattle.dl_run.proofs.Names.{Place, refl, Result, Row, RunFault, section_text, Some, Strings, Summary}
 use Rattle.dl_run.proofs.Names.{summary_of, sym, take, told, unit_rows, Write, ℕ}
 use Rattle.dl_run.proofs.Names.fault
 use Rattle.dl_run.proofs.DumpingLemmas.{dumps}

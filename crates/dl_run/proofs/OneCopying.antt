@@ -221,7 +221,7 @@ module _ (made : Made) (dialect : Dialect) (limit : ℕ) (bytes : List ℕ) (lef
       let text = ap (units_as made dialect 0) fewer.1 ∙ units_as-append made dialect 0 units fewer.0 in (
         units_as made dialect 0 c2.0,
         rw text (TellsOut-more start now (units_as made dialect 0 units)
-        (units_as made dialect (0 + length (concat units)) fewer.0) (fault.Write out) tells),
+            (units_as made dialect (0 + length (concat units)) fewer.0) (fault.Write out) tells),
         c2.2,
       )
 

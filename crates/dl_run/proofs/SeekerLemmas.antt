@@ -2,8 +2,8 @@
 use Rattle.dl_run.proofs.Names.{◌++◌, ◌∙◌, ◌∷◌, ◌≡◌, [], answer, answer_under, Appends, Appends-nil, Err, false}
 use Rattle.dl_run.proofs.Names.{find_story, finds, Flow, Flushes, fold-append, found_text, HasFound, HasPrinted}
 use Rattle.dl_run.proofs.Names.{HasPrinted-nothing, HasPrinted-out, HeaderData, List, None, of_end, Ok, Option}
-use Rattle.dl_run.proofs.Names.{Printed, refl, Row, row, search_of, Seeker, Seeks, seeks, seen, Some, StopsIn}
-use Rattle.dl_run.proofs.Names.{strings_of, TellsOut, true, Visit, visits, Write, WriteFault, ℕ, ⊤}
+use Rattle.dl_run.proofs.Names.{Printed, refl, Row, search_of, Seeker, Seeks, seeks, seen, Some, StopsIn}
+use Rattle.dl_run.proofs.Names.{strings_of, TellsOut, true, Visit, Write, WriteFault, ℕ, ⊤}
 use Rattle.dl_run.proofs.Names.fault
 use Rattle.dl_run.proofs.Names.flow
 use Rattle.dl_look.specs.FinderRows.{StandsFor}

@@ -2,7 +2,7 @@
 use Rattle.dl_run.proofs.Names.{ends, ◌++◌, ◌+◌, ◌-◌, ◌^◌, ◌∙◌, ◌∷◌, ◌≡◌, [], ap, append-nil, append_assoc, arith, cond}
 use Rattle.dl_run.proofs.Names.{Counted, Err, Event, Fault, Fed, HeardRows, Hears, length-append, List, map}
 use Rattle.dl_run.proofs.Names.{map-append, min, None, none_some, NoRow, of_row, Ok, Option, Reader, refl, Result}
-use Rattle.dl_run.proofs.Names.{Row, row, row_told, RowsFed, RowsOf, RunFault, same_Some, SectionUnits, SinkAfter}
+use Rattle.dl_run.proofs.Names.{Row, row_told, RowsFed, RowsOf, RunFault, same_Some, SectionUnits, SinkAfter}
 use Rattle.dl_run.proofs.Names.{SinkAt, Some, StopsAtRow, Story, sum_by-append, sym, told, Told, told_story, visits}
 use Rattle.dl_run.proofs.Names.{ℕ, ⊤}
 use Rattle.dl_run.proofs.Names.event

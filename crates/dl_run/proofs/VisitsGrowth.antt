@@ -8,7 +8,7 @@ use Rattle.dl_run.proofs.Names.{List, map, map-append, matrix, nil_from_length, 
 use Rattle.dl_run.proofs.Names.{None, nothing_yet, Ok, OpcodeOverrun, Operation, operation_spelt, operations_in}
 use Rattle.dl_run.proofs.Names.{Option, Order, Params, refl, Refused, refused_in_header, refused_in_program}
 use Rattle.dl_run.proofs.Names.{RefusesOperation, Row, row, rows_in, Some, spelt_is_spelled, Standing}
-use Rattle.dl_run.proofs.Names.{standing-append, standing_after, sym, told, true, unit_len_on, Visit, visits}
+use Rattle.dl_run.proofs.Names.{standing-append, standing_after, sym, true, unit_len_on, Visit, visits}
 use Rattle.dl_run.proofs.Names.{WithinUnit, ℕ}
 use Rattle.dl_run.proofs.Names.event
 use Rattle.dl_rows.specs.Matrix.{rows_after}

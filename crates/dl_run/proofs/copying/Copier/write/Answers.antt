@@ -1,6 +1,5 @@
-use Rattle.dl_print.specs.Output.{TellsOut}
-use Rattle.dl_run.proofs.Names.{◌++◌, ◌∙◌, ap, append_assoc, err_from_is_err_and, HasPrinted, header_bytes, List}
-use Rattle.dl_run.proofs.Names.{program_len, ProgramData, refl, subst, unit_of, ℕ}
+use Rattle.dl_run.proofs.Names.{◌++◌, append_assoc, err_from_is_err_and, header_bytes}
+use Rattle.dl_run.proofs.Names.{program_len, refl, unit_of}
 use Rattle.dl_run.proofs.CopierLemmas.{front_stops, unit_text}
 use Rattle.dl_run.proofs.copying.Copier.write.Goals as goal
 
