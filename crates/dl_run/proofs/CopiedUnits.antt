@@ -100,7 +100,8 @@ module _ (h : Params) (some : 1 ≤ h.maximum_operations_per_instruction)
       → AllByRecursion IsRow (rows_after h front os)
   rows_are front [] small more = tt
   rows_are front (o ∷ os) small more =
-      let since = λ (p : Operation → Bool). all_push Small (after_last p front) o (all_drop Small _ front small) more.0 in
+      let since = λ (p : Operation → Bool).
+      all_push Small (after_last p front) o (all_drop Small _ front small) more.0 in
       let tail = rows_are (front ++ o ∷ []) os (all_push Small front o small more.0) more.1 in
       elim (appends_row o)
       as (λ b. AllByRecursion IsRow (if b then row h front o ∷ rows_after h (front ++ o ∷ []) os

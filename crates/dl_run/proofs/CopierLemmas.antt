@@ -226,7 +226,8 @@ module _ (start a : Option (List ℕ)) (text more : List ℕ) (p : Printed) (pri
         let all = all_out in
         let len = length-append text more in (
           omega arith,
-          HasOut-pending start a b (text ++ more) p.out more part as_held (record { within = omega arith; written = written }),
+          HasOut-pending start a b (text ++ more) p.out more part as_held
+              (record { within = omega arith; written = written }),
         )
 
     -- all of it was written, and counted

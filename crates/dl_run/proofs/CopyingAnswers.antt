@@ -14,7 +14,8 @@ use Rattle.dl_run.proofs.RangeLemmas.{KeepsRanges, too_long}
 use Rattle.dl_run.proofs.SectionLemmas.{has_front}
 
 -- what stops at a visit adds no copy
-stop_adds : (made : Made) (order : Order) (offset : ℕ) (rows : List Row) (text own : List ℕ) (visit : Visit) (f : RunFault)
+stop_adds : (made : Made) (order : Order) (offset : ℕ) (rows : List Row) (text own : List ℕ) (visit : Visit)
+    (f : RunFault)
     → visited made order (goes offset rows text) visit ≡ stopped own f → own ≡ text
 stop_adds made order offset rows text own (of_version n version) f e = cc
 stop_adds made order offset rows text own (of_end (Some h)) f e =
@@ -146,7 +147,8 @@ module _ (dialect : Dialect) (limit : ℕ) (bytes : List ℕ) (left : Option (Li
               → stop_in p ≡ Some f → Copied (Err f)
           by (goes offset rows text) at is reason = absurd (none_is_some reason)
           by (stopped text g) at is reason =
-              let adds = stop_adds made first.program.order new.unit stops.tells.rows stops.tells.text text stops.visit g at in
+              let adds = stop_adds made first.program.order new.unit stops.tells.rows stops.tells.text text stops.visit
+              g at in
               let same : g ≡ f = value_same g f reason in
               by_stop (told.copied, rw (← adds, is.0) at out_before) f (rw same at (is.1 begun.in_unit))
 

@@ -34,8 +34,9 @@ pub record CurrentUnit (dialect : Dialect) (after : List (List ℕ)) (b : List �
   pub not_foreign : foreign_in dialect c ≡ None
   pub grows : (unit_rows dialect c ≢ []) ⊎ IsUnit dialect c
 
--- What visits came to, of which the units that are done give the text. They go on: where all is told no unit is left, and
--- b isn't of another version; where memory grows next there is a current unit. Or they stopped at what is after those units.
+-- What visits came to, of which the units that are done give the text. They go on: where all is told no unit is left,
+-- and b isn't of another version; where memory grows next there is a current unit. Or they stopped at what is after
+-- those units.
 abbrev pub Now : Made → Dialect → (place : ℕ) (after : List (List ℕ)) (b : List ℕ) (more : List Visit) (text : List ℕ)
     → Progress → Type 0
 Now made dialect place after b more text (goes offset rows own) =
@@ -118,7 +119,8 @@ module _ (made : Made) (dialect : Dialect) where
       → Now made dialect n after b (x ++ rest) text (comes_to made dialect.order (goes m [] text) heard)
   in_front n m text after b c tail heard x rest (at_version v is) whole within sound last grows =
       rw is (refl, λ in_unit. (c, tail, v.0, whole, refl, within in_unit, v.1))
-  in_front n m text after b c tail heard x rest (before_version version others none x_is) whole within sound last grows =
+  in_front n m text after b c tail heard x rest (before_version version others none x_is) whole within sound last
+      grows =
       rw none (
         refl,
         λ nothing. absurd (omega (arith, ap length nothing, ap length x_is, length-append x rest)),
@@ -157,7 +159,8 @@ module _ (made : Made) (dialect : Dialect) where
       by (fronts_of own_part end_is rest heard more
       (sym (regroup (visits dialect n u) (open_visit is_open) end_is (units_visits dialect (n + length u) units)
       (visits dialect k b)) ∙ e))
-      (λ t x y. heard_of (n + length u) n k t units b x y all.1 (omega (arith, at, length-append u (concat units)))) where
+      (λ t x y. heard_of (n + length u) n k t units b x y all.1
+      (omega (arith, at, length-append u (concat units)))) where
         is_open : Bool
         is_open = ends_open (unit_rows dialect u)
 

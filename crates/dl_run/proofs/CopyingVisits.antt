@@ -37,7 +37,8 @@ module _ (made : Made) (order : Order) where
   after_some offset before text (r ∷ rows) is_open (w ∷ heard) x e =
       from_row w (cc) (after_some offset (before ++ r ∷ []) text rows is_open heard x (cc)) where
         from_row : (w : Visit) → w ≡ of_row r
-            → (now : List Row) × (comes_to made order (goes offset (before ++ r ∷ []) text) heard ≡ goes offset now text)
+            → (now : List Row)
+            × (comes_to made order (goes offset (before ++ r ∷ []) text) heard ≡ goes offset now text)
             → (now : List Row) × (comes_to made order (goes offset before text) (w ∷ heard) ≡ goes offset now text)
         from_row w first later = (later.0, rw first later.1)
 
@@ -126,7 +127,8 @@ module _ (made : Made) (dialect : Dialect) (n : ℕ) (c : List ℕ) (is_open : B
         goes_on m later.0 later.1 none.0
 
   -- to its end
-  pub own_front : Own dialect n c → comes_to made dialect.order (goes m [] text) (visits dialect n c ++ open_visit is_open)
+  pub own_front : Own dialect n c
+      → comes_to made dialect.order (goes m [] text) (visits dialect n c ++ open_visit is_open)
       ≡ goes n (unit_rows dialect c) text
   own_front own =
       rw (own_visits dialect n c own) (after_rows made dialect.order n [] text (unit_rows dialect c) is_open)
@@ -135,4 +137,5 @@ module _ (made : Made) (dialect : Dialect) (n : ℕ) (c : List ℕ) (is_open : B
       → comes_to made dialect.order (goes m [] text) ((visits dialect n c ++ open_visit is_open) ++ more)
       ≡ stopped text (fault.ForeignUnit n)
   foreign_front v more =
-      rw (foreign_visits dialect n c v) (stays_stopped made dialect.order text (fault.ForeignUnit n) (open_visit is_open ++ more))
+      rw (foreign_visits dialect n c v)
+      (stays_stopped made dialect.order text (fault.ForeignUnit n) (open_visit is_open ++ more))

@@ -91,7 +91,8 @@ module _ (dialect : Dialect) (u : SectionUnits) (t piece : List ℕ) (units : Li
         stands = f.stands;
         offset = are.offset;
         foreign = foreign_more v e _ (ap (λ (z : SectionUnits). z.is_foreign) same ∙ are.foreign) ∙ sym foreign_are;
-        sequences = counts.of_ends (omega (arith, are.sequences, size, all_ends, few)) ∙ rw are.sequences (sym all_ends);
+        sequences = counts.of_ends (omega (arith, are.sequences, size, all_ends, few))
+            ∙ rw are.sequences (sym all_ends);
         rows = counts.of_rows (omega (arith, are.rows, size, lengths)) ∙ rw are.rows (sym lengths);
         summary = are.summary;
       })

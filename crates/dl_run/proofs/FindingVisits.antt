@@ -38,7 +38,8 @@ module _ (dialect : Dialect) (x : Place) where
   after_rows : (before rows : List Row) (more : List Visit)
       → fold (seen x) (seeks before) (map of_row rows ++ more) ≡ fold (seen x) (seeks (before ++ rows)) more
   after_rows before [] more = rw append-nil refl
-  after_rows before (r ∷ rows) more = rw (append_assoc before (r ∷ []) rows) at (after_rows (before ++ r ∷ []) rows more)
+  after_rows before (r ∷ rows) more =
+      rw (append_assoc before (r ∷ []) rows) at (after_rows (before ++ r ∷ []) rows more)
 
   after_visits : (n : ℕ) (c : List ℕ) (more : List Visit)
       → fold (seen x) (seeks []) (visits dialect n c ++ more) ≡ fold (seen x) (seeks (unit_rows dialect c)) more
@@ -66,7 +67,8 @@ module _ (dialect : Dialect) (x : Place) where
       → Sought dialect x units rows (fold (seen x) (seeks []) (units_visits dialect n units ++ more))
   in_units n [] more rows e = none tt e
   in_units n (u ∷ units) more rows e =
-      by (header_in dialect u) refl (answer (unit_rows dialect u) x) refl (in_units (n + length u) units more rows e) where
+      by (header_in dialect u) refl (answer (unit_rows dialect u) x) refl
+      (in_units (n + length u) units more rows e) where
         rest : List Visit
         rest = units_visits dialect (n + length u) units ++ more
 
@@ -77,7 +79,8 @@ module _ (dialect : Dialect) (x : Place) where
         after_unit =
             let is_open = ends_open (unit_rows dialect u) in
             let end_is = of_end (header_of dialect u) ∷ rest in
-            simp append_assoc (after_visits n u (open_visit is_open ++ end_is) ∙ after_open (unit_rows dialect u) is_open end_is)
+            simp append_assoc (after_visits n u (open_visit is_open ++ end_is)
+            ∙ after_open (unit_rows dialect u) is_open end_is)
 
         silent : answer (unit_rows dialect u) x ≡ None → unit_seen u ≡ seeks []
             → Sought dialect x units rows (fold (seen x) (seeks []) rest)

@@ -39,7 +39,10 @@ module _ (dialect : Dialect) where
   none_of_units : (n : ℕ) (units : List (List ℕ)) → header_told None (units_visits dialect n units) ≡ None
   none_of_units n [] = refl
   none_of_units n (u ∷ units) =
-      rw (header_told-append None (unit_visits dialect n u) (units_visits dialect (n + length u) units), none_at_end n u)
+      rw (
+        header_told-append None (unit_visits dialect n u) (units_visits dialect (n + length u) units),
+        none_at_end n u,
+      )
       (none_of_units (n + length u) units)
 
   by_kind : (n : ℕ) (b : List ℕ) → Foreign dialect n b ⊎ (Own dialect n b ⊎ Neither dialect n b)

@@ -36,18 +36,17 @@ pub use Rattle.dl_field.proofs.FieldLaws.{field_is_judged}
 pub use Rattle.dl_field.proofs.FieldLemmas.{none_some}
 pub use Rattle.dl_field.specs.Field.{IsInitialLength}
 pub use Rattle.dl_field.specs.HeaderData.{HeaderData}
-pub use Rattle.dl_field.specs.Layout.{following_all, foreign_version, Item, length_is}
+pub use Rattle.dl_field.specs.Layout.{Item, length_is}
 pub use Rattle.dl_field.specs.declared.params.Params.{Params}
-pub use Rattle.dl_head.proofs.CutLemmas.{cut-append, cut_sound}
+pub use Rattle.dl_head.proofs.CutLemmas.{cut_sound}
 pub use Rattle.dl_head.proofs.ForeignLemmas.{foreign_on}
 pub use Rattle.dl_head.proofs.FrontLemmas.{fronts}
 pub use Rattle.dl_head.proofs.HeaderLaws.{found_is_header, header_is_found, header_is_not_foreign}
 pub use Rattle.dl_head.proofs.HeaderSound.{standard_fault, usable}
 pub use Rattle.dl_head.proofs.QuietLemmas.{foreign_is_not_refused, header_is_not_refused}
 pub use Rattle.dl_head.proofs.ReadSound.{header_is_sound}
-pub use Rattle.dl_head.proofs.RefusalLaws.{foreign_last}
 pub use Rattle.dl_head.specs.Built.{with_standard_opcodes}
-pub use Rattle.dl_head.specs.Header.{Cut, cut, cut_after, foreign_in, foreign_made, header_in, IsHeader, SpellsFields}
+pub use Rattle.dl_head.specs.Header.{cut, foreign_in, header_in, IsHeader, SpellsFields}
 pub use Rattle.dl_head.specs.Header.{unit_end, unit_len}
 pub use Rattle.dl_head.specs.HeaderLayout.{header_layout, initial_size}
 pub use Rattle.dl_head.specs.Refusal.{HeaderRefused}
@@ -102,7 +101,7 @@ pub use Rattle.dl_look.specs.Answer.{answer}
 pub use Rattle.dl_look.specs.declared.place.Place.{Place}
 pub use Rattle.dl_print.proofs.Outs.{HasOut-pending, HasPrinted-flushed, HasPrinted-more, HasPrinted-nothing}
 pub use Rattle.dl_print.proofs.Outs.{HasPrinted-out, keeps_by_nothing, TellsOut-front, TellsOut-more}
-pub use Rattle.dl_print.specs.Output.{Flushes, HasOut, HasPrinted, Prints}
+pub use Rattle.dl_print.specs.Output.{Flushes, HasPrinted, Prints}
 pub use Rattle.dl_print.specs.Printed.{Printed}
 pub use Rattle.dl_print.specs.Text.{row_line, summary_line}
 pub use Rattle.dl_print.specs.ValueText.{Strings, strings_of}
@@ -147,7 +146,6 @@ pub use Rattle.dl_run.specs.declared.section.Told.{Told}
 pub use Rattle.dl_emit.specs.declared.fault.EmitFault.TheVariants as emit
 pub use Rattle.dl_rows.specs.declared.reader.Event.TheVariants as event
 pub use Rattle.dl_run.specs.declared.fault.RunFault.TheVariants as fault
-pub use Rattle.dl_rows.specs.declared.reader.Finish.TheVariants as finish
 pub use Rattle.dl_rows.specs.declared.sink.Flow.TheVariants as flow
 pub use Rattle.dl_rows.specs.declared.operation.Operation.TheVariants as op
 pub use Rattle.dl_print.proofs.Outs as outs

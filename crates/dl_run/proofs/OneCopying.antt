@@ -41,8 +41,8 @@ module _ (made : Made) (dialect : Dialect) (limit : ℕ) (bytes : List ℕ) wher
   abbrev s : List ℕ
   s = take limit bytes
 
-  -- after the units the section ends, and not in another version; or that version is begun; or there is a unit whose copy
-  -- would be too long
+  -- after the units the section ends, and not in another version; or that version is begun; or there is a unit whose
+  -- copy would be too long
   abbrev AtEnd : List (List ℕ) → Result Summary RunFault → Type 0
   AtEnd units result =
       (left : Option (List ℕ)) × (b : List ℕ) × (back : List ℕ) × IsOfBytes result
@@ -74,8 +74,8 @@ module _ (made : Made) (dialect : Dialect) (limit : ℕ) (bytes : List ℕ) wher
       (units, out.0, out.1, at_end (left, [], [], of, ends, refl))
   copied_of left start now (Err (fault.ForeignUnit offset)) of (units, b, back, v, has, place, foreign, out) =
       (units, out.0, out.1, at_version (b, back, v, has, foreign) (rw place refl))
-  copied_of left start now (Err (fault.Emit offset f)) of (units, u, back, h, has, place, header, unwritten, long, out) =
-      (units, out.0, out.1, at_unit (u, back, h, f, has, header, rw place at unwritten) (rw (place, long) refl))
+  copied_of left start now (Err (fault.Emit offset f)) of (units, u, back, h, has, place, header, is, long, out) =
+      (units, out.0, out.1, at_unit (u, back, h, f, has, header, rw place at is) (rw (place, long) refl))
   copied_of left start now (Err fault.NoMemory) of copies = absurd of
   copied_of left start now (Err (fault.Write n)) of copies = absurd of
   copied_of left start now (Err f) of c = (c.0, c.5.0, c.5.1, at_end (left, c.1, c.2, of, c.3, c.4))
@@ -186,7 +186,8 @@ module _ (made : Made) (dialect : Dialect) (limit : ℕ) (bytes : List ℕ) wher
       let more = fewer_copies units2 units has2.0 result has2.1 copied2 how in
       let lengths = length-append units fewer.0 in
       let nothing : fewer.0 ≡ [] =
-      nil_from_length fewer.0 (omega (arith, ap length fewer.1, ap length more.1, lengths, length-append units2 more.0)) in
+      nil_from_length fewer.0
+      (omega (arith, ap length fewer.1, ap length more.1, lengths, length-append units2 more.0)) in
       cc (fewer.1, nothing, append-nil units)
 
 -- where what becomes of headers is known

@@ -56,7 +56,8 @@ unit_tells dialect n u =
       by : Foreign dialect n u ⊎ (Own dialect n u ⊎ Neither dialect n u)
           → versions_told (visits dialect n u) ≡ option_to_list (foreign_in dialect u)
       by (inl v) = rw (foreign_visits dialect n u v, v.1) refl
-      by (inr (inl own)) = rw (own_visits dialect n u own, not_foreign dialect n u own) (rows_tell_none (unit_rows dialect u))
+      by (inr (inl own)) =
+          rw (own_visits dialect n u own, not_foreign dialect n u own) (rows_tell_none (unit_rows dialect u))
       by (inr (inr neither)) = rw (no_visits dialect n u neither, neither.0) refl
 
 units_tell : (dialect : Dialect) (n : ℕ) (units : List (List ℕ))

@@ -84,12 +84,13 @@ within_unit dialect b back none before n e = elim (cases_lt n (length b)) [
 -- so it is where a section ends
 ended_within : {dialect : Dialect} {limit : ℕ} {bytes : List ℕ} {units : List (List ℕ)} {b back : List ℕ}
     {result : Result Summary RunFault} → Ended dialect limit bytes units b back result → WithinUnit dialect b
-ended_within {dialect} {limit} {bytes} {units} {b} {back} {result} s = within_unit dialect b back s.none (by s.how) where
-  by : How dialect limit bytes units b back result → NoneBefore dialect b
-  by (refused at kind r is) front more at2 kind2 e some r2 =
-      let one = one_refusal dialect front b more [] at2 at kind2 kind (cc (append-nil b)) r2 r in
-      omega (arith, some, ap length one.0, ap length e, length-append front more)
-  by (over nothing sound is) front more at kind e some r = sound front more at kind e r
+ended_within {dialect} {limit} {bytes} {units} {b} {back} {result} s =
+    within_unit dialect b back s.none (by s.how) where
+      by : How dialect limit bytes units b back result → NoneBefore dialect b
+      by (refused at kind r is) front more at2 kind2 e some r2 =
+          let one = one_refusal dialect front b more [] at2 at kind2 kind (cc (append-nil b)) r2 r in
+          omega (arith, some, ap length one.0, ap length e, length-append front more)
+      by (over nothing sound is) front more at kind e some r = sound front more at kind e r
 
 -- ---- what is told
 
@@ -121,40 +122,41 @@ begun_grows : {dialect : Dialect} {limit : ℕ} {bytes : List ℕ} {units units2
     {result : Result Summary RunFault} → HasBegun dialect (take limit bytes) units b back
     → Ended dialect limit bytes units2 b2 back2 result
     → (others : List Visit) × (section_visits dialect units2 b2 ≡ section_visits dialect units b ++ others)
-begun_grows {dialect} {limit} {bytes} {units} {units2} {b} {b2} {back} {back2} {result} s s2 = by (meet s.has s2.has) where
-  Grows : Type 0
-  Grows = (others : List Visit) × (section_visits dialect units2 b2 ≡ section_visits dialect units b ++ others)
+begun_grows {dialect} {limit} {bytes} {units} {units2} {b} {b2} {back} {back2} {result} s s2 =
+    by (meet s.has s2.has) where
+      Grows : Type 0
+      Grows = (others : List Visit) × (section_visits dialect units2 b2 ≡ section_visits dialect units b ++ others)
 
-  longer_by : (x : ℕ) (v : List ℕ) → b ≡ b2 ++ x ∷ v → units ≡ units2 → b ++ back ≡ b2 ++ back2
-      → How dialect limit bytes units2 b2 back2 result → Grows
-  longer_by x v goes us e (refused at kind r is) = (
-    [],
-    rw (us, goes, same_visits dialect b2 (x ∷ v) at kind r (rw goes at s.in_unit) (length (concat units2)))
-        (simp append-nil),
-  )
-  longer_by x v goes us e (over nothing sound is) =
-      absurd (omega (
-        arith,
-        ap length e,
-        ap length nothing,
-        ap length goes,
-        length-append b back,
-        length-append b2 back2,
-        length-append b2 (x ∷ v),
-      ))
+      longer_by : (x : ℕ) (v : List ℕ) → b ≡ b2 ++ x ∷ v → units ≡ units2 → b ++ back ≡ b2 ++ back2
+          → How dialect limit bytes units2 b2 back2 result → Grows
+      longer_by x v goes us e (refused at kind r is) = (
+        [],
+        rw (us, goes, same_visits dialect b2 (x ∷ v) at kind r (rw goes at s.in_unit) (length (concat units2)))
+            (simp append-nil),
+      )
+      longer_by x v goes us e (over nothing sound is) =
+          absurd (omega (
+            arith,
+            ap length e,
+            ap length nothing,
+            ap length goes,
+            length-append b back,
+            length-append b2 back2,
+            length-append b2 (x ∷ v),
+          ))
 
-  by : Meet dialect units units2 (b ++ back) (b2 ++ back2) → Grows
-  by (same us e) = elim (fronts b b2 back back2 e) [
-    | inl is ↦ ([], rw (us, is) (simp append-nil))
-    | inr (inl g) ↦
-        let more = more_visits dialect (length (concat units2)) b (g.0 ∷ g.1) in
-        (more.0, rw (us, g.2, more.1) (simp append_assoc))
-    | inr (inr g) ↦ longer_by g.0 g.1 g.2 us e s2.how
-  ]
-  by (shorter v vs us e unit) =
-      let x = begun_unit dialect b back v (concat vs ++ (b2 ++ back2)) s.in_unit unit e in
-      rw (us, x.1) (told_on dialect units vs b x.0 b2)
-  by (longer v vs us e unit) = absurd (s2.none v (concat vs ++ (b ++ back)) e unit)
+      by : Meet dialect units units2 (b ++ back) (b2 ++ back2) → Grows
+      by (same us e) = elim (fronts b b2 back back2 e) [
+        | inl is ↦ ([], rw (us, is) (simp append-nil))
+        | inr (inl g) ↦
+            let more = more_visits dialect (length (concat units2)) b (g.0 ∷ g.1) in
+            (more.0, rw (us, g.2, more.1) (simp append_assoc))
+        | inr (inr g) ↦ longer_by g.0 g.1 g.2 us e s2.how
+      ]
+      by (shorter v vs us e unit) =
+          let x = begun_unit dialect b back v (concat vs ++ (b2 ++ back2)) s.in_unit unit e in
+          rw (us, x.1) (told_on dialect units vs b x.0 b2)
+      by (longer v vs us e unit) = absurd (s2.none v (concat vs ++ (b ++ back)) e unit)
 
 take_more : (limit : ℕ) (bytes more : List ℕ) → (m : List ℕ) × (take limit (bytes ++ more) ≡ take limit bytes ++ m)
 take_more limit bytes more = elim (cases_lt limit (length bytes)) [
@@ -189,7 +191,8 @@ dump_is_front dialect strings limit bytes left left2 start start2 now now2 out r
     let d2 = dumped dialect strings limit bytes left2 start2 now2 result2 of2 dumps2 in
     let more = begun_grows begun (ended dialect limit bytes left2 d2.0 d2.1 d2.2 result2 (of_bytes of2) d2.3) in
     let text : section_text dialect strings d2.0 d2.1 ≡ section_text dialect strings units b
-    ++ visits_text strings more.0 = rw more.1 (flat_map-append (visit_text strings) (section_visits dialect units b) more.0) in (
+    ++ visits_text strings more.0 =
+    rw more.1 (flat_map-append (visit_text strings) (section_visits dialect units b) more.0) in (
       section_text dialect strings d2.0 d2.1,
       rw text (TellsOut-more start now (section_text dialect strings units b) (visits_text strings more.0)
           (fault.Write out) tells),

@@ -49,7 +49,8 @@ pub units_visits-append : (dialect : Dialect) (offset : ℕ) (units others : Lis
     → units_visits dialect offset (units ++ others) ≡ units_visits dialect offset units ++ units_visits dialect k others
 units_visits-append dialect offset [] others k at = rw (at, add-zero) refl
 units_visits-append dialect offset (u ∷ units) others k at =
-    rw (units_visits-append dialect (offset + length u) units others k (omega (arith, at, length-append u (concat units))))
+    rw (units_visits-append dialect (offset + length u) units others k
+    (omega (arith, at, length-append u (concat units))))
     (simp append_assoc)
 
 pub section_visits-push : (dialect : Dialect) (units : List (List ℕ)) (b : List ℕ)

@@ -26,8 +26,8 @@ offset_after offset (visit ∷ visits) = offset_after offset visits
 
 -- ---- what visits come to
 
--- text: the copies of the units that are whole; the current unit has its header at the offset, and these rows. Or text is
--- that of the units before the first that can't be written, and why it can't
+-- text: the copies of the units that are whole; the current unit has its header at the offset, and these rows. Or text
+-- is that of the units before the first that can't be written, and why it can't
 pub data Progress : Type 0 where
   goes : (offset : ℕ) (rows : List Row) (text : List ℕ) → Progress
   stopped : (text : List ℕ) (f : RunFault) → Progress

@@ -9,7 +9,8 @@ returns g c =
     let options = c.args.options.now in
     let copier = c.new-copier in
     let read = c.read_units.ensures in
-    let ran = read.2 (begins copier.result _ copier.ensures.nothing_pending copier.ensures.nothing_out) (Appends-nil _) in
+    let ran = read.2 (begins copier.result _ copier.ensures.nothing_pending copier.ensures.nothing_out)
+    (Appends-nil _) in
     let keeps : KeepsRanges options.dialect (made_by copier.result.becomes) =
     rw copier.ensures.becomes (to_5_keeps options.dialect (directory_by c.args.directories)) in (
       read.0,

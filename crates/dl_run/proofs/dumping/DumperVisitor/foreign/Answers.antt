@@ -10,5 +10,6 @@ returns-in_err-foreign_unit g c first start visits dumped =
 
 pub returns : goal.returns
 returns g c first start visits dumped =
-    prints_visit dumped c.foreign_unit.new.self (g.W.Write.contents c.foreign_unit.new.output) (of_version c.args.offset c.args.version)
+    prints_visit dumped c.foreign_unit.new.self (g.W.Write.contents c.foreign_unit.new.output)
+    (of_version c.args.offset c.args.version)
     c.in_ok-foreign_unit.ensures.printed

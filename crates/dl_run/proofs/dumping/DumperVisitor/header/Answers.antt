@@ -10,5 +10,6 @@ returns-in_err-header g c first start visits dumped =
 
 pub returns : goal.returns
 returns g c first start visits dumped =
-    prints_visit dumped c.header.new.self (g.W.Write.contents c.header.new.output) (of_header c.args.offset c.args.header.now)
+    prints_visit dumped c.header.new.self (g.W.Write.contents c.header.new.output)
+    (of_header c.args.offset c.args.header.now)
     c.in_ok-header.ensures.printed
