@@ -1,38 +1,21 @@
--- What is written for units that were read is units of the same rows.
-use Rattle.dl_head.specs.declared.dialect.Dialect.{Dialect}
-use Rattle.std.proofs.Common.{◌≡◌, inr, ℕ, zero, suc, ◌^◌, ◌<◌, ◌≤◌, ℤ, pos, negsuc, Bool, true, false, List, [], ◌∷◌}
-use Rattle.std.proofs.Common.{◌++◌, drop, map, Option, Some, None, refl, sym, ap, subst, ◌∙◌, arith, append-nil}
-use Rattle.std.specs.Prelude.{option_map, unwrap_or, if◌then◌else◌}
-use Rattle.std.specs.List.{AllByRecursion, after_last, concat}
-use Rattle.std.specs.Option.{option_or, option_map_or}
-use Rattle.std.proofs.Math.Nat.{mod-lt}
-use Rattle.dl_num.specs.declared.fixed.Order.{Order}
-use Rattle.dl_num.specs.Laws.{AllBytes}
-use Rattle.dl_head.specs.Built.{with_standard_opcodes}
-use Rattle.dl_field.specs.HeaderData.{HeaderData}
-use Rattle.dl_head.specs.Header.{header_in}
-use Rattle.dl_field.specs.declared.params.Params.{Params}
-use Rattle.dl_head.specs.Sound.{IsSoundHeader}
-use Rattle.dl_head.proofs.HeaderLaws.{found_is_header}
-use Rattle.dl_head.proofs.HeaderSound.{standard_fault, usable}
-use Rattle.dl_head.proofs.ReadSound.{header_is_sound}
-use Rattle.dl_table.proofs.SoundLemmas.{all_push}
-use Rattle.dl_rows.specs.declared.operation.Operation.{Operation}
-use Rattle.dl_rows.specs.declared.operation.Operation.TheVariants as op
-use Rattle.dl_rows.specs.LineUnit.{IsUnit, rows_later, unit_rows}
-use Rattle.dl_rows.specs.Matrix.{is_end, appends_row, last_set, last_part, parts, moves, line, modulo, row, row_from}
-use Rattle.dl_rows.specs.Matrix.{rows_after, sequence, fresh, set_file, set_column, set_isa, set_discriminator}
-use Rattle.dl_rows.specs.OperationSpelt.{operations_in}
-use Rattle.dl_rows.specs.Spelling.{SpellsOperation, SpellsProgram}
-use Rattle.dl_rows.proofs.OperandRanges.{bytes_front, bytes_back}
-use Rattle.dl_rows.proofs.ProgramLaws.{found_is_program}
-use Rattle.dl_emit.specs.Laws.{IsRow}
-use Rattle.dl_emit.specs.WrittenUnit.{unit_of}
-use Rattle.dl_emit.proofs.ReadAgain.{unit_is_read_again}
-use Rattle.dl_run.specs.Commands.{copied_unit, copied_units, IsCopied, AreCopied}
-use Rattle.dl_run.specs.CopyLaws.{IsAnew, CopiesAreUnits}
-use Rattle.dl_run.specs.Section.{header_of}
-use Rattle.dl_run.proofs.Fronts.{none_is_some, value_same}
+-- What is written for units that were read is units of the same rows, of version 5 where they become such.
+use Rattle.dl_run.proofs.Names.{if◌then◌else◌, ◌++◌, ◌+◌, ◌<◌, ◌^◌, ◌∙◌, ◌∷◌, ◌≡◌, ◌≤◌, [], after_last, all_push}
+use Rattle.dl_run.proofs.Names.{AllByRecursion, AllBytes, ap, append-nil, appends_row, AreCopied, AreMade, AreNewer}
+use Rattle.dl_run.proofs.Names.{arith, Bool, bytes_back, bytes_front, concat, copied_unit, copied_units}
+use Rattle.dl_run.proofs.Names.{CopiesAreNewer, CopiesAreUnits, Dialect, drop, EmitFault, false, found_is_header}
+use Rattle.dl_run.proofs.Names.{found_is_program, fresh, header_is_sound, header_of, HeaderData, inr, is_end}
+use Rattle.dl_run.proofs.Names.{is_within_limit, IsAnew, IsCopied, IsMade, IsNewer, IsRow, IsSoundHeader, IsUnit}
+use Rattle.dl_run.proofs.Names.{last_part, last_set, length, line, List, map, mod-lt, modulo, moves, negsuc, None}
+use Rattle.dl_run.proofs.Names.{Operation, operations_in, Option, option_or, Order, Params, params_are}
+use Rattle.dl_run.proofs.Names.{parts, pos, program_len, refl, refusal, Row, row, row_from, rows_later, rows_refusal}
+use Rattle.dl_run.proofs.Names.{sequence, set_column, set_discriminator, set_file, set_isa, Some, SpellsOperation}
+use Rattle.dl_run.proofs.Names.{SpellsProgram, standard_fault, subst, suc, sym, tables_near, to_5, to_version_5}
+use Rattle.dl_run.proofs.Names.{TooLong, true, unit_as, unit_is_read_again, unit_rows, units_as, unless, unwrap_or}
+use Rattle.dl_run.proofs.Names.{usable, version_5_sound, with_standard_opcodes, zero, ℕ, ℤ}
+use Rattle.dl_run.proofs.Names.op
+use Rattle.dl_rows.specs.Matrix.{rows_after}
+use Rattle.dl_run.proofs.EventLemmas.{header_parts}
+use Rattle.dl_run.proofs.Fronts.{neither, none_is_some, value_same}
 
 -- ---- the operands of operations that were read
 
@@ -49,19 +32,7 @@ small_of order h (op.SetFile n) w s = s.fits
 small_of order h (op.SetColumn n) w s = s.fits
 small_of order h (op.SetIsa n) w s = s.fits
 small_of order h (op.SetDiscriminator n) w s = s.fits
-small_of order h (op.Special b) w s = tt
-small_of order h (op.AdvanceLine i) w s = tt
-small_of order h (op.SetAddress n) w s = tt
-small_of order h op.Copy w s = tt
-small_of order h (op.AdvancePc n) w s = tt
-small_of order h op.NegateStatement w s = tt
-small_of order h op.SetBasicBlock w s = tt
-small_of order h op.ConstAddPc w s = tt
-small_of order h (op.FixedAdvancePc n) w s = tt
-small_of order h op.SetPrologueEnd w s = tt
-small_of order h op.SetEpilogueBegin w s = tt
-small_of order h op.EndSequence w s = tt
-small_of order h op.Skipped w s = tt
+small_of order h o w s = tt
 
 all_small : (order : Order) (h : Params) (os : List Operation) (w : List ℕ) → SpellsProgram order h os w
     → AllByRecursion Small os
@@ -91,19 +62,15 @@ discriminator_small (op.SetDiscriminator m) n small e = subst (λ (k : ℕ). k <
 discriminator_small o n small e = absurd (none_is_some e)
 
 module _ (sets : Operation → Option ℕ) (each : SetsSmall sets) where
-  last_small : (os : List Operation) (n : ℕ) → AllByRecursion Small os → last_set sets os ≡ Some n → n < 2 ^ 64
-  last_small [] n small e = absurd (none_is_some e)
-  last_small (o ∷ os) n small e = by (last_set sets os) (last_small os n small.1) e where
-    by : (later : Option ℕ) → (later ≡ Some n → n < 2 ^ 64) → option_or later (sets o) ≡ Some n → n < 2 ^ 64
-    by (Some m) is e = is e
-    by None is e = each o n small.0 e
-
   set_small : (os : List Operation) (d : ℕ) → d < 2 ^ 64 → AllByRecursion Small os
       → unwrap_or (last_set sets os) d < 2 ^ 64
-  set_small os d lt small = by (last_set sets os) refl where
-    by : (o : Option ℕ) → last_set sets os ≡ o → unwrap_or o d < 2 ^ 64
-    by (Some n) is = last_small os n small is
-    by None is = lt
+  set_small [] d lt small = lt
+  set_small (o ∷ os) d lt small = by (last_set sets os) (sets o) refl (set_small os d lt small.1) where
+    by : (later own : Option ℕ) → sets o ≡ own → unwrap_or later d < 2 ^ 64
+        → unwrap_or (option_or later own) d < 2 ^ 64
+    by (Some m) own e lt = lt
+    by None (Some n) e lt = each o n small.0 e
+    by None None e lt = lt
 
 all_drop : {A : Type 0} (P : A → Type 0) (n : ℕ) (xs : List A) → AllByRecursion P xs → AllByRecursion P (drop n xs)
 all_drop P zero xs all = all
@@ -133,29 +100,26 @@ module _ (h : Params) (some : 1 ≤ h.maximum_operations_per_instruction)
       → AllByRecursion IsRow (rows_after h front os)
   rows_are front [] small more = tt
   rows_are front (o ∷ os) small more =
-      by (appends_row o) (rows_are (front ++ o ∷ []) os (all_push Small front o small more.0) more.1) where
-        since : (p : Operation → Bool) → AllByRecursion Small (after_last p front ++ o ∷ [])
-        since p = all_push Small (after_last p front) o (all_drop Small _ front small) more.0
-
-        by : (b : Bool) → AllByRecursion IsRow (rows_after h (front ++ o ∷ []) os)
-            → AllByRecursion IsRow (if b then row h front o ∷ rows_after h (front ++ o ∷ []) os
-            else rows_after h (front ++ o ∷ []) os)
-        by true tail =
-            (row_is (sequence front o) (fresh front o) (is_end o) (since is_end) (since appends_row), tail)
-        by false tail = tail
+      let since = λ (p : Operation → Bool).
+      all_push Small (after_last p front) o (all_drop Small _ front small) more.0 in
+      let tail = rows_are (front ++ o ∷ []) os (all_push Small front o small more.0) more.1 in
+      elim (appends_row o)
+      as (λ b. AllByRecursion IsRow (if b then row h front o ∷ rows_after h (front ++ o ∷ []) os
+      else rows_after h (front ++ o ∷ []) os)) [
+        | true ↦ (row_is (sequence front o) (fresh front o) (is_end o) (since is_end) (since appends_row), tail)
+        | false ↦ tail
+      ]
 
 -- ---- one unit
 
 pub standard_sound : (h : HeaderData) → IsSoundHeader h → IsSoundHeader (with_standard_opcodes h)
-standard_sound h sound =
-    record {
-      params = standard_fault h sound.params;
-      maximum_operations = sound.maximum_operations;
-      line_base =
-          sound.line_base;
-      directories = sound.directories;
-      files = sound.files;
-    }
+standard_sound h sound = record {
+  params = standard_fault h sound.params;
+  maximum_operations = sound.maximum_operations;
+  line_base = sound.line_base;
+  directories = sound.directories;
+  files = sound.files;
+}
 
 -- the header of bytes, and the rows after it
 pub record HasHeader (dialect : Dialect) (u : List ℕ) (h : HeaderData) : Type 0 where
@@ -164,72 +128,99 @@ pub record HasHeader (dialect : Dialect) (u : List ℕ) (h : HeaderData) : Type 
 
 pub header_read : (dialect : Dialect) (u : List ℕ) (h : HeaderData) → AllBytes u → header_of dialect u ≡ Some h
     → HasHeader dialect u h
-header_read dialect u h all is = by (header_in dialect u) refl where
-  by : (parts : Option (HeaderData × List ℕ)) → header_in dialect u ≡ parts → HasHeader dialect u h
-  by None e = absurd (none_is_some (sym (ap (λ (p : Option (HeaderData × List ℕ)). option_map (λ q. q.0) p) e) ∙ is))
-  by (Some (own, program)) e =
-      let same : own ≡ h =
-      value_same own h (sym (ap (λ (p : Option (HeaderData × List ℕ)). option_map (λ q. q.0) p) e) ∙ is) in
-      let w = found_is_header dialect own u program e in
-      let sound = header_is_sound dialect own w.0 w.2 (bytes_front w.0 program (subst AllBytes w.1 all)) in
-      let params = usable own.params own.directories own.files sound.params in
-      let found = found_is_program dialect.order own.params program (let opcodes = params.opcodes in omega arith) in
-      let small = all_small dialect.order own.params (operations_in dialect.order own.params program).found
-      found.0 found.2 in
-      record {
-        sound = subst IsSoundHeader same sound;
-        rows = subst (AllByRecursion IsRow) (sym (ap (rows_later dialect.order) e))
-            (rows_are own.params params.operations sound.maximum_operations []
-            (operations_in dialect.order own.params program).found tt small);
-      }
+header_read dialect u h all is =
+    let parts = header_parts dialect u h is in
+    let program = parts.0 in
+    let w = found_is_header dialect h u program parts.1 in
+    let sound = header_is_sound dialect h w.0 w.2 (bytes_front w.0 program (rw w.1 at all)) in
+    let params = usable h.params h.directories h.files sound.params in
+    let found = found_is_program dialect.order h.params program (let opcodes = params.opcodes in omega arith) in
+    let os = (operations_in dialect.order h.params program).found in
+    record {
+      sound = sound;
+      rows = rw parts.1 (rows_are h.params params.operations sound.maximum_operations [] os tt
+          (all_small dialect.order h.params os found.0 found.2));
+    }
 
 copy_is_anew : (dialect : Dialect) (u : List ℕ) → AllBytes u → IsCopied dialect u
     → IsAnew dialect u (copied_unit dialect u)
 copy_is_anew dialect u all (h, is, none) =
     let read = header_read dialect u h all is in
     let std = with_standard_opcodes h in
-    let rows = unit_rows dialect u in
-    let again = unit_is_read_again dialect std rows (standard_sound h read.sound) read.rows none in
-    let anew : IsAnew dialect u (unit_of dialect.order std rows) = record {
+    let again = unit_is_read_again dialect std (unit_rows dialect u) (standard_sound h read.sound) read.rows none in
+    rw is (record {
       header = h;
       its_header = is;
       operations = _;
       unit = again.unit;
       events_are = again.events_are;
       rows = ap (rows_later dialect.order) again.header ∙ again.program.same;
-    } in
-    subst (IsAnew dialect u)
-    (sym (ap (λ (o : Option HeaderData). option_map_or (λ g. unit_of dialect.order (with_standard_opcodes g) rows) o [])
-    is)) anew
+    })
 
 -- ---- units
 
-copies : (dialect : Dialect) (units : List (List ℕ)) → AllBytes (concat units) → AreCopied dialect units
-    → AllByRecursion (λ u. IsAnew dialect u (copied_unit dialect u)) units
-copies dialect [] all copied = tt
-copies dialect (u ∷ units) all copied = (
-  copy_is_anew dialect u (bytes_front u (concat units) all) copied.0,
-  copies dialect units (bytes_back u (concat units) all) copied.1,
-)
-
-are_units : (dialect : Dialect) (units : List (List ℕ))
-    → AllByRecursion (λ u. IsAnew dialect u (copied_unit dialect u)) units
-    → AllByRecursion (IsUnit dialect) (map (copied_unit dialect) units)
-are_units dialect [] anew = tt
-are_units dialect (u ∷ units) anew = (inr (_, _, anew.0.unit), are_units dialect units anew.1)
-
-joined : (dialect : Dialect) (units : List (List ℕ))
-    → copied_units dialect units ≡ concat (map (copied_unit dialect) units)
-joined dialect [] = refl
-joined dialect (u ∷ units) = ap (λ (l : List ℕ). copied_unit dialect u ++ l) (joined dialect units)
+all_anew : (dialect : Dialect) (units : List (List ℕ)) → AllBytes (concat units) → AreCopied dialect units
+    → (copied_units dialect units ≡ concat (map (copied_unit dialect) units))
+    × AllByRecursion (IsUnit dialect) (map (copied_unit dialect) units)
+    × AllByRecursion (λ u. IsAnew dialect u (copied_unit dialect u)) units
+all_anew dialect [] all copied = (refl, tt, tt)
+all_anew dialect (u ∷ units) all copied =
+    let one = copy_is_anew dialect u (bytes_front u (concat units) all) copied.0 in
+    let more = all_anew dialect units (bytes_back u (concat units) all) copied.1 in
+    (ap (λ (l : List ℕ). copied_unit dialect u ++ l) more.0, (inr (_, _, one.unit), more.1), (one, more.2))
 
 pub copies_are_units : CopiesAreUnits
 copies_are_units dialect s units rest all has copied =
-    let anew = copies dialect units (bytes_front (concat units) rest (subst AllBytes has.whole all)) copied in (
-      record {
-        whole = joined dialect units ∙ sym (append-nil (concat (map (copied_unit dialect) units)));
-        each =
-            are_units dialect units anew;
-      },
-      anew,
-    )
+    let anew = all_anew dialect units (bytes_front (concat units) rest (rw has.whole at all)) copied in
+    (record { whole = rw append-nil anew.0; each = anew.1 }, anew.2)
+
+-- ---- units of version 5
+
+accepted : (b : Bool) (f : EmitFault) → unless b f ≡ None → b ≡ true
+accepted true f e = refl
+accepted false f e = absurd (none_is_some (sym e))
+
+module _ (directories : ℕ → Option (List ℕ)) (dialect : Dialect) where
+  -- what becomes of a sound header is sound, where its unit can be written
+  to_5_sound : (offset : ℕ) (h : HeaderData) (rows : List Row) → IsSoundHeader h
+      → refusal (to_5 directories offset h) rows ≡ None → IsSoundHeader (to_5 directories offset h)
+  to_5_sound offset h rows sound none =
+      let directory = directories offset in
+      let made = to_5 directories offset h in
+      let len = program_len made.params rows in
+      let fits = accepted (is_within_limit made len) TooLong (neither (rows_refusal made.params rows) _ none).1 in
+      standard_sound (to_version_5 h directory) (version_5_sound h directory sound (tables_near made len fits))
+
+  one_newer : (offset : ℕ) (u : List ℕ) → AllBytes u → IsMade (to_5 directories) dialect offset u
+      → IsNewer directories dialect offset u (unit_as (to_5 directories) dialect offset u)
+  one_newer offset u all (h, is, none) =
+      let read = header_read dialect u h all is in
+      let made = to_5 directories offset h in
+      let rows = unit_rows dialect u in
+      let again = unit_is_read_again dialect made rows (to_5_sound offset h rows read.sound none) read.rows none in
+      rw is (record {
+        header = h;
+        its_header = is;
+        version = ap (λ (p : Params). p.version) (params_are h (directories offset));
+        operations = _;
+        unit = again.unit;
+        events_are = again.events_are;
+        rows = ap (rows_later dialect.order) again.header ∙ again.program.same;
+      })
+
+  -- the copies of units, the first of which stands at the offset
+  all_newer : (offset : ℕ) (units : List (List ℕ)) → AllBytes (concat units)
+      → AreMade (to_5 directories) dialect offset units
+      → (newer : List (List ℕ)) × (units_as (to_5 directories) dialect offset units ≡ concat newer)
+      × AllByRecursion (IsUnit dialect) newer × AreNewer directories dialect offset units newer
+  all_newer offset [] all made = ([], refl, tt, tt)
+  all_newer offset (u ∷ units) all made =
+      let one = one_newer offset u (bytes_front u (concat units) all) made.0 in
+      let more = all_newer (offset + length u) units (bytes_back u (concat units) all) made.1 in
+      let v = unit_as (to_5 directories) dialect offset u in
+      (v ∷ more.0, ap (λ (l : List ℕ). v ++ l) more.1, (inr (_, _, one.unit), more.2), (one, more.3))
+
+pub copies_are_newer : CopiesAreNewer
+copies_are_newer directories dialect s units rest all has made =
+    let n = all_newer directories dialect 0 units (bytes_front (concat units) rest (rw has.whole at all)) made in
+    (n.0, record { whole = rw append-nil n.1; each = n.2 }, n.3)

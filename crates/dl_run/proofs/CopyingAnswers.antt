@@ -1,50 +1,29 @@
 -- What `copy` answers and writes.
-use Rattle.dl_head.specs.declared.dialect.Dialect.{Dialect}
-use Rattle.std.proofs.Common.{[], ◌≡◌, inl, inr, ℕ, List, ◌∷◌, ◌++◌, length}
-use Rattle.std.proofs.Common.{take, Option, Some, None, Result, Ok, Err, arith, refl, sym, ap, ◌∙◌, subst}
-use Rattle.std.proofs.Common.{append_assoc, append-nil}
-use Rattle.std.specs.Prelude.{option_map}
-use Rattle.std.specs.Io.KnownBytes.{Appends}
-use Rattle.std.specs.List.{AllByRecursion, concat}
-use Rattle.std.specs.Option.{option_or}
-use Rattle.dl_num.specs.declared.fixed.Order.{Order}
-use Rattle.dl_head.specs.Header.{foreign_in}
-use Rattle.dl_rows.specs.declared.row.Row.{Row}
-use Rattle.dl_rows.specs.LineUnit.{IsUnit}
-use Rattle.dl_rows.specs.Runs.{Sound}
-use Rattle.dl_emit.specs.declared.fault.EmitFault.{EmitFault}
-use Rattle.dl_emit.specs.WrittenUnit.{unit_of, refusal}
-use Rattle.dl_run.specs.declared.copying.Copier.{Copier}
-use Rattle.dl_run.specs.declared.fault.RunFault.{RunFault}
-use Rattle.dl_run.specs.declared.fault.RunFault.TheVariants as fault
-use Rattle.dl_print.specs.declared.summary.Summary.{Summary}
-use Rattle.dl_run.specs.Commands.{Made, AreMade, CopiesAs, units_as}
-use Rattle.dl_run.specs.Copying.{Copying, IsGrowth, StopsAt, made_by, offset_after, rows_since, stop_after, text_after}
-use Rattle.dl_run.specs.Copying.{prints, copy_story}
-use Rattle.dl_run.specs.Copying.{stops as stops_at}
-use Rattle.dl_run.specs.RunOutput.{TellsOut}
-use Rattle.dl_run.specs.Section.{Visit, of_header, of_version, of_row, of_open, of_end, HasUnits, HasBegun}
-use Rattle.dl_run.specs.Section.{section_visits}
-use Rattle.dl_run.specs.Visiting.{Ran, Settled, VisitorStops}
-use Rattle.dl_run.proofs.Fronts.{none_is_some}
+use Rattle.dl_run.proofs.Names.{◌++◌, ◌∙◌, ◌∷◌, ◌≡◌, [], AllByRecursion, append-nil, append_assoc, Appends, AreMade}
+use Rattle.dl_run.proofs.Names.{arith, concat, Copier, CopiesAs, copy_story, Copying, Dialect, EmitFault, ended_as}
+use Rattle.dl_run.proofs.Names.{ends, EndsAs, Err, foreign_in, goes, HasBegun, HasUnits, inl, inr, IsUnit, length}
+use Rattle.dl_run.proofs.Names.{List, Made, made_by, None, of_end, of_version, Ok, Option, Order, Progress, Ran, refl}
+use Rattle.dl_run.proofs.Names.{refusal, Result, Row, RunFault, same_from_push, section_visits, Settled, Some, Sound}
+use Rattle.dl_run.proofs.Names.{stop_in, stopped, StopsAt, Summary, sym, take, TellsOut, text_in, told_to, unit_of}
+use Rattle.dl_run.proofs.Names.{units_as, Visit, visited, VisitorStops, WithinUnit, Write, zero-add, ℕ}
+use Rattle.dl_run.proofs.Names.fault
+use Rattle.dl_run.proofs.CopierLemmas.{told_more}
+use Rattle.dl_run.proofs.CopyingSections.{StopIs, Now, Heard, heard_of}
+use Rattle.dl_run.proofs.Fronts.{none_is_some, value_same}
 use Rattle.dl_run.proofs.RangeLemmas.{KeepsRanges, too_long}
 use Rattle.dl_run.proofs.SectionLemmas.{has_front}
-use Rattle.dl_run.proofs.CopyingVisits.{stop_after-append, written, text_after-append}
-use Rattle.dl_run.proofs.CopyingSections.{Heard, StopIs, same_last, heard_of}
 
-stop_is_last : (made : Made) (order : Order) (n : ℕ) (rows : List Row) (visit : Visit) (f : RunFault)
-    → stop_after made n rows (visit ∷ []) ≡ Some f → text_after made order n rows (visit ∷ []) ≡ []
-stop_is_last made order n rows (of_header m h) f e = absurd (none_is_some e)
-stop_is_last made order n rows (of_version m v) f e = refl
-stop_is_last made order n rows (of_row r) f e = absurd (none_is_some e)
-stop_is_last made order n rows of_open f e = absurd (none_is_some e)
-stop_is_last made order n rows (of_end None) f e = refl
-stop_is_last made order n rows (of_end (Some h)) f e =
-    by (refusal (made n h) rows) (unit_of order (made n h) rows) e where
-      by : (o : Option EmitFault) (unit : List ℕ) → option_or (option_map (fault.Emit n) o) None ≡ Some f
-          → written o (unit ++ []) ≡ []
-      by None unit e = absurd (none_is_some e)
-      by (Some g) unit e = refl
+-- what stops at a visit adds no copy
+stop_adds : (made : Made) (order : Order) (offset : ℕ) (rows : List Row) (text own : List ℕ) (visit : Visit)
+    (f : RunFault)
+    → visited made order (goes offset rows text) visit ≡ stopped own f → own ≡ text
+stop_adds made order offset rows text own (of_version n version) f e = cc
+stop_adds made order offset rows text own (of_end (Some h)) f e =
+    by (unit_of order (made offset h) rows) (refusal (made offset h) rows) e where
+      by : (unit : List ℕ) (o : Option EmitFault) → ended_as unit text offset o ≡ stopped own f → own ≡ text
+      by unit None e = cc
+      by unit (Some g) e = cc
+stop_adds made order offset rows text own visit f e = cc
 
 module _ (dialect : Dialect) (limit : ℕ) (bytes : List ℕ) (left : Option (List ℕ))
     (first new : Copier) (start now : Option (List ℕ)) (own : first.program.order ≡ dialect.order)
@@ -55,55 +34,44 @@ module _ (dialect : Dialect) (limit : ℕ) (bytes : List ℕ) (left : Option (Li
   abbrev Copied : Result Summary RunFault → Type 0
   Copied result = CopiesAs made dialect limit bytes left start now result
 
-  abbrev pub s : List ℕ
+  abbrev s : List ℕ
   s = take limit bytes
 
   heard_in : (units : List (List ℕ)) (b : List ℕ) (heard more : List Visit) → AllByRecursion (IsUnit dialect) units
-      → section_visits dialect units b ≡ heard ++ more → Heard made dialect first.unit 0 units b heard more
+      → section_visits dialect units b ≡ heard ++ more → Heard made dialect 0 units b more [] (told_to first heard)
   heard_in units b heard more each e =
-      heard_of made dialect first.unit 0 (length (concat units)) units b heard more each (omega arith) e
+      rw own (heard_of made dialect 0 first.unit (length (concat units)) [] units b heard more each (omega arith) e)
 
   -- these units are copied, and their copies are out
   abbrev HasMade : List (List ℕ) → Type 0
   HasMade units = AreMade made dialect 0 units × Appends start now (units_as made dialect 0 units)
 
-  -- without a fault all units are copied
+  -- without a fault all units are copied, and b isn't of another version
   all_copied : (units : List (List ℕ)) (b : List ℕ) → AllByRecursion (IsUnit dialect) units
       → Settled copy_story first start now (section_visits dialect units b) (Copying first new start now)
-      → HasMade units
+      → (foreign_in dialect b ≡ None) × HasMade units
   all_copied units b each settled =
-      let visits = section_visits dialect units b in
-      let f = heard_in units b visits [] each (sym (append-nil visits)) in
-      let same : units ≡ f.done =
-      f.whole ∙ ap (λ (l : List (List ℕ)). f.done ++ l) (f.all refl settled.tells.goes_on).0 ∙ append-nil f.done in
-      let out : Appends start now (text_after made dialect.order first.unit [] visits) =
-      subst (λ (o : Order). Appends start now (text_after made o first.unit [] visits)) own settled.out in
-      subst HasMade (sym same) (
-        f.copied,
-        subst (Appends start now) f.text out,
-      )
+      let f = heard_in units b (section_visits dialect units b) [] each (simp append-nil) in
+      let is = rw settled.tells.told at f.now in
+      let all = is.1 refl in
+      let same : units ≡ f.done = f.whole ∙ rw all.0 (append-nil f.done) in
+      (all.1, rw same (f.copied, rw (settled.tells.told, is.0) at settled.out))
 
-  -- without a fault b isn't of another version
-  not_version : (units : List (List ℕ)) (b : List ℕ) → AllByRecursion (IsUnit dialect) units
-      → Settled copy_story first start now (section_visits dialect units b) (Copying first new start now)
-      → foreign_in dialect b ≡ None
-  not_version units b each settled =
-      let visits = section_visits dialect units b in
-      ((heard_in units b visits [] each (sym (append-nil visits))).all refl settled.tells.goes_on).1
+  text_is : {units : List (List ℕ)} {b : List ℕ} {more : List Visit} (p : Progress)
+      (h : Heard made dialect 0 units b more [] p) → text_in p ≡ units_as made dialect 0 h.done
+  text_is (goes offset rows t) h = h.now.0
+  text_is (stopped t f) h = h.now.0
 
   failed_write : (units : List (List ℕ)) (b back : List ℕ) (heard more : List Visit) (out : ℕ)
       → HasUnits dialect s units (b ++ back) → section_visits dialect units b ≡ heard ++ more
-      → TellsOut start now (prints first heard) (fault.Write out)
-      → Copied (Err (fault.Write out))
+      → TellsOut start now (text_in (told_to first heard)) (fault.Write out) → Copied (Err (fault.Write out))
   failed_write units b back heard more out has whole tells =
-      let f = heard_in units b heard more has.each whole in
-      let tells_own : TellsOut start now (text_after made dialect.order first.unit [] heard) (fault.Write out) =
-      subst (λ (o : Order). TellsOut start now (text_after made o first.unit [] heard) (fault.Write out)) own tells in (
+      let f = heard_in units b heard more has.each whole in (
         f.done,
         concat f.after ++ (b ++ back),
         has_front dialect s units f.done f.after (b ++ back) f.whole has,
         f.copied,
-        subst (λ (l : List ℕ). TellsOut start now l (fault.Write out)) f.text tells_own,
+        rw (text_is (told_to first heard) f) at tells,
       )
 
   module _ (units : List (List ℕ)) (b back : List ℕ) (begun : HasBegun dialect s units b back) (f : RunFault)
@@ -111,149 +79,104 @@ module _ (dialect : Dialect) (limit : ℕ) (bytes : List ℕ) (left : Option (Li
     has : HasUnits dialect s units (b ++ back)
     has = begun.has
 
-    abbrev text_of : List Visit → List ℕ
-    text_of visits = text_after made dialect.order first.unit [] visits
+    out_before : Appends start now stops.tells.text
+    out_before = rw stops.tells.told at stops.out
 
-    out_before : Appends start now (text_of stops.before)
-    out_before =
-        subst (λ (o : Order). Appends start now (text_after made o first.unit [] stops.before)) own stops.out
+    -- bytes after units, of which the first are c
+    after_units : (done after : List (List ℕ)) (c tail : List ℕ) → units ≡ done ++ after → concat after ++ b ≡ c ++ tail
+        → WithinUnit dialect c → HasBegun dialect s done c (tail ++ back)
+    after_units done after c tail all whole within =
+        let rest : concat after ++ (b ++ back) ≡ c ++ (tail ++ back) =
+        cc (append_assoc (concat after) b back, append_assoc c tail back) in
+        record { has = rw rest at (has_front dialect s units done after (b ++ back) all has); in_unit = within }
 
     no_memory : Sound dialect b → StopsAt first (stops.before ++ stops.visit ∷ []) fault.NoMemory
         → Copied (Err fault.NoMemory)
     no_memory sound (before, visit, same, growth) =
         let h = heard_in units b stops.before (stops.visit ∷ stops.more) has.each stops.whole in
-        let a = h.current stops.visit stops.more refl
-        (subst IsGrowth (same_last before stops.before visit stops.visit (sym same)) growth) begun.in_unit sound
-        stops.tells.goes_on in
-        let rest : concat h.after ++ (b ++ back) ≡ a.c ++ (a.tail ++ back) =
-        sym (append_assoc (concat h.after) b back) ∙ ap (λ (l : List ℕ). l ++ back) a.whole
-        ∙ append_assoc a.c a.tail back in (
+        let is = rw stops.tells.told at h.now in
+        let visits = (same_from_push stops.before before stops.visit visit same).1 in
+        let a = is.2 stops.visit stops.more refl (rw visits growth) begun.in_unit sound in (
           h.done,
           a.c,
           a.tail ++ back,
-          record {
-            has =
-                subst (HasUnits dialect s h.done) rest
-                (has_front dialect s units h.done h.after (b ++ back) h.whole has);
-            in_unit = a.within;
-          },
+          after_units h.done h.after a.c a.tail h.whole a.whole a.within,
           a.sound,
           a.not_foreign,
           inr a.grows,
-          (h.copied, subst (Appends start now) h.text out_before),
+          (h.copied, rw is.0 at out_before),
         )
 
     abbrev heard : List Visit
     heard = stops.before ++ stops.visit ∷ []
 
-    told : Heard made dialect first.unit 0 units b heard stops.more
-    told = heard_in units b heard stops.more has.each (stops.whole
-        ∙ sym (append_assoc stops.before (stops.visit ∷ []) stops.more))
+    told : Heard made dialect 0 units b stops.more [] (told_to first heard)
+    told = heard_in units b heard stops.more has.each (stops.whole ∙ simp append_assoc)
 
-    module _ (reason : stops_at first heard ≡ Some f) where
-      at_last : stop_after made (offset_after first.unit stops.before) (rows_since [] stops.before) (stops.visit ∷ [])
-          ≡ Some f
-      at_last =
-          ap (λ (o : Option RunFault). option_or o
-          (stop_after made (offset_after first.unit stops.before) (rows_since [] stops.before) (stops.visit ∷ [])))
-          (sym stops.tells.goes_on)
-          ∙ sym (stop_after-append made first.unit [] stops.before (stops.visit ∷ []))
-          ∙ reason
+    by_stop : HasMade told.done → (g : RunFault) → StopIs made dialect told.place told.after b g → Copied (Err g)
+    by_stop out (fault.ForeignUnit offset) (c, more, version, whole, at, within, foreign) = (
+      told.done,
+      c,
+      more ++ back,
+      version,
+      after_units told.done told.after c more told.whole whole within,
+      at ∙ told.at ∙ zero-add (length (concat told.done)),
+      foreign,
+      out,
+    )
+    by_stop out (fault.Emit offset g) (u, later, h, whole, at, header, refused) = (
+      told.done,
+      u,
+      concat later ++ (b ++ back),
+      h,
+      has_front dialect s units (told.done ++ u ∷ []) later (b ++ back) (told.whole ∙ rw whole (simp append_assoc)) has,
+      at ∙ told.at ∙ zero-add (length (concat told.done)),
+      header,
+      refused,
+      too_long dialect made ranges offset u h g header refused,
+      out,
+    )
+    by_stop out g stop = absurd stop
 
-      text_before : text_of stops.before ≡ units_as made dialect 0 told.done
-      text_before =
-          sym (append-nil (text_of stops.before))
-          ∙ ap (λ (l : List ℕ). text_of stops.before ++ l)
-          (sym (stop_is_last made dialect.order (offset_after first.unit stops.before)
-          (rows_since [] stops.before) stops.visit f
-          at_last))
-          ∙ sym (text_after-append made dialect.order first.unit [] stops.before (stops.visit ∷ []) stops.tells.goes_on)
-          ∙ told.text
+    stopped_there : stop_in (told_to first heard) ≡ Some f → Copied (Err f)
+    stopped_there reason =
+        by (told_to first heard) (sym (told_more stops.tells stops.visit)) told.now reason where
+          by : (p : Progress)
+              → visited made first.program.order (goes new.unit stops.tells.rows stops.tells.text) stops.visit ≡ p
+              → Now made dialect told.place told.after b stops.more (units_as made dialect 0 told.done) p
+              → stop_in p ≡ Some f → Copied (Err f)
+          by (goes offset rows text) at is reason = absurd (none_is_some reason)
+          by (stopped text g) at is reason =
+              let adds = stop_adds made first.program.order new.unit stops.tells.rows stops.tells.text text stops.visit
+              g at in
+              let same : g ≡ f = value_same g f reason in
+              by_stop (told.copied, rw (← adds, is.0) at out_before) f (rw same at (is.1 begun.in_unit))
 
-      copied_before : HasMade told.done
-      copied_before = (told.copied, subst (Appends start now) text_before out_before)
-
-      done_in : HasUnits dialect s told.done (concat told.after ++ (b ++ back))
-      done_in = has_front dialect s units told.done told.after (b ++ back) told.whole has
-
-      by_stop : (g : RunFault) → StopIs made dialect 0 told.done told.after b g → Copied (Err g)
-      by_stop (fault.ForeignUnit offset) (c, more, version, whole, at, within, foreign) =
-          let rest : concat told.after ++ (b ++ back) ≡ c ++ (more ++ back) =
-          sym (append_assoc (concat told.after) b back) ∙ ap (λ (l : List ℕ). l ++ back) whole
-          ∙ append_assoc c more back in (
-            told.done,
-            c,
-            more ++ back,
-            version,
-            record {
-              has = subst (HasUnits dialect s told.done) rest done_in;
-              in_unit = within;
-            },
-            at ∙ omega arith,
-            foreign,
-            copied_before,
-          )
-      by_stop (fault.Emit offset g) (u, later, h, whole, at, header, refused) =
-          let all : units ≡ (told.done ++ u ∷ []) ++ later =
-          told.whole ∙ ap (λ (l : List (List ℕ)). told.done ++ l) whole
-          ∙ sym (append_assoc told.done (u ∷ []) later) in (
-            told.done,
-            u,
-            concat later ++ (b ++ back),
-            h,
-            has_front dialect s units (told.done ++ u ∷ []) later (b ++ back) all has,
-            at ∙ omega arith,
-            header,
-            refused,
-            too_long dialect made ranges offset u h g header refused,
-            copied_before,
-          )
-      by_stop (fault.Damage at kind) stop = absurd stop
-      by_stop fault.NoMemory stop = absurd stop
-      by_stop fault.Read stop = absurd stop
-      by_stop (fault.Write out) stop = absurd stop
-      by_stop fault.SectionTooLong stop = absurd stop
-      by_stop fault.NotFound stop = absurd stop
-
-      stopped : Copied (Err f)
-      stopped = by_stop f (told.stop begun.in_unit f reason)
+  settled : (units : List (List ℕ)) (b back : List ℕ) (f : RunFault)
+      → EndsAs dialect limit bytes left units b back (Err f)
+      → Settled copy_story first start now (section_visits dialect units b) (Copying first new start now)
+      → Copied (Err f)
+  settled units b back fault.NoMemory ends s =
+      let (no_version, all) = all_copied units b ends.0.has.each s in
+      (units, b, back, ends.0, ends.1, no_version, inl ends.2, all)
+  settled units b back (fault.ForeignUnit offset) ends s = absurd ends
+  settled units b back (fault.Emit offset f) ends s = absurd ends
+  settled units b back (fault.Write out) ends s = absurd ends
+  settled units b back fault.NotFound ends s = absurd ends
+  settled units b back f ends s =
+      let (no_version, all) = all_copied units b ends.0.each s in (units, b, back, ends, no_version, all)
 
   pub copies : (result : Result Summary RunFault) → Ran copy_story dialect limit bytes left first new start now result
       → Copied result
-  copies (Ok summary) (inl (units, ends, settled)) = (units, ends, all_copied units [] ends.0.each settled)
-  copies (Ok summary) (inr (_, _, _, _, settled)) = absurd settled.tells
-  copies (Err (fault.Write out)) (units, b, back, begun, (before, more, whole, tells)) =
-      failed_write units b back before more out begun.has whole tells
-  copies (Err fault.NoMemory) (units, b, back, inl (ends, settled)) = (
-    units,
-    b,
-    back,
-    ends.0,
-    ends.1,
-    not_version units b ends.0.has.each settled,
-    inl ends.2,
-    all_copied units b ends.0.has.each settled,
-  )
-  copies (Err fault.NoMemory) (units, b, back, inr (begun, sound, stops)) =
-      no_memory units b back begun fault.NoMemory stops sound stops.reason
-  copies (Err (fault.ForeignUnit offset)) (units, b, back, inl (ends, settled)) = absurd ends
-  copies (Err (fault.ForeignUnit offset)) (units, b, back, inr (has, sound, stops)) =
-      stopped units b back has (fault.ForeignUnit offset) stops stops.reason
-  copies (Err (fault.Emit offset f)) (units, b, back, inl (ends, settled)) = absurd ends
-  copies (Err (fault.Emit offset f)) (units, b, back, inr (has, sound, stops)) =
-      stopped units b back has (fault.Emit offset f) stops stops.reason
-  copies (Err fault.NotFound) (units, b, back, inl (ends, settled)) = absurd ends
-  copies (Err fault.NotFound) (units, b, back, inr (has, sound, stops)) =
-      stopped units b back has fault.NotFound stops stops.reason
-  copies (Err (fault.Damage at kind)) (units, b, back, inl (ends, settled)) =
-      (units, b, back, ends, not_version units b ends.0.each settled, all_copied units b ends.0.each settled)
-  copies (Err (fault.Damage at kind)) (units, b, back, inr (has, sound, stops)) =
-      stopped units b back has (fault.Damage at kind) stops stops.reason
-  copies (Err fault.Read) (units, b, back, inl (ends, settled)) =
-      (units, b, back, ends, not_version units b ends.0.each settled, all_copied units b ends.0.each settled)
-  copies (Err fault.Read) (units, b, back, inr (has, sound, stops)) =
-      stopped units b back has fault.Read stops stops.reason
-  copies (Err fault.SectionTooLong) (units, b, back, inl (ends, settled)) =
-      (units, b, back, ends, not_version units b ends.0.each settled, all_copied units b ends.0.each settled)
-  copies (Err fault.SectionTooLong) (units, b, back, inr (has, sound, stops)) =
-      stopped units b back has fault.SectionTooLong stops stops.reason
+  copies (Ok summary) (inl (units, ends, is)) = (units, ends, (all_copied units [] ends.0.each is).1)
+  copies (Ok summary) (inr (_, _, _, _, is)) = absurd is.tells
+  copies (Err (fault.Write out)) ran =
+      failed_write ran.0 ran.1 ran.2 ran.4.0 ran.4.1 out ran.3.has ran.4.2 ran.4.3
+  copies (Err fault.NoMemory) ran = elim ran.3 [
+    | inl ends ↦ settled ran.0 ran.1 ran.2 fault.NoMemory ends.0 ends.1
+    | inr s ↦ no_memory ran.0 ran.1 ran.2 s.0 fault.NoMemory s.2 s.1 s.2.reason
+  ]
+  copies (Err f) ran = elim ran.3 [
+    | inl ends ↦ settled ran.0 ran.1 ran.2 f ends.0 ends.1
+    | inr s ↦ stopped_there ran.0 ran.1 ran.2 s.0 f s.2 s.2.reason
+  ]

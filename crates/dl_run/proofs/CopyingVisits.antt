@@ -1,151 +1,48 @@
 -- What is copied of visits one after the other, and of those of a unit.
-use Rattle.dl_head.specs.declared.dialect.Dialect.{Dialect}
-use Rattle.std.proofs.Common.{[], ◌≡◌, ◌⊎◌, inl, inr, ℕ, Bool, true, false, List, ◌∷◌, ◌++◌, map, flat_map}
-use Rattle.std.proofs.Common.{Option, Some, None, refl, sym, ap, ap₂, ◌∙◌}
-use Rattle.std.proofs.Common.{append_assoc, append-nil}
-use Rattle.std.specs.Prelude.{option_map}
-use Rattle.std.specs.Option.{option_or, option_map_or}
-use Rattle.dl_num.specs.declared.fixed.Order.{Order}
-use Rattle.dl_field.specs.HeaderData.{HeaderData}
-use Rattle.dl_head.specs.Header.{foreign_in, header_in}
-use Rattle.dl_rows.specs.declared.row.Row.{Row}
-use Rattle.dl_rows.specs.declared.reader.Event.TheVariants as event
-use Rattle.dl_rows.specs.LineUnit.{rows_later, unit_rows, events_of}
-use Rattle.dl_rows.proofs.ReaderLemmas.{foreign_no_header}
-use Rattle.dl_emit.specs.declared.fault.EmitFault.{EmitFault}
-use Rattle.dl_emit.specs.WrittenUnit.{unit_of, refusal}
-use Rattle.dl_run.specs.declared.fault.RunFault.{RunFault}
-use Rattle.dl_run.specs.declared.fault.RunFault.TheVariants as fault
-use Rattle.dl_run.specs.Commands.{Made}
-use Rattle.dl_run.specs.Copying.{rows_since, offset_after, end_stop, stop_after, end_text, text_after}
-use Rattle.dl_run.specs.Section.{Visit, of_header, of_version, of_row, of_open, of_end, header_of}
-use Rattle.dl_run.specs.Section.{event_visits, visits, open_visit}
-use Rattle.dl_run.proofs.Fronts.{or_assoc, none_is_some, value_same, neither, map_none, empty_both}
+use Rattle.dl_run.proofs.Names.{◌++◌, ◌∙◌, ◌∷◌, ◌≡◌, ◌⊎◌, [], ap, append-nil, append_assoc, Bool, comes_to, Dialect}
+use Rattle.dl_run.proofs.Names.{false, fold_stays, foreign_in, foreign_no_header, goes, header_in, header_of}
+use Rattle.dl_run.proofs.Names.{HeaderData, inl, inr, List, Made, map, None, of_header, of_open, of_row, of_version}
+use Rattle.dl_run.proofs.Names.{open_visit, Option, Order, parts, refl, Row, rows_in, RunFault, Some, stopped, sym}
+use Rattle.dl_run.proofs.Names.{true, unit_rows, Visit, visited, visits, ℕ}
+use Rattle.dl_run.proofs.Names.fault
+use Rattle.dl_run.proofs.EventLemmas.{rows_visited}
+use Rattle.dl_run.proofs.Fronts.{empty_both, none_is_some}
 
 -- ---- visits one after the other
 
--- the offset after visits of two lists
-pub offset_after-append : (n : ℕ) (a b : List Visit) → offset_after n (a ++ b) ≡ offset_after (offset_after n a) b
-offset_after-append n [] b = refl
-offset_after-append n (of_header m h ∷ a) b = offset_after-append m a b
-offset_after-append n (of_version m v ∷ a) b = offset_after-append n a b
-offset_after-append n (of_row r ∷ a) b = offset_after-append n a b
-offset_after-append n (of_open ∷ a) b = offset_after-append n a b
-offset_after-append n (of_end h ∷ a) b = offset_after-append n a b
+module _ (made : Made) (order : Order) where
+  pub stays_stopped : (text : List ℕ) (f : RunFault) (visits : List Visit)
+      → comes_to made order (stopped text f) visits ≡ stopped text f
+  stays_stopped text f visits = fold_stays (visited made order) (stopped text f) (λ v. refl) visits
 
--- the rows since the header after visits of two lists
-pub rows_since-append : (rows : List Row) (a b : List Visit)
-    → rows_since rows (a ++ b) ≡ rows_since (rows_since rows a) b
-rows_since-append rows [] b = refl
-rows_since-append rows (of_header n h ∷ a) b = rows_since-append [] a b
-rows_since-append rows (of_version n v ∷ a) b = rows_since-append rows a b
-rows_since-append rows (of_row r ∷ a) b = rows_since-append (rows ++ r ∷ []) a b
-rows_since-append rows (of_open ∷ a) b = rows_since-append rows a b
-rows_since-append rows (of_end h ∷ a) b = rows_since-append [] a b
+  -- rows, and that the last isn't an end row
+  pub after_rows : (offset : ℕ) (before : List Row) (text : List ℕ) (rows : List Row) (is_open : Bool)
+      → comes_to made order (goes offset before text) (map of_row rows ++ open_visit is_open)
+      ≡ goes offset (before ++ rows) text
+  after_rows offset before text [] true = rw append-nil refl
+  after_rows offset before text [] false = rw append-nil refl
+  after_rows offset before text (r ∷ rows) is_open =
+      rw (append_assoc before (r ∷ []) rows) at (after_rows offset (before ++ r ∷ []) text rows is_open)
 
--- what is written where the refusal is known
-abbrev pub written : Option EmitFault → List ℕ → List ℕ
-written o text = option_map_or (λ f. []) o text
-
-written-append : (o : Option EmitFault) (unit a b : List ℕ) → o ≡ None
-    → written o (unit ++ (a ++ b)) ≡ written o (unit ++ a) ++ b
-written-append None unit a b e = sym (append_assoc unit a b)
-written-append (Some f) unit a b e = absurd (none_is_some (sym e))
-
-written_empty : (o : Option EmitFault) (unit a b : List ℕ) → (a ≡ [] → b ≡ []) → written o (unit ++ a) ≡ []
-    → written o (unit ++ b) ≡ []
-written_empty None unit a b so e = let both = empty_both unit a e in ap₂ (λ (x y : List ℕ). x ++ y) both.0 (so both.1)
-written_empty (Some f) unit a b so e = refl
-
-module _ (made : Made) where
-  -- the first fault of visits of two lists
-  pub stop_after-append : (n : ℕ) (rows : List Row) (a b : List Visit)
-      → stop_after made n rows (a ++ b)
-      ≡ option_or (stop_after made n rows a) (stop_after made (offset_after n a) (rows_since rows a) b)
-  stop_after-append n rows [] b = refl
-  stop_after-append n rows (of_header m h ∷ a) b = stop_after-append m [] a b
-  stop_after-append n rows (of_version m v ∷ a) b = refl
-  stop_after-append n rows (of_row r ∷ a) b = stop_after-append n (rows ++ r ∷ []) a b
-  stop_after-append n rows (of_open ∷ a) b = stop_after-append n rows a b
-  stop_after-append n rows (of_end h ∷ a) b =
-      ap (option_or (end_stop made n rows h)) (stop_after-append n [] a b)
-      ∙ sym (or_assoc (end_stop made n rows h) (stop_after made n [] a)
-      (stop_after made (offset_after n a) (rows_since [] a) b))
-
-  -- the first fault of the front is that of the whole
-  pub stop_front : (n : ℕ) (rows : List Row) (a b : List Visit) (f : RunFault) → stop_after made n rows a ≡ Some f
-      → stop_after made n rows (a ++ b) ≡ Some f
-  stop_front n rows a b f is =
-      stop_after-append n rows a b
-      ∙ ap (λ (o : Option RunFault). option_or o (stop_after made (offset_after n a) (rows_since rows a) b)) is
-
-  end_text-append : (order : Order) (n : ℕ) (rows : List Row) (h : Option HeaderData) (a b : List ℕ)
-      → end_stop made n rows h ≡ None → end_text made order n rows h (a ++ b) ≡ end_text made order n rows h a ++ b
-  end_text-append order n rows None a b e = refl
-  end_text-append order n rows (Some h) a b e =
-      written-append (refusal (made n h) rows) (unit_of order (made n h) rows) a b
-      (map_none (fault.Emit n) (refusal (made n h) rows) e)
-
-  -- what is written of visits of two lists
-  pub text_after-append : (order : Order) (n : ℕ) (rows : List Row) (a b : List Visit)
-      → stop_after made n rows a ≡ None
-      → text_after made order n rows (a ++ b)
-      ≡ text_after made order n rows a ++ text_after made order (offset_after n a) (rows_since rows a) b
-  text_after-append order n rows [] b e = refl
-  text_after-append order n rows (of_header m h ∷ a) b e = text_after-append order m [] a b e
-  text_after-append order n rows (of_version m v ∷ a) b e = absurd (none_is_some (sym e))
-  text_after-append order n rows (of_row r ∷ a) b e = text_after-append order n (rows ++ r ∷ []) a b e
-  text_after-append order n rows (of_open ∷ a) b e = text_after-append order n rows a b e
-  text_after-append order n rows (of_end h ∷ a) b e =
-      let none = neither (end_stop made n rows h) (stop_after made n [] a) e in
-      ap (end_text made order n rows h) (text_after-append order n [] a b none.1)
-      ∙ end_text-append order n rows h (text_after made order n [] a)
-      (text_after made order (offset_after n a) (rows_since [] a) b) none.0
-
-  -- where nothing is written, nothing is of the front
-  pub text_front : (order : Order) (n : ℕ) (rows : List Row) (a b : List Visit)
-      → text_after made order n rows (a ++ b) ≡ [] → text_after made order n rows a ≡ []
-  text_front order n rows [] b e = refl
-  text_front order n rows (of_header m h ∷ a) b e = text_front order m [] a b e
-  text_front order n rows (of_version m v ∷ a) b e = refl
-  text_front order n rows (of_row r ∷ a) b e = text_front order n (rows ++ r ∷ []) a b e
-  text_front order n rows (of_open ∷ a) b e = text_front order n rows a b e
-  text_front order n rows (of_end None ∷ a) b e = text_front order n [] a b e
-  text_front order n rows (of_end (Some h) ∷ a) b e =
-      written_empty (refusal (made n h) rows) (unit_of order (made n h) rows) (text_after made order n [] (a ++ b))
-      (text_after made order n [] a) (text_front order n [] a b) e
-
-  -- rows, and then other visits
-  pub stop_of_rows : (n : ℕ) (before rows : List Row) (more : List Visit)
-      → stop_after made n before (map of_row rows ++ more) ≡ stop_after made n (before ++ rows) more
-  stop_of_rows n before [] more = ap (λ (l : List Row). stop_after made n l more) (sym (append-nil before))
-  stop_of_rows n before (r ∷ rows) more =
-      stop_of_rows n (before ++ r ∷ []) rows more
-      ∙ ap (λ (l : List Row). stop_after made n l more) (append_assoc before (r ∷ []) rows)
-
-  pub text_of_rows : (order : Order) (n : ℕ) (before rows : List Row) (more : List Visit)
-      → text_after made order n before (map of_row rows ++ more) ≡ text_after made order n (before ++ rows) more
-  text_of_rows order n before [] more = ap (λ (l : List Row). text_after made order n l more) (sym (append-nil before))
-  text_of_rows order n before (r ∷ rows) more =
-      text_of_rows order n (before ++ r ∷ []) rows more
-      ∙ ap (λ (l : List Row). text_after made order n l more) (append_assoc before (r ∷ []) rows)
-
-  pub stop_of_open : (n : ℕ) (rows : List Row) (is_open : Bool) (more : List Visit)
-      → stop_after made n rows (open_visit is_open ++ more) ≡ stop_after made n rows more
-  stop_of_open n rows true more = refl
-  stop_of_open n rows false more = refl
-
-  pub text_of_open : (order : Order) (n : ℕ) (rows : List Row) (is_open : Bool) (more : List Visit)
-      → text_after made order n rows (open_visit is_open ++ more) ≡ text_after made order n rows more
-  text_of_open order n rows true more = refl
-  text_of_open order n rows false more = refl
+  -- the first of these
+  pub after_some : (offset : ℕ) (before : List Row) (text : List ℕ) (rows : List Row) (is_open : Bool)
+      (heard x : List Visit) → map of_row rows ++ open_visit is_open ≡ heard ++ x
+      → (now : List Row) × (comes_to made order (goes offset before text) heard ≡ goes offset now text)
+  after_some offset before text rows is_open [] x e = (before, refl)
+  after_some offset before text [] false (w ∷ heard) x e = absurd cc
+  after_some offset before text [] true (w ∷ heard) x e =
+      let first : w ≡ of_open = cc in
+      let nothing : heard ≡ [] = (empty_both heard x (let none : heard ++ x ≡ [] = cc in none)).0 in
+      (before, rw (first, nothing) refl)
+  after_some offset before text (r ∷ rows) is_open (w ∷ heard) x e =
+      from_row w (cc) (after_some offset (before ++ r ∷ []) text rows is_open heard x (cc)) where
+        from_row : (w : Visit) → w ≡ of_row r
+            → (now : List Row)
+            × (comes_to made order (goes offset (before ++ r ∷ []) text) heard ≡ goes offset now text)
+            → (now : List Row) × (comes_to made order (goes offset before text) (w ∷ heard) ≡ goes offset now text)
+        from_row w first later = (later.0, rw first later.1)
 
 -- ---- the visits of a unit, or of the front of one
-
-row_visits : (n : ℕ) (h : Option HeaderData) (rows : List Row)
-    → flat_map (event_visits n h) (map event.Row rows) ≡ map of_row rows
-row_visits n h [] = refl
-row_visits n h (r ∷ rows) = ap (λ (l : List Visit). of_row r ∷ l) (row_visits n h rows)
 
 module _ (dialect : Dialect) (n : ℕ) (c : List ℕ) where
   -- c says its version, which isn't 5
@@ -170,102 +67,75 @@ module _ (dialect : Dialect) (n : ℕ) (c : List ℕ) where
   pub one_of : Foreign ⊎ (Own ⊎ Neither)
   one_of = by_version (foreign_in dialect c) (header_in dialect c) refl refl
 
-  pub not_foreign : (own : Own) (v : Option ℕ) → foreign_in dialect c ≡ v → foreign_in dialect c ≡ None
-  not_foreign own None e = e
-  not_foreign own (Some v) e = absurd (none_is_some (sym (foreign_no_header dialect c v e) ∙ own.2))
-
-  abbrev visits_by : Option ℕ → Option (HeaderData × List ℕ) → List Visit
-  visits_by version parts = flat_map (event_visits n (option_map (λ p. p.0) parts))
-      (events_of dialect.order version parts)
+  pub not_foreign : Own → foreign_in dialect c ≡ None
+  not_foreign own = by (foreign_in dialect c) refl where
+    by : (v : Option ℕ) → foreign_in dialect c ≡ v → foreign_in dialect c ≡ None
+    by None e = e
+    by (Some v) e = absurd (none_is_some (sym (foreign_no_header dialect c v e) ∙ own.2))
 
   -- its visits, by its case
   pub foreign_visits : (f : Foreign) → visits dialect n c ≡ of_version n f.0 ∷ []
-  foreign_visits f = ap (λ (o : Option ℕ). visits_by o (header_in dialect c)) f.1
+  foreign_visits f = rw f.1 refl
 
   pub own_visits : (own : Own) → visits dialect n c ≡ of_header n own.0 ∷ map of_row (unit_rows dialect c)
   own_visits own =
-      ap (λ (o : Option ℕ). visits_by o (header_in dialect c)) (not_foreign own (foreign_in dialect c) refl)
-      ∙ ap (λ (p : Option (HeaderData × List ℕ)). visits_by None p) own.2
-      ∙ ap (λ (l : List Visit). of_header n own.0 ∷ l)
-      (row_visits n (Some own.0) (rows_later dialect.order (Some (own.0, own.1))))
-      ∙ ap (λ (p : Option (HeaderData × List ℕ)). of_header n own.0 ∷ map of_row
-      (rows_later dialect.order p)) (sym own.2)
+      rw (not_foreign own, own.2) (ap (λ (l : List Visit). of_header n own.0 ∷ l)
+      (rows_visited n (Some own.0) (rows_in dialect.order own.0.params own.1)))
 
   pub no_visits : Neither → visits dialect n c ≡ []
-  no_visits none =
-      ap (λ (o : Option ℕ). visits_by o (header_in dialect c)) none.0
-      ∙ ap (λ (p : Option (HeaderData × List ℕ)). visits_by None p) none.1
+  no_visits none = rw (none.0, none.1) refl
 
   -- the header of its visits
   pub header_is : (own : Own) → header_of dialect c ≡ Some own.0
-  header_is own = ap (λ (p : Option (HeaderData × List ℕ)). option_map (λ q. q.0) p) own.2
+  header_is own = rw own.2 refl
 
-  -- ---- up to its end
+-- where visits of c, and that its sequence is open, are heard, and x are the others: another version is told first, or
+-- it is the next; or they go on
+pub data Front (made : Made) (dialect : Dialect) (n : ℕ) (c : List ℕ) (m : ℕ) (text : List ℕ) (heard x : List Visit)
+    : Type 0 where
+  at_version : (v : Foreign dialect n c)
+      → comes_to made dialect.order (goes m [] text) heard ≡ stopped text (fault.ForeignUnit n)
+      → Front made dialect n c m text heard x
+  before_version : (version : ℕ) (others : List Visit) → heard ≡ [] → x ≡ of_version n version ∷ others
+      → Front made dialect n c m text heard x
+  goes_on : (now : ℕ) (rows : List Row) → comes_to made dialect.order (goes m [] text) heard ≡ goes now rows text
+      → foreign_in dialect c ≡ None → Front made dialect n c m text heard x
 
-  module _ (made : Made) (is_open : Bool) where
-    abbrev pub front : List Visit
-    front = visits dialect n c ++ open_visit is_open
+module _ (made : Made) (dialect : Dialect) (n : ℕ) (c : List ℕ) (is_open : Bool) (m : ℕ) (text : List ℕ) where
+  pub front_of : (heard x : List Visit) → visits dialect n c ++ open_visit is_open ≡ heard ++ x
+      → Front made dialect n c m text heard x
+  front_of heard x e = by (one_of dialect n c) heard e where
+    from_header : (own : Own dialect n c) (w : Visit) (heard : List Visit) → w ≡ of_header n own.0
+        → (now : List Row) × (comes_to made dialect.order (goes n [] text) heard ≡ goes n now text)
+        → Front made dialect n c m text (w ∷ heard) x
+    from_header own w heard first later = goes_on n later.0 (rw first later.1) (not_foreign dialect n c own)
 
-    -- its rows come before the first fault of what follows
-    pub stop_of_own : (m : ℕ) (own : Own) (more : List Visit)
-        → stop_after made m [] (front ++ more) ≡ stop_after made n (unit_rows dialect c) more
-    stop_of_own m own more =
-        ap (stop_after made m []) (append_assoc (visits dialect n c) (open_visit is_open) more)
-        ∙ ap (λ (l : List Visit). stop_after made m [] (l ++ (open_visit is_open ++ more))) (own_visits own)
-        ∙ stop_of_rows made n [] (unit_rows dialect c) (open_visit is_open ++ more)
-        ∙ stop_of_open made n (unit_rows dialect c) is_open more
+    by : Foreign dialect n c ⊎ (Own dialect n c ⊎ Neither dialect n c) → (heard : List Visit)
+        → visits dialect n c ++ open_visit is_open ≡ heard ++ x → Front made dialect n c m text heard x
+    by (inl v) [] e = before_version v.0 (open_visit is_open) refl (sym e ∙ rw (foreign_visits dialect n c v) refl)
+    by (inl v) (w ∷ heard) e =
+        let all = rw (foreign_visits dialect n c v) at e in
+        let first : w ≡ of_version n v.0 = cc in
+        at_version v (rw first (stays_stopped made dialect.order text (fault.ForeignUnit n) heard))
+    by (inr (inl own)) [] e = goes_on m [] refl (not_foreign dialect n c own)
+    by (inr (inl own)) (w ∷ heard) e =
+        let all = rw (own_visits dialect n c own) at e in
+        from_header own w heard (cc) (after_some made dialect.order n [] text (unit_rows dialect c) is_open heard x cc)
+    by (inr (inr none)) heard e =
+        let all = rw (no_visits dialect n c none) at e in
+        let later = after_some made dialect.order m [] text [] is_open heard x all in
+        goes_on m later.0 later.1 none.0
 
-    -- what is written of its rows and of what follows
-    pub text_of_own : (m : ℕ) (own : Own) (more : List Visit)
-        → text_after made dialect.order m [] (front ++ more) ≡ text_after made dialect.order n (unit_rows dialect c) more
-    text_of_own m own more =
-        ap (text_after made dialect.order m []) (append_assoc (visits dialect n c) (open_visit is_open) more)
-        ∙ ap (λ (l : List Visit). text_after made dialect.order m [] (l ++ (open_visit is_open ++ more))) (own_visits own)
-        ∙ text_of_rows made dialect.order n [] (unit_rows dialect c) (open_visit is_open ++ more)
-        ∙ text_of_open made dialect.order n (unit_rows dialect c) is_open more
+  -- to its end
+  pub own_front : Own dialect n c
+      → comes_to made dialect.order (goes m [] text) (visits dialect n c ++ open_visit is_open)
+      ≡ goes n (unit_rows dialect c) text
+  own_front own =
+      rw (own_visits dialect n c own) (after_rows made dialect.order n [] text (unit_rows dialect c) is_open)
 
-    -- another version is the first fault, and nothing is written
-    pub stop_of_foreign : (m : ℕ) (f : Foreign) (more : List Visit)
-        → stop_after made m [] (front ++ more) ≡ Some (fault.ForeignUnit n)
-    stop_of_foreign m f more =
-        ap (λ (l : List Visit). stop_after made m [] ((l ++ open_visit is_open) ++ more)) (foreign_visits f)
-
-    pub text_of_foreign : (m : ℕ) (f : Foreign) (more : List Visit)
-        → text_after made dialect.order m [] (front ++ more) ≡ []
-    text_of_foreign m f more =
-        ap (λ (l : List Visit). text_after made dialect.order m [] ((l ++ open_visit is_open) ++ more)) (foreign_visits f)
-
-    stop_of_neither : (m : ℕ) → Neither → stop_after made m [] (front ++ []) ≡ None
-    stop_of_neither m none =
-        ap (λ (l : List Visit). stop_after made m [] ((l ++ open_visit is_open) ++ [])) (no_visits none)
-        ∙ stop_of_open made m [] is_open []
-
-    text_of_neither : (m : ℕ) → Neither → text_after made dialect.order m [] (front ++ []) ≡ []
-    text_of_neither m none =
-        ap (λ (l : List Visit). text_after made dialect.order m [] ((l ++ open_visit is_open) ++ [])) (no_visits none)
-        ∙ text_of_open made dialect.order m [] is_open []
-
-    nothing_by : (m : ℕ) → Foreign ⊎ (Own ⊎ Neither) → text_after made dialect.order m [] (front ++ []) ≡ []
-    nothing_by m (inl f) = text_of_foreign m f []
-    nothing_by m (inr (inl own)) = text_of_own m own []
-    nothing_by m (inr (inr none)) = text_of_neither m none
-
-    -- nothing is written before the end
-    pub nothing_before : (m : ℕ) (heard x : List Visit) → front ≡ heard ++ x
-        → text_after made dialect.order m [] heard ≡ []
-    nothing_before m heard x e =
-        text_front made dialect.order m [] heard x
-        (ap (text_after made dialect.order m []) (sym e ∙ sym (append-nil front)) ∙ nothing_by m one_of)
-
-    foreign_by : (m : ℕ) (f : RunFault) → stop_after made m [] (front ++ []) ≡ Some f → Foreign ⊎ (Own ⊎ Neither)
-        → (v : Foreign) × (f ≡ fault.ForeignUnit n)
-    foreign_by m f is (inl v) = (v, value_same f (fault.ForeignUnit n) (sym is ∙ stop_of_foreign m v []))
-    foreign_by m f is (inr (inl own)) = absurd (none_is_some (sym (stop_of_own m own []) ∙ is))
-    foreign_by m f is (inr (inr none)) = absurd (none_is_some (sym (stop_of_neither m none) ∙ is))
-
-    -- the one fault before the end is that of another version
-    pub foreign_before : (m : ℕ) (heard x : List Visit) (f : RunFault) → front ≡ heard ++ x
-        → stop_after made m [] heard ≡ Some f
-        → (v : Foreign) × (f ≡ fault.ForeignUnit n)
-    foreign_before m heard x f e is =
-        foreign_by m f (ap (stop_after made m []) (append-nil front ∙ e) ∙ stop_front made m [] heard x f is) one_of
+  pub foreign_front : Foreign dialect n c → (more : List Visit)
+      → comes_to made dialect.order (goes m [] text) ((visits dialect n c ++ open_visit is_open) ++ more)
+      ≡ stopped text (fault.ForeignUnit n)
+  foreign_front v more =
+      rw (foreign_visits dialect n c v)
+      (stays_stopped made dialect.order text (fault.ForeignUnit n) (open_visit is_open ++ more))

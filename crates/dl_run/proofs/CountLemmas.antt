@@ -1,21 +1,10 @@
 -- Counts of the current unit, where its reader tells an event.
-use Rattle.std.proofs.Common.{◌≡◌, ◌<◌, ℕ, ◌+◌, ◌^◌, Bool, true, false, List, [], ◌∷◌, ◌++◌, length, map, take}
-use Rattle.std.proofs.Common.{append-nil, arith, refl, sym, ap, ◌∙◌, subst, append_assoc, length-append, length-take}
-use Rattle.std.specs.Prelude.{◌||◌}
-use Rattle.std.proofs.lemmas.List.Sums.{count_by-le-length}
-use Rattle.std.specs.List.{concat}
-use Rattle.dl_head.specs.declared.dialect.Dialect.{Dialect}
-use Rattle.dl_rows.specs.declared.row.Row.{Row}
-use Rattle.dl_rows.specs.declared.reader.Event.{Event}
-use Rattle.dl_rows.specs.declared.reader.Event.TheVariants as event
-use Rattle.dl_rows.specs.declared.reader.Fed.{Fed}
-use Rattle.dl_rows.specs.declared.reader.Reader.{Reader}
-use Rattle.dl_rows.specs.LineUnit.{events}
-use Rattle.dl_rows.specs.Reading.{told, FeedsAfter}
+use Rattle.dl_run.proofs.Names.{◌++◌, ◌+◌, ◌<◌, ◌^◌, ◌||◌, ◌∙◌, ◌∷◌, ◌≡◌, [], ap, append-nil, append_assoc, arith}
+use Rattle.dl_run.proofs.Names.{Bool, concat, count_by-le-length, Counted, counted, Dialect, ends, Event, events}
+use Rattle.dl_run.proofs.Names.{false, Fed, FeedsAfter, is_foreign, length, length-append, length-take, List, map}
+use Rattle.dl_run.proofs.Names.{refl, Row, row_told, rows_told, SectionUnits, sym, take, told, true, UnitsAre, ℕ}
+use Rattle.dl_run.proofs.Names.event
 use Rattle.dl_rows.specs.ReaderStands.{StandsFor}
-use Rattle.dl_run.specs.declared.section.SectionUnits.{SectionUnits}
-use Rattle.dl_run.specs.Told.{ends, Counted}
-use Rattle.dl_run.specs.UnitsRead.{UnitsAre, counted, row_told, rows_told, is_foreign}
 use Rattle.dl_run.proofs.EventLemmas.{rows_told-append, rows_told-rows, none_told, no_version}
 use Rattle.dl_run.proofs.ToldLemmas.{ends-append}
 use Rattle.dl_run.proofs.SectionLemmas.{few_told}
@@ -23,11 +12,7 @@ use Rattle.dl_run.proofs.SectionLemmas.{few_told}
 foreign-append : (es more : List Event) → is_foreign (es ++ more) ≡ (is_foreign es || is_foreign more)
 foreign-append [] more = refl
 foreign-append (event.Foreign version ∷ es) more = refl
-foreign-append (event.More ∷ es) more = foreign-append es more
-foreign-append (event.Header ∷ es) more = foreign-append es more
-foreign-append (event.Row r ∷ es) more = foreign-append es more
-foreign-append (event.End ∷ es) more = foreign-append es more
-foreign-append (event.NoMemory ∷ es) more = foreign-append es more
+foreign-append (e ∷ es) more = foreign-append es more
 
 or_false : (x : Bool) → (x || false) ≡ x
 or_false true = refl
@@ -40,20 +25,12 @@ or_true false = refl
 module _ (u : SectionUnits) where
   foreign_more : (e : Event) (x : Bool) → u.is_foreign ≡ x → (counted e u).is_foreign ≡ (x || is_foreign (told e))
   foreign_more (event.Foreign version) x is = sym (or_true x)
-  foreign_more (event.Row r) x is = is ∙ sym (or_false x)
-  foreign_more event.More x is = is ∙ sym (or_false x)
-  foreign_more event.Header x is = is ∙ sym (or_false x)
-  foreign_more event.End x is = is ∙ sym (or_false x)
-  foreign_more event.NoMemory x is = is ∙ sym (or_false x)
+  foreign_more e x is = is ∙ sym (or_false x)
 
   -- what an event leaves as it is
   same_but : (e : Event) → counted e u ≡ record u { is_foreign = (counted e u).is_foreign }
-  same_but event.More = refl
-  same_but event.Header = refl
   same_but (event.Foreign version) = refl
-  same_but (event.Row r) = refl
-  same_but event.End = refl
-  same_but event.NoMemory = refl
+  same_but e = refl
 
 module _ (dialect : Dialect) (u : SectionUnits) (t piece : List ℕ) (units : List (List ℕ)) (b : List ℕ)
     (are : UnitsAre dialect u t units b) (v : SectionUnits) (own : v.reader.dialect ≡ dialect)
@@ -71,19 +48,28 @@ module _ (dialect : Dialect) (u : SectionUnits) (t piece : List ℕ) (units : Li
       let x = take fed.used piece in
       let c = b ++ x in
       let e = fed.event in
-      let w : SectionUnits = counted e v in
-      let but : w ≡ record v { is_foreign = w.is_foreign } = same_but v e in
       let before = events dialect b ++ map event.Row rows in
+      let now : counted e v ≡ record u {
+        reader = v.reader;
+        sequences = v.sequences;
+        rows = v.rows;
+        is_foreign = (counted e v).is_foreign;
+      } = same_but v e ∙ ap (λ (z : SectionUnits). record z { is_foreign = (counted e v).is_foreign }) same in
       let rows_are : rows_told (events dialect c) ≡ rows_told (events dialect b) ++ rows =
-      ap rows_told f.answered.grows ∙ rows_told-append before (told e)
-      ∙ ap (λ (l : List Row). rows_told before ++ l) (none_told e none) ∙ append-nil (rows_told before)
-      ∙ rows_told-append (events dialect b) (map event.Row rows)
-      ∙ ap (λ (l : List Row). rows_told (events dialect b) ++ l) (rows_told-rows rows) in
+      ap rows_told f.answered.grows ∙ rw (
+        rows_told-append before (told e),
+        none_told e none,
+        append-nil,
+        rows_told-append (events dialect b) (map event.Row rows),
+        rows_told-rows rows,
+      ) refl in
       let foreign_are : is_foreign (events dialect c) ≡ (is_foreign (events dialect b) || is_foreign (told e)) =
-      ap is_foreign f.answered.grows ∙ foreign-append before (told e)
-      ∙ ap (λ (y : Bool). y || is_foreign (told e)) (foreign-append (events dialect b) (map event.Row rows)
-      ∙ ap (λ (y : Bool). is_foreign (events dialect b) || y) (no_version rows)
-      ∙ or_false (is_foreign (events dialect b))) in
+      ap is_foreign f.answered.grows ∙ rw (
+        foreign-append before (told e),
+        foreign-append (events dialect b) (map event.Row rows),
+        no_version rows,
+        or_false (is_foreign (events dialect b)),
+      ) refl in
       let size : length (rows_told (events dialect c)) < 2 ^ 64 =
       omega (
         arith,
@@ -98,23 +84,15 @@ module _ (dialect : Dialect) (u : SectionUnits) (t piece : List ℕ) (units : Li
       let lengths = ap length rows_are ∙ length-append (rows_told (events dialect b)) rows in
       let all_ends = ap ends rows_are ∙ ends-append (rows_told (events dialect b)) rows in
       let few = count_by-le-length (λ (r : Row). r.end_sequence) (rows_told (events dialect c)) in
-      record {
-        has = record {
-          whole = ap (λ (l : List ℕ). l ++ x) are.has.whole ∙ append_assoc (concat units) b x;
-          each =
-              are.has.each;
-        };
-        dialect_is = ap (λ (z : SectionUnits). z.dialect) but ∙ ap (λ (z : SectionUnits). z.dialect) same
-            ∙ are.dialect_is;
-        reader_dialect = ap (λ (z : SectionUnits). z.reader.dialect) but ∙ own;
-        stands = subst (λ (r : Reader). StandsFor r c) (sym (ap (λ (z : SectionUnits). z.reader) but)) f.stands;
-        offset = ap (λ (z : SectionUnits). z.offset) but ∙ ap (λ (z : SectionUnits). z.offset) same ∙ are.offset;
+      rw now (record {
+        has = record { whole = rw are.has.whole (append_assoc (concat units) b x); each = are.has.each };
+        dialect_is = are.dialect_is;
+        reader_dialect = own;
+        stands = f.stands;
+        offset = are.offset;
         foreign = foreign_more v e _ (ap (λ (z : SectionUnits). z.is_foreign) same ∙ are.foreign) ∙ sym foreign_are;
-        sequences =
-            ap (λ (z : SectionUnits). z.sequences) but
-            ∙ counts.of_ends (omega (arith, are.sequences, size, all_ends, few))
-            ∙ ap (λ (n : ℕ). n + ends rows) are.sequences ∙ sym all_ends;
-        rows = ap (λ (z : SectionUnits). z.rows) but ∙ counts.of_rows (omega (arith, are.rows, size, lengths))
-            ∙ ap (λ (n : ℕ). n + length rows) are.rows ∙ sym lengths;
-        summary = ap (λ (z : SectionUnits). z.summary) but ∙ ap (λ (z : SectionUnits). z.summary) same ∙ are.summary;
-      }
+        sequences = counts.of_ends (omega (arith, are.sequences, size, all_ends, few))
+            ∙ rw are.sequences (sym all_ends);
+        rows = counts.of_rows (omega (arith, are.rows, size, lengths)) ∙ rw are.rows (sym lengths);
+        summary = are.summary;
+      })

@@ -1,85 +1,52 @@
 -- How a dump goes on, and what it comes to.
-use Rattle.std.proofs.Common.{◌≡◌, inl, inr, ℕ, List, [], ◌∷◌, ◌++◌, Option, Result, Ok, Err, refl, sym, ap, ◌∙◌, subst}
-use Rattle.std.proofs.Common.{append-nil}
-use Rattle.std.proofs.lemmas.Grind.{flat_map-append}
-use Rattle.dl_head.specs.declared.dialect.Dialect.{Dialect}
-use Rattle.dl_run.specs.declared.dumping.Dumper.{Dumper}
-use Rattle.dl_run.specs.declared.fault.RunFault.{RunFault}
-use Rattle.dl_run.specs.declared.fault.RunFault.TheVariants as fault
-use Rattle.dl_print.specs.declared.summary.Summary.{Summary}
-use Rattle.dl_run.specs.Commands.{Dumps}
-use Rattle.dl_run.specs.Dumping.{HasDumped, dump_story}
-use Rattle.dl_print.specs.Output.{HasPrinted}
-use Rattle.dl_run.specs.RunOutput.{TellsOut}
-use Rattle.dl_run.specs.Section.{Visit, section_visits}
-use Rattle.dl_run.specs.SectionText.{visit_text, visits_text}
-use Rattle.dl_print.specs.ValueText.{Strings, strings_of}
-use Rattle.dl_run.specs.Visiting.{StopsIn, Ran}
+use Rattle.dl_run.proofs.Names.{◌++◌, ◌∷◌, ◌≡◌, [], append-nil, Dialect, dump_story, Dumper, Dumps, ends, Err}
+use Rattle.dl_run.proofs.Names.{flat_map, flat_map-append, HasDumped, inl, inr, List, Ok, Option, Printed, Prints}
+use Rattle.dl_run.proofs.Names.{Ran, refl, Result, RunFault, StopsIn, strings_of, Summary, Visit, visit_text}
+use Rattle.dl_run.proofs.Names.{visits_text, Write, WriteFault, ℕ, ⊤}
+use Rattle.dl_run.proofs.Names.fault
 use Rattle.dl_run.proofs.OutLemmas.{TellsOut-more}
 
-text-push : (s : Strings) (visits : List Visit) (v : Visit)
-    → visits_text s (visits ++ v ∷ []) ≡ visits_text s visits ++ visit_text s v
-text-push s visits v =
-    flat_map-append (visit_text s) visits (v ∷ [])
-    ∙ ap (λ (l : List ℕ). visits_text s visits ++ l) (append-nil (visit_text s v))
-
-module _ (first old new : Dumper) (start before after : Option (List ℕ)) (visits : List Visit) (v : Visit)
-    (dumped : HasDumped first old start before visits) (same : new.strings ≡ old.strings) where
-  abbrev shown : List ℕ
-  shown = visits_text (strings_of first.strings) visits ++ visit_text (strings_of first.strings) v
+module _ {first old : Dumper} {start before : Option (List ℕ)} {visits : List Visit}
+    (dumped : HasDumped first old start before visits) (printer : Printed) (after : Option (List ℕ)) (v : Visit) where
+  text_more : visits_text (strings_of first.strings) (visits ++ v ∷ [])
+      ≡ visits_text (strings_of first.strings) visits ++ visit_text (strings_of first.strings) v
+  text_more = rw (flat_map-append (visit_text (strings_of first.strings)) visits (v ∷ []), append-nil) refl
 
   -- the text of a visit is printed
-  pub prints_visit : HasPrinted start after shown new.printer → HasDumped first new start after (visits ++ v ∷ [])
-  prints_visit printed = record {
-    strings = same ∙ dumped.strings;
-    printed =
-        subst (λ (l : List ℕ). HasPrinted start after l new.printer)
-        (sym (text-push (strings_of first.strings) visits v)) printed;
+  pub prints_visit : Prints {A = ⊤} before after old.printer printer (visit_text (strings_of old.strings) v) (Ok tt)
+      → HasDumped first (record old { printer = printer }) start after (visits ++ v ∷ [])
+  prints_visit prints = record {
+    strings = dumped.strings;
+    printed = rw text_more
+        (rw dumped.strings at (prints start (visits_text (strings_of first.strings) visits) dumped.printed));
   }
 
   -- or a write failed
-  pub loses_visit : (out : ℕ) → TellsOut start after shown (fault.Write out)
-      → StopsIn dump_story first new start after visits (v ∷ []) (fault.Write out)
-  loses_visit out t = (
+  pub loses_visit : (f : WriteFault)
+      → Prints {A = ⊤} before after old.printer printer (visit_text (strings_of old.strings) v) (Err f)
+      → StopsIn dump_story first old start after visits (v ∷ []) (fault.Write f.out)
+  loses_visit f loses = (
     v ∷ [],
     [],
     refl,
-    subst (λ (l : List ℕ). TellsOut start after l (fault.Write out))
-        (sym (text-push (strings_of first.strings) visits v)) t,
+    rw text_more (rw dumped.strings at (loses start (visits_text (strings_of first.strings) visits) dumped.printed)),
   )
-
--- what is out of the text of some visits is out of that of all
-pub out_of_all : (s : Strings) (start now : Option (List ℕ)) (visits heard more : List Visit) (f : RunFault)
-    → visits ≡ heard ++ more → TellsOut start now (visits_text s heard) f → TellsOut start now (visits_text s visits) f
-out_of_all s start now visits heard more f is t =
-    subst (λ (l : List ℕ). TellsOut start now l f) (sym (flat_map-append (visit_text s) heard more)
-    ∙ sym (ap (visits_text s) is)) (TellsOut-more start now (visits_text s heard) (visits_text s more) f t)
 
 module _ (dialect : Dialect) (limit : ℕ) (bytes : List ℕ) (left : Option (List ℕ)) (first new : Dumper)
     (start now : Option (List ℕ)) where
+  -- what is out of the text of some visits is out of that of all
   pub dumps : (result : Result Summary RunFault) → Ran dump_story dialect limit bytes left first new start now result
       → Dumps dialect (strings_of first.strings) limit bytes left start now result
   dumps (Ok summary) (inl (units, ends, settled)) = (units, [], [], ends, settled.out)
   dumps (Ok summary) (inr done) = absurd done.4.tells
-  dumps (Err (fault.Write out)) (units, b, back, has, writes) = (
-    units,
-    b,
-    back,
-    has,
-    out_of_all (strings_of first.strings) start now (section_visits dialect units b) writes.0 writes.1 (fault.Write out)
-        writes.2 writes.3,
-  )
-  dumps (Err (fault.Damage offset kind)) (units, b, back, inl (ends, settled)) = (units, b, back, ends, settled.out)
-  dumps (Err fault.NoMemory) (units, b, back, inl (ends, settled)) = (units, b, back, ends, settled.out)
-  dumps (Err fault.Read) (units, b, back, inl (ends, settled)) = (units, b, back, ends, settled.out)
-  dumps (Err fault.SectionTooLong) (units, b, back, inl (ends, settled)) = (units, b, back, ends, settled.out)
-  dumps (Err fault.NotFound) (units, b, back, inl (ends, settled)) = (units, b, back, ends, settled.out)
-  dumps (Err (fault.ForeignUnit unit)) (units, b, back, inl (ends, settled)) = (units, b, back, ends, settled.out)
-  dumps (Err (fault.Emit unit f)) (units, b, back, inl (ends, settled)) = (units, b, back, ends, settled.out)
-  dumps (Err (fault.Damage offset kind)) (units, b, back, inr (has, sound, stops)) = absurd stops.reason
-  dumps (Err fault.NoMemory) (units, b, back, inr (has, sound, stops)) = absurd stops.reason
-  dumps (Err fault.Read) (units, b, back, inr (has, sound, stops)) = absurd stops.reason
-  dumps (Err fault.SectionTooLong) (units, b, back, inr (has, sound, stops)) = absurd stops.reason
-  dumps (Err fault.NotFound) (units, b, back, inr (has, sound, stops)) = absurd stops.reason
-  dumps (Err (fault.ForeignUnit unit)) (units, b, back, inr (has, sound, stops)) = absurd stops.reason
-  dumps (Err (fault.Emit unit f)) (units, b, back, inr (has, sound, stops)) = absurd stops.reason
+  dumps (Err (fault.Write out)) ran =
+      let text = visit_text (strings_of first.strings) in (
+        ran.0,
+        ran.1,
+        ran.2,
+        ran.3,
+        rw (ran.4.2, flat_map-append text ran.4.0 ran.4.1)
+            (TellsOut-more start now (flat_map text ran.4.0) (flat_map text ran.4.1) (fault.Write out) ran.4.3),
+      )
+  dumps (Err f) (units, b, back, inl (ends, settled)) = (units, b, back, ends, settled.out)
+  dumps (Err f) (units, b, back, inr (has, sound, stops)) = absurd stops.reason

@@ -1,21 +1,11 @@
 -- Events of a unit, and the visits, rows and versions that they tell.
-use Rattle.dl_head.specs.declared.dialect.Dialect.{Dialect}
-use Rattle.std.proofs.Common.{◌≡◌, ℕ, false, List, [], ◌∷◌, ◌++◌, map, flat_map, Option, Some, None, refl, sym, ap, ap₂}
-use Rattle.std.proofs.Common.{◌∙◌, append_assoc}
-use Rattle.std.specs.Prelude.{is_some}
-use Rattle.std.proofs.lemmas.Grind.{flat_map-append}
-use Rattle.dl_num.specs.declared.fixed.Order.{Order}
-use Rattle.dl_field.specs.HeaderData.{HeaderData}
-use Rattle.dl_head.specs.Header.{foreign_in, header_in}
-use Rattle.dl_rows.specs.declared.row.Row.{Row}
-use Rattle.dl_rows.specs.declared.reader.Event.{Event}
-use Rattle.dl_rows.specs.declared.reader.Event.TheVariants as event
-use Rattle.dl_rows.specs.LineUnit.{rows_in, rows_later, unit_rows, own_events, events_of, events}
-use Rattle.dl_rows.proofs.UnitLemmas.{header_on}
-use Rattle.dl_rows.proofs.ReaderLemmas.{foreign_no_header, no_rows}
-use Rattle.dl_rows.specs.Reading.{told}
-use Rattle.dl_run.specs.Section.{Visit, of_row, header_of, event_visits, visits}
-use Rattle.dl_run.specs.UnitsRead.{row_told, rows_told, is_foreign}
+use Rattle.dl_run.proofs.Names.{◌++◌, ◌∷◌, ◌≡◌, [], ap, append_assoc, Dialect, Event, event_visits, events, events_of}
+use Rattle.dl_run.proofs.Names.{false, flat_map, flat_map-append, foreign_in, foreign_no_header, header_in, header_of}
+use Rattle.dl_run.proofs.Names.{header_on, HeaderData, is_foreign, is_some, List, map, no_rows, None, of_row, Option}
+use Rattle.dl_run.proofs.Names.{option_map, Order, own_events, refl, Row, row_told, rows_in, rows_later, rows_told}
+use Rattle.dl_run.proofs.Names.{Some, sym, told, unit_rows, Visit, visits, ℕ}
+use Rattle.dl_run.proofs.Names.event
+use Rattle.dl_run.proofs.Fronts.{none_is_some, value_same}
 
 -- ---- rows
 
@@ -26,8 +16,7 @@ rows_told-rows (r ∷ rows) = ap (λ (l : List Row). r ∷ l) (rows_told-rows ro
 pub rows_told-append : (es more : List Event) → rows_told (es ++ more) ≡ rows_told es ++ rows_told more
 rows_told-append [] more = refl
 rows_told-append (e ∷ es) more =
-    ap (λ (l : List Row). row_told e ++ l) (rows_told-append es more)
-    ∙ sym (append_assoc (row_told e) (rows_told es) (rows_told more))
+    rw (rows_told-append es more) (simp append_assoc)
 
 rows_of_own : (order : Order) (parts : Option (HeaderData × List ℕ))
     → rows_told (own_events order parts) ≡ rows_later order parts
@@ -46,11 +35,7 @@ rows_of_events dialect b = rows_by dialect b (foreign_in dialect b) refl
 -- an event that tells no row
 pub none_told : (e : Event) → row_told e ≡ [] → rows_told (told e) ≡ []
 none_told (event.Row r) none = none
-none_told event.More none = refl
-none_told event.Header none = refl
-none_told (event.Foreign version) none = refl
-none_told event.End none = refl
-none_told event.NoMemory none = refl
+none_told e none = refl
 
 -- rows are visits of their own, whatever the header
 pub rows_visited : (offset : ℕ) (h : Option HeaderData) (rows : List Row)
@@ -90,21 +75,9 @@ same_visits : (dialect : Dialect) (offset : ℕ) (b x : List ℕ) (parts : Optio
     → header_in dialect b ≡ parts
     → flat_map (event_visits offset (header_of dialect (b ++ x))) (events dialect b) ≡ visits dialect offset b
 same_visits dialect offset b x None is =
-    ap (λ (p : Option (HeaderData × List ℕ)). flat_map (event_visits offset (header_of dialect (b ++ x)))
-    (events_of dialect.order (foreign_in dialect b) p)) is
-    ∙ headerless offset (header_of dialect (b ++ x)) dialect.order (foreign_in dialect b)
-    ∙ sym (ap
-    (λ (p : Option (HeaderData × List ℕ)). flat_map
-    (event_visits offset (Rattle.std.specs.Option.option_map (λ parts. parts.0) p))
-    (events_of dialect.order (foreign_in dialect b) p)) is)
+    rw is (headerless offset (header_of dialect (b ++ x)) dialect.order (foreign_in dialect b))
 same_visits dialect offset b x (Some (h, program)) is =
-    ap₂ (λ (p q : Option (HeaderData × List ℕ)). flat_map
-    (event_visits offset (Rattle.std.specs.Option.option_map (λ parts. parts.0) p))
-    (events_of dialect.order (foreign_in dialect b) q)) (header_on dialect b x h program is) is
-    ∙ sym (ap
-    (λ (p : Option (HeaderData × List ℕ)). flat_map
-    (event_visits offset (Rattle.std.specs.Option.option_map (λ parts. parts.0) p))
-    (events_of dialect.order (foreign_in dialect b) p)) is)
+    rw (header_on dialect b x h program is, is) refl
 
 -- where the events grow, so do the visits
 pub visits_grow : (dialect : Dialect) (offset : ℕ) (b x : List ℕ) (told : List Event)
@@ -112,7 +85,19 @@ pub visits_grow : (dialect : Dialect) (offset : ℕ) (b x : List ℕ) (told : Li
     → visits dialect offset (b ++ x) ≡ visits dialect offset b
     ++ flat_map (event_visits offset (header_of dialect (b ++ x))) told
 visits_grow dialect offset b x told grows =
-    let at = event_visits offset (header_of dialect (b ++ x)) in
-    ap (flat_map at) grows
-    ∙ flat_map-append at (events dialect b) told
-    ∙ ap (λ (l : List Visit). l ++ flat_map at told) (same_visits dialect offset b x (header_in dialect b) refl)
+    rw (
+      grows,
+      flat_map-append (event_visits offset (header_of dialect (b ++ x))) (events dialect b) told,
+      same_visits dialect offset b x (header_in dialect b) refl,
+    ) refl
+
+-- ---- headers
+
+-- the bytes that a header stands in front of
+pub header_parts : (dialect : Dialect) (b : List ℕ) (h : HeaderData) → header_of dialect b ≡ Some h
+    → (program : List ℕ) × (header_in dialect b ≡ Some (h, program))
+header_parts dialect b h is = by (header_in dialect b) refl is where
+  by : (parts : Option (HeaderData × List ℕ)) → header_in dialect b ≡ parts → option_map (λ p. p.0) parts ≡ Some h
+      → (program : List ℕ) × (header_in dialect b ≡ Some (h, program))
+  by None e some = absurd (none_is_some some)
+  by (Some (g, program)) e some = let same : g ≡ h = value_same g h some in (program, rw same at e)

@@ -1,119 +1,13 @@
 -- What is found in the visits of a section.
-use Rattle.std.proofs.Common.{[], ◌≡◌, ◌⊎◌, inl, inr, ℕ, ◌+◌, Bool, true, false, List, ◌∷◌, ◌++◌, length, flat_map}
-use Rattle.std.proofs.Common.{Option, Some, None, arith, refl, sym, ap, ◌∙◌, append_assoc}
-use Rattle.std.proofs.Common.{append-nil, length-append}
-use Rattle.std.specs.Prelude.{option_map}
-use Rattle.std.specs.List.{concat}
-use Rattle.std.specs.Option.{option_or}
-use Rattle.dl_head.specs.declared.dialect.Dialect.{Dialect}
-use Rattle.dl_field.specs.HeaderData.{HeaderData}
-use Rattle.dl_head.specs.Header.{header_in}
-use Rattle.dl_rows.specs.declared.row.Row.{Row}
-use Rattle.dl_rows.specs.declared.reader.Event.{Event}
-use Rattle.dl_rows.specs.declared.reader.Event.TheVariants as event
-use Rattle.dl_rows.specs.LineUnit.{rows_in, rows_later, unit_rows, ends_open, events}
-use Rattle.dl_look.specs.declared.place.Place.{Place}
-use Rattle.dl_look.specs.Answer.{answer}
-use Rattle.dl_run.specs.Commands.{IsFound, NoneAnswers}
-use Rattle.dl_run.specs.Finding.{answer_under, found_after}
-use Rattle.dl_run.specs.RowsTold.{rows_after}
-use Rattle.dl_run.specs.Section.{Visit, of_header, of_version, of_row, of_open, of_end, HasUnits}
-use Rattle.dl_run.specs.Section.{header_of, header_visit, event_visits, visits, open_visit, end_visits, unit_visits}
-use Rattle.dl_run.specs.Section.{units_visits, section_visits}
-use Rattle.dl_run.specs.UnitsRead.{rows_told}
-use Rattle.dl_run.proofs.EventLemmas.{rows_of_events}
-use Rattle.dl_run.proofs.Fronts.{or_assoc, or_none, none_is_some, value_same, neither, map_none}
-use Rattle.dl_run.proofs.SectionLemmas.{section_visits-push, has_front}
-use Rattle.dl_run.proofs.VisitLemmas.{rows_after-append}
-
--- ---- visits one after the other
-
--- what is found in visits of two lists
-pub found_after-append : (x : Place) (rows : List Row) (a b : List Visit)
-    → found_after x rows (a ++ b) ≡ option_or (found_after x rows a) (found_after x (rows_after rows a) b)
-found_after-append x rows [] b = refl
-found_after-append x rows (of_header n h ∷ a) b = found_after-append x rows a b
-found_after-append x rows (of_version n v ∷ a) b = found_after-append x rows a b
-found_after-append x rows (of_row r ∷ a) b = found_after-append x (rows ++ r ∷ []) a b
-found_after-append x rows (of_open ∷ a) b = found_after-append x rows a b
-found_after-append x rows (of_end h ∷ a) b =
-    ap (option_or (answer_under x rows h)) (found_after-append x [] a b)
-    ∙ sym (or_assoc (answer_under x rows h) (found_after x [] a) (found_after x (rows_after [] a) b))
-
--- what is found in the front is found
-pub found_front : (x : Place) (a b : List Visit) (f : HeaderData × Row) → found_after x [] a ≡ Some f
-    → found_after x [] (a ++ b) ≡ Some f
-found_front x a b f is =
-    found_after-append x [] a b
-    ∙ ap (λ (o : Option (HeaderData × Row)). option_or o (found_after x (rows_after [] a) b)) is
-
--- ---- the visits of a unit
-
-rows_of_header : (offset : ℕ) (h : Option HeaderData) (rows : List Row) (more : List Visit)
-    → rows_after rows (header_visit offset h ++ more) ≡ rows_after rows more
-rows_of_header offset None rows more = refl
-rows_of_header offset (Some h) rows more = refl
-
-rows_of_visits : (offset : ℕ) (h : Option HeaderData) (rows : List Row) (es : List Event)
-    → rows_after rows (flat_map (event_visits offset h) es) ≡ rows ++ rows_told es
-rows_of_visits offset h rows [] = sym (append-nil rows)
-rows_of_visits offset h rows (event.More ∷ es) = rows_of_visits offset h rows es
-rows_of_visits offset h rows (event.Header ∷ es) =
-    rows_of_header offset h rows (flat_map (event_visits offset h) es) ∙ rows_of_visits offset h rows es
-rows_of_visits offset h rows (event.Foreign v ∷ es) = rows_of_visits offset h rows es
-rows_of_visits offset h rows (event.Row r ∷ es) =
-    rows_of_visits offset h (rows ++ r ∷ []) es ∙ append_assoc rows (r ∷ []) (rows_told es)
-rows_of_visits offset h rows (event.NoMemory ∷ es) = rows_of_visits offset h rows es
-rows_of_visits offset h rows (event.End ∷ es) = rows_of_visits offset h rows es
-
-none_of_header : (x : Place) (offset : ℕ) (h : Option HeaderData) (rows : List Row) (more : List Visit)
-    → found_after x rows (header_visit offset h ++ more) ≡ found_after x rows more
-none_of_header x offset None rows more = refl
-none_of_header x offset (Some h) rows more = refl
-
-none_of_visits : (x : Place) (offset : ℕ) (h : Option HeaderData) (rows : List Row) (es : List Event)
-    → found_after x rows (flat_map (event_visits offset h) es) ≡ None
-none_of_visits x offset h rows [] = refl
-none_of_visits x offset h rows (event.More ∷ es) = none_of_visits x offset h rows es
-none_of_visits x offset h rows (event.Header ∷ es) =
-    none_of_header x offset h rows (flat_map (event_visits offset h) es) ∙ none_of_visits x offset h rows es
-none_of_visits x offset h rows (event.Foreign v ∷ es) = none_of_visits x offset h rows es
-none_of_visits x offset h rows (event.Row r ∷ es) = none_of_visits x offset h (rows ++ r ∷ []) es
-none_of_visits x offset h rows (event.NoMemory ∷ es) = none_of_visits x offset h rows es
-none_of_visits x offset h rows (event.End ∷ es) = none_of_visits x offset h rows es
-
-found_of_end : (x : Place) (rows : List Row) (is_open : Bool) (h : Option HeaderData)
-    → found_after x rows (open_visit is_open ++ of_end h ∷ []) ≡ answer_under x rows h
-found_of_end x rows true h = or_none (answer_under x rows h)
-found_of_end x rows false h = or_none (answer_under x rows h)
-
-rows_of_end : (rows : List Row) (is_open : Bool) (h : Option HeaderData)
-    → rows_after rows (open_visit is_open ++ of_end h ∷ []) ≡ []
-rows_of_end rows true h = refl
-rows_of_end rows false h = refl
-
--- ---- the visits of a section
-
-map_some : (own : HeaderData) (a : Option Row) (h : HeaderData) (r : Row)
-    → option_map {U = HeaderData × Row} (λ s. (own, s)) a ≡ Some (h, r) → (a ≡ Some r) × (Some own ≡ Some h)
-map_some own None h r e = absurd (none_is_some e)
-map_some own (Some s) h r e =
-    let p = value_same (own, s) (h, r) e in
-    (ap (λ (q : HeaderData × Row). Some q.1) p, ap (λ (q : HeaderData × Row). Some q.0) p)
-
-last_of : {A : Type 0} (xs : List A) → (xs ≡ []) ⊎ ((init : List A) × (last : A) × (xs ≡ init ++ last ∷ []))
-last_of [] = inl refl
-last_of {A} (x ∷ xs) = by (last_of xs) where
-  by : (xs ≡ []) ⊎ ((init : List A) × (last : A) × (xs ≡ init ++ last ∷ []))
-      → (x ∷ xs ≡ []) ⊎ ((init : List A) × (last : A) × (x ∷ xs ≡ init ++ last ∷ []))
-  by (inl e) = inr ([], x, ap (λ (l : List A). x ∷ l) e)
-  by (inr (init, last, e)) = inr (x ∷ init, last, ap (λ (l : List A). x ∷ l) e)
-
-same_front : {A : Type 0} (xs ys : List A) (x y : A) → xs ++ x ∷ [] ≡ ys ++ y ∷ [] → xs ≡ ys
-same_front [] [] x y e = refl
-same_front [] (b ∷ ys) x y e = absurd (omega (arith, ap length e, length-append ys (y ∷ [])))
-same_front (a ∷ xs) [] x y e = absurd (omega (arith, ap length e, length-append xs (x ∷ [])))
-same_front (a ∷ xs) (b ∷ ys) x y e = let same = same_front xs ys x y cc in cc
+use Rattle.dl_run.proofs.Names.{◌++◌, ◌+◌, ◌∙◌, ◌∷◌, ◌≡◌, ◌⊎◌, [], answer, answer_under, ap, append-nil, append_assoc}
+use Rattle.dl_run.proofs.Names.{arith, Bool, concat, Dialect, ends_open, false, finds, fold, fold-append, fold_stays}
+use Rattle.dl_run.proofs.Names.{foreign_no_header, HasUnits, header_in, header_of, HeaderData, inl, inr, IsFound}
+use Rattle.dl_run.proofs.Names.{length, length-append, List, map, no_rows, None, NoneAnswers, of_end, of_row}
+use Rattle.dl_run.proofs.Names.{open_visit, Option, Place, refl, Row, same_from_push, Search, search_of}
+use Rattle.dl_run.proofs.Names.{section_visits, seeks, seen, Some, sym, told, true, unit_rows, units_visits, Visit}
+use Rattle.dl_run.proofs.Names.{visits, ℕ}
+use Rattle.dl_run.proofs.CopyingVisits.{Foreign, Own, Neither, one_of, foreign_visits, own_visits, no_visits}
+use Rattle.dl_run.proofs.SectionLemmas.{has_front, section_visits-push}
 
 -- u is the first of the units that answers for x: the row r; h is its header
 pub record FirstOf (dialect : Dialect) (x : Place) (units : List (List ℕ)) (h : HeaderData) (r : Row) : Type 0 where
@@ -125,153 +19,166 @@ pub record FirstOf (dialect : Dialect) (x : Place) (units : List (List ℕ)) (h 
   pub row : answer (unit_rows dialect u) x ≡ Some r
   pub header : header_of dialect u ≡ Some h
 
+-- what a search over units came to; rows: those of the current unit
+pub data Sought (dialect : Dialect) (x : Place) (units : List (List ℕ)) (rows : List Row) (p : Search) : Type 0 where
+  none : NoneAnswers dialect x units → p ≡ seeks rows → Sought dialect x units rows p
+  found : (h : HeaderData) (r : Row) → FirstOf dialect x units h r → p ≡ finds h r → Sought dialect x units rows p
+
+-- the last of them apart
+last_of : {A : Type 0} (xs : List A) → (xs ≡ []) ⊎ ((init : List A) × (last : A) × (xs ≡ init ++ last ∷ []))
+last_of [] = inl refl
+last_of (x ∷ xs) = elim (last_of xs) [
+  | inl e ↦ inr ([], x, rw e refl)
+  | inr s ↦ inr (x ∷ s.0, s.1, ap (λ l. x ∷ l) s.2)
+]
+
 module _ (dialect : Dialect) (x : Place) where
-  -- a unit's answer, with its header
-  abbrev unit_answer : List ℕ → Option (HeaderData × Row)
-  unit_answer u = answer_under x (unit_rows dialect u) (header_of dialect u)
+  -- ---- visits
 
-  abbrev first_answer : List (List ℕ) → Option (HeaderData × Row)
-  first_answer [] = None
-  first_answer (u ∷ units) = option_or (unit_answer u) (first_answer units)
+  after_rows : (before rows : List Row) (more : List Visit)
+      → fold (seen x) (seeks before) (map of_row rows ++ more) ≡ fold (seen x) (seeks (before ++ rows)) more
+  after_rows before [] more = rw append-nil refl
+  after_rows before (r ∷ rows) more =
+      rw (append_assoc before (r ∷ []) rows) at (after_rows (before ++ r ∷ []) rows more)
 
-  found_of_unit : (offset : ℕ) (u : List ℕ) → found_after x [] (unit_visits dialect offset u) ≡ unit_answer u
-  found_of_unit offset u =
-      found_after-append x [] (visits dialect offset u) (end_visits dialect u)
-      ∙ ap (λ (o : Option (HeaderData × Row)). option_or o
-      (found_after x (rows_after [] (visits dialect offset u)) (end_visits dialect u)))
-      (none_of_visits x offset (header_of dialect u) [] (events dialect u))
-      ∙ ap (λ (l : List Row). found_after x l (end_visits dialect u))
-      (rows_of_visits offset (header_of dialect u) [] (events dialect u) ∙ rows_of_events dialect u)
-      ∙ found_of_end x (unit_rows dialect u) (ends_open (unit_rows dialect u)) (header_of dialect u)
+  after_visits : (n : ℕ) (c : List ℕ) (more : List Visit)
+      → fold (seen x) (seeks []) (visits dialect n c ++ more) ≡ fold (seen x) (seeks (unit_rows dialect c)) more
+  after_visits n c more = by (one_of dialect n c) where
+    by : Foreign dialect n c ⊎ (Own dialect n c ⊎ Neither dialect n c)
+        → fold (seen x) (seeks []) (visits dialect n c ++ more) ≡ fold (seen x) (seeks (unit_rows dialect c)) more
+    by (inl v) =
+        rw (foreign_visits dialect n c v, no_rows dialect c (foreign_no_header dialect c v.0 v.1)) refl
+    by (inr (inl own)) = rw (own_visits dialect n c own) (after_rows [] (unit_rows dialect c) more)
+    by (inr (inr neither)) = rw (no_visits dialect n c neither, no_rows dialect c neither.1) refl
 
-  rows_of_unit : (offset : ℕ) (u : List ℕ) → rows_after [] (unit_visits dialect offset u) ≡ []
-  rows_of_unit offset u =
-      rows_after-append [] (visits dialect offset u) (end_visits dialect u)
-      ∙ rows_of_end (rows_after [] (visits dialect offset u)) (ends_open (unit_rows dialect u)) (header_of dialect u)
+  after_open : (rows : List Row) (is_open : Bool) (more : List Visit)
+      → fold (seen x) (seeks rows) (open_visit is_open ++ more) ≡ fold (seen x) (seeks rows) more
+  after_open rows true more = refl
+  after_open rows false more = refl
 
-  found_of_units : (offset : ℕ) (units : List (List ℕ)) (more : List Visit) → found_after x [] more ≡ None
-      → found_after x [] (units_visits dialect offset units ++ more) ≡ first_answer units
-  found_of_units offset [] more none = none
-  found_of_units offset (u ∷ units) more none =
-      ap (found_after x []) (append_assoc (unit_visits dialect offset u)
-      (units_visits dialect (offset + length u) units)
-      more)
-      ∙ found_after-append x [] (unit_visits dialect offset u) (units_visits dialect (offset + length u) units ++ more)
-      ∙ ap (λ (l : List Row). option_or (found_after x [] (unit_visits dialect offset u))
-      (found_after x l (units_visits dialect (offset + length u) units ++ more))) (rows_of_unit offset u)
-      ∙ ap (λ (o : Option (HeaderData × Row)). option_or o
-      (found_after x [] (units_visits dialect (offset + length u) units ++ more))) (found_of_unit offset u)
-      ∙ ap (option_or (unit_answer u)) (found_of_units (offset + length u) units more none)
+  -- ---- units
 
-  -- what is found in the visits of a section is what its first unit with an answer gives
-  pub found_of_section : (units : List (List ℕ)) (b : List ℕ)
-      → found_after x [] (section_visits dialect units b) ≡ first_answer units
-  found_of_section units b =
-      found_of_units 0 units (visits dialect (length (concat units)) b)
-      (none_of_visits x (length (concat units)) (header_of dialect b) [] (events dialect b))
+  abbrev unit_seen : List ℕ → Search
+  unit_seen u = answer_under (header_of dialect u) (answer (unit_rows dialect u) x)
 
-  first_answer-append : (units more : List (List ℕ))
-      → first_answer (units ++ more) ≡ option_or (first_answer units) (first_answer more)
-  first_answer-append [] more = refl
-  first_answer-append (u ∷ units) more =
-      ap (option_or (unit_answer u)) (first_answer-append units more)
-      ∙ sym (or_assoc (unit_answer u) (first_answer units) (first_answer more))
+  -- units, and visits after them that give no answer
+  in_units : (n : ℕ) (units : List (List ℕ)) (more : List Visit) (rows : List Row)
+      → fold (seen x) (seeks []) more ≡ seeks rows
+      → Sought dialect x units rows (fold (seen x) (seeks []) (units_visits dialect n units ++ more))
+  in_units n [] more rows e = none tt e
+  in_units n (u ∷ units) more rows e =
+      by (header_in dialect u) refl (answer (unit_rows dialect u) x) refl
+      (in_units (n + length u) units more rows e) where
+        rest : List Visit
+        rest = units_visits dialect (n + length u) units ++ more
 
-  -- ---- where none is found
+        all : List Visit
+        all = units_visits dialect n (u ∷ units) ++ more
 
-  none_by : (parts : Option (HeaderData × List ℕ))
-      → answer_under x (rows_later dialect.order parts) (option_map (λ p. p.0) parts) ≡ None
-      → answer (rows_later dialect.order parts) x ≡ None
-  none_by None e = refl
-  none_by (Some (h, program)) e = map_none (λ (r : Row). (h, r)) (answer (rows_in dialect.order h.params program) x) e
+        after_unit : fold (seen x) (seeks []) all ≡ fold (seen x) (unit_seen u) rest
+        after_unit =
+            let is_open = ends_open (unit_rows dialect u) in
+            let end_is = of_end (header_of dialect u) ∷ rest in
+            simp append_assoc (after_visits n u (open_visit is_open ++ end_is)
+            ∙ after_open (unit_rows dialect u) is_open end_is)
 
-  none_first : (units : List (List ℕ)) → first_answer units ≡ None → NoneAnswers dialect x units
-  none_first [] e = tt
-  none_first (u ∷ units) e =
-      let none = neither (unit_answer u) (first_answer units) e in
-      (none_by (header_in dialect u) none.0, none_first units none.1)
+        silent : answer (unit_rows dialect u) x ≡ None → unit_seen u ≡ seeks []
+            → Sought dialect x units rows (fold (seen x) (seeks []) rest)
+            → Sought dialect x (u ∷ units) rows (fold (seen x) (seeks []) all)
+        silent quiet is (none each e) = none (quiet, each) (after_unit ∙ rw is e)
+        silent quiet is (found h r f e) = found h r (record {
+          before = u ∷ f.before;
+          u = f.u;
+          after = f.after;
+          whole = ap (λ (l : List (List ℕ)). u ∷ l) f.whole;
+          none_before = (quiet, f.none_before);
+          row = f.row;
+          header = f.header;
+        }) (after_unit ∙ rw is e)
+
+        by : (parts : Option (HeaderData × List ℕ)) → header_in dialect u ≡ parts → (a : Option Row)
+            → answer (unit_rows dialect u) x ≡ a → Sought dialect x units rows (fold (seen x) (seeks []) rest)
+            → Sought dialect x (u ∷ units) rows (fold (seen x) (seeks []) all)
+        by None e a is later = silent (rw (no_rows dialect u e) refl) (rw e refl) later
+        by (Some (h, program)) e None is later = silent is (rw (is, e) refl) later
+        by (Some (h, program)) e (Some r) is later =
+            let header : header_of dialect u ≡ Some h = rw e refl in
+            found h r (record {
+              before = [];
+              u = u;
+              after = units;
+              whole = refl;
+              none_before = tt;
+              row = is;
+              header = header;
+            }) (after_unit ∙ rw (header, is) (fold_stays (seen x) (finds h r) (λ v. refl) rest))
+
+  -- a section comes to what its units come to
+  pub in_section : (units : List (List ℕ)) (b : List ℕ)
+      → Sought dialect x units (unit_rows dialect b) (search_of x (section_visits dialect units b))
+  in_section units b =
+      let n = length (concat units) in
+      in_units 0 units (visits dialect n b) (unit_rows dialect b) (rw append-nil at (after_visits n b []))
 
   -- where nothing is found, no unit answers
-  pub none_answers : (units : List (List ℕ)) (b : List ℕ) → found_after x [] (section_visits dialect units b) ≡ None
-      → NoneAnswers dialect x units
-  none_answers units b e = none_first units (sym (found_of_section units b) ∙ e)
+  pub none_answers : (units : List (List ℕ)) (b : List ℕ) (rows : List Row)
+      → search_of x (section_visits dialect units b) ≡ seeks rows
+      → NoneAnswers dialect x units × (rows ≡ unit_rows dialect b)
+  none_answers units b rows is = elim (in_section units b) [
+    | none all e ↦ (all, cc)
+    | found h r f e ↦ absurd cc
+  ]
 
-  -- ---- where one is found
+  -- what is found is that of the first unit that answers
+  pub split_first : (units : List (List ℕ)) (b : List ℕ) (h : HeaderData) (r : Row)
+      → search_of x (section_visits dialect units b) ≡ finds h r → FirstOf dialect x units h r
+  split_first units b h r is = elim (in_section units b) [
+    | none all e ↦ absurd cc
+    | found g q f e ↦
+        let headers : h ≡ g = cc in
+        let rows : r ≡ q = cc in
+        rw (headers, rows) f
+  ]
 
-  answers_by : (rows : List Row) (header : Option HeaderData) (h : HeaderData) (r : Row)
-      → answer_under x rows header ≡ Some (h, r) → (answer rows x ≡ Some r) × (header ≡ Some h)
-  answers_by rows None h r e = absurd (none_is_some e)
-  answers_by rows (Some own) h r e = map_some own (answer rows x) h r e
+  -- that a sequence is open says nothing of answers
+  at_open : (units : List (List ℕ)) (b : List ℕ) (rows : List Row) (is_open : Bool)
+      → fold (seen x) (search_of x (section_visits dialect units b)) (open_visit is_open) ≡ seeks rows
+      → search_of x (section_visits dialect units b) ≡ seeks rows
+  at_open units b rows is_open e = by (search_of x (section_visits dialect units b)) is_open e where
+    by : (p : Search) (is_open : Bool) → fold (seen x) p (open_visit is_open) ≡ seeks rows → p ≡ seeks rows
+    by (seeks own) true e = e
+    by (finds h r) true e = e
+    by p false e = e
 
-  -- one of the units is the first that answers
-  pub split_first : (units : List (List ℕ)) (h : HeaderData) (r : Row) → first_answer units ≡ Some (h, r)
-      → FirstOf dialect x units h r
-  split_first [] h r e = absurd (none_is_some e)
-  split_first (u ∷ units) h r e = by (unit_answer u) refl (split_first units h r) where
-    by : (o : Option (HeaderData × Row)) → unit_answer u ≡ o
-        → (first_answer units ≡ Some (h, r) → FirstOf dialect x units h r) → FirstOf dialect x (u ∷ units) h r
-    by None is split =
-        let later = split (ap (λ (o : Option (HeaderData × Row)). option_or o (first_answer units)) (sym is) ∙ e) in
-        record {
-          before = u ∷ later.before;
-          u = later.u;
-          after = later.after;
-          whole = ap (λ (l : List (List ℕ)). u ∷ l) later.whole;
-          none_before = (none_by (header_in dialect u) is, later.none_before);
-          row = later.row;
-          header = later.header;
-        }
-    by (Some f) is split =
-        let own = answers_by (unit_rows dialect u) (header_of dialect u) h r (is
-        ∙ ap (λ (o : Option (HeaderData × Row)). option_or o (first_answer units)) (sym is) ∙ e) in
-        record {
-          before = [];
-          u = u;
-          after = units;
-          whole = refl;
-          none_before = tt;
-          row = own.0;
-          header = own.1;
-        }
-
-  -- where none is found before the last visit, the last of the units is the first that answers
-  pub last_first : (units : List (List ℕ)) (before : List Visit) (last : Visit) (h : HeaderData) (r : Row)
-      → section_visits dialect units [] ≡ before ++ last ∷ [] → found_after x [] before ≡ None
-      → found_after x [] (section_visits dialect units []) ≡ Some (h, r)
-      → (f : FirstOf dialect x units h r) × (f.after ≡ [])
-  last_first units before last h r whole none is = by (last_of units) where
+  -- what is found at the end of a unit is that unit's, which is the last
+  pub last_first : (units : List (List ℕ)) (before : List Visit) (rows : List Row) (h : HeaderData) (r : Row)
+      → section_visits dialect units [] ≡ before ++ of_end (Some h) ∷ [] → search_of x before ≡ seeks rows
+      → answer rows x ≡ Some r → (f : FirstOf dialect x units h r) × (f.after ≡ [])
+  last_first units before rows h r whole told row = by (last_of units) where
     by : (units ≡ []) ⊎ ((init : List (List ℕ)) × (u : List ℕ) × (units ≡ init ++ u ∷ []))
         → (f : FirstOf dialect x units h r) × (f.after ≡ [])
-    by (inl e) = absurd (none_is_some (ap first_answer (sym e) ∙ sym (found_of_section units []) ∙ is))
+    by (inl e) =
+        let nothing : [] ≡ before ++ of_end (Some h) ∷ [] = rw e at whole in
+        absurd (omega (arith, ap length nothing, length-append before (of_end (Some h) ∷ [])))
     by (inr (init, u, e)) =
-        let open_is = open_visit (ends_open (unit_rows dialect u)) in
-        let end_is = of_end (header_of dialect u) in
-        let visits_are : section_visits dialect init u ++ end_visits dialect u ≡ before ++ last ∷ [] =
-        sym (section_visits-push dialect init u) ∙ ap (λ (l : List (List ℕ)). section_visits dialect l []) (sym e)
-        ∙ whole in
-        let front : section_visits dialect init u ++ open_is ≡ before =
-        same_front (section_visits dialect init u ++ open_is) before end_is last
-        (append_assoc (section_visits dialect init u) open_is (end_is ∷ []) ∙ visits_are) in
-        let none_front = sym (found_after-append x [] (section_visits dialect init u) open_is)
-        ∙ ap (found_after x []) front ∙ none in
-        let none_init : first_answer init ≡ None =
-        sym (found_of_section init u)
-        ∙ (neither (found_after x [] (section_visits dialect init u))
-        (found_after x (rows_after [] (section_visits dialect init u)) open_is) none_front).0 in
-        let own : unit_answer u ≡ Some (h, r) =
-        sym (or_none (unit_answer u))
-        ∙ ap (λ (o : Option (HeaderData × Row)). option_or o (first_answer (u ∷ []))) (sym none_init)
-        ∙ sym (first_answer-append init (u ∷ [])) ∙ ap first_answer (sym e) ∙ sym (found_of_section units [])
-        ∙ is in
-        let answers = answers_by (unit_rows dialect u) (header_of dialect u) h r own in (
+        let is_open = open_visit (ends_open (unit_rows dialect u)) in
+        let parts = same_from_push (section_visits dialect init u ++ is_open) before (of_end (header_of dialect u))
+        (of_end (Some h))
+        (append_assoc (section_visits dialect init u) is_open (of_end (header_of dialect u) ∷ [])
+        ∙ sym (section_visits-push dialect init u) ∙ rw e at whole) in
+        let header : header_of dialect u ≡ Some h = cc (parts.1) in
+        let init_is = at_open init u rows (ends_open (unit_rows dialect u))
+        (sym (fold-append (seen x) (seeks []) (section_visits dialect init u) is_open)
+        ∙ ap (search_of x) parts.0 ∙ told) in
+        let none_init = none_answers init u rows init_is in (
           record {
             before = init;
             u = u;
             after = [];
             whole = e;
-            none_before = none_first init none_init;
-            row = answers.0;
-            header = answers.1;
+            none_before = none_init.0;
+            row = rw none_init.1 at row;
+            header = header;
           },
           refl,
         )
@@ -280,11 +187,9 @@ module _ (dialect : Dialect) (x : Place) where
   pub found_in_bytes : (s : List ℕ) (units : List (List ℕ)) (back : List ℕ) (h : HeaderData) (r : Row)
       → HasUnits dialect s units back → (f : FirstOf dialect x units h r)
       → IsFound dialect x s f.before f.u (concat f.after ++ back) h r
-  found_in_bytes s units back h r has f =
-      let all : units ≡ (f.before ++ f.u ∷ []) ++ f.after = f.whole ∙ sym (append_assoc f.before (f.u ∷ []) f.after) in
-      record {
-        has = has_front dialect s units (f.before ++ f.u ∷ []) f.after back all has;
-        none_before = f.none_before;
-        row = f.row;
-        header = f.header;
-      }
+  found_in_bytes s units back h r has f = record {
+    has = has_front dialect s units (f.before ++ f.u ∷ []) f.after back (f.whole ∙ simp append_assoc) has;
+    none_before = f.none_before;
+    row = f.row;
+    header = f.header;
+  }

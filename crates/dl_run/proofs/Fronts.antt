@@ -1,9 +1,7 @@
 -- Options one after the other, and the fronts of lists.
-use Rattle.std.proofs.Common.{◌≡◌, ◌⊎◌, inl, inr, List, [], ◌∷◌, ◌++◌, length, Option, Some, None, arith, refl, sym, ap}
-use Rattle.std.proofs.Common.{length-append}
-use Rattle.std.specs.Prelude.{option_map}
-use Rattle.std.specs.List.{AllByRecursion}
-use Rattle.std.specs.Option.{option_or}
+use Rattle.dl_run.proofs.Names.{◌++◌, ◌∙◌, ◌∷◌, ◌≡◌, ◌⊎◌, [], AllByRecursion, ap, arith, drop, drop_at, inl, inr}
+use Rattle.dl_run.proofs.Names.{length, length-append, List, None, Option, option_map, option_or, refl, Some, sym}
+use Rattle.dl_run.proofs.Names.{take, take_at}
 
 -- ---- options
 
@@ -34,6 +32,18 @@ map_none f (Some x) e = absurd (none_is_some (sym e))
 pub all_front : {A : Type 0} (P : A → Type 0) (xs ys : List A) → AllByRecursion P (xs ++ ys) → AllByRecursion P xs
 all_front P [] ys all = tt
 all_front P (x ∷ xs) ys all = (all.0, all_front P xs ys all.1)
+
+pub all_middle : {A : Type 0} (P : A → Type 0) (xs : List A) (x : A) (ys : List A) → AllByRecursion P (xs ++ x ∷ ys)
+    → P x
+all_middle P [] x ys all = all.0
+all_middle P (y ∷ xs) x ys all = all_middle P xs x ys all.1
+
+-- fronts of one length are one
+pub same_fronts : {A : Type 0} (u v x y : List A) → length u ≡ length v → u ++ x ≡ v ++ y → (u ≡ v) × (x ≡ y)
+same_fronts u v x y len e = (
+  sym (take_at u x (length v) len) ∙ ap (take (length v)) e ∙ take_at v y (length v) refl,
+  sym (drop_at u x (length v) len) ∙ ap (drop (length v)) e ∙ drop_at v y (length v) refl,
+)
 
 -- of two fronts of a list one is a front of the other
 pub fronts_of : {A : Type 0} (front : List A) (last : A) (rest heard more : List A)

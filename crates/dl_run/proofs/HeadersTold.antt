@@ -1,27 +1,18 @@
 -- The header that visits tell of the current unit.
-use Rattle.std.proofs.Common.{◌≡◌, ◌⊎◌, inl, inr, ℕ, ◌+◌, Bool, true, false, List, [], ◌∷◌, ◌++◌, length, map, Option}
-use Rattle.std.proofs.Common.{Some, None, refl, sym, ap, ◌∙◌}
-use Rattle.std.specs.Prelude.{option_map}
-use Rattle.std.specs.List.{concat}
-use Rattle.dl_head.specs.declared.dialect.Dialect.{Dialect}
-use Rattle.dl_field.specs.HeaderData.{HeaderData}
-use Rattle.dl_rows.specs.declared.row.Row.{Row}
-use Rattle.dl_rows.specs.LineUnit.{ends_open, unit_rows}
-use Rattle.dl_rows.proofs.ReaderLemmas.{foreign_no_header}
-use Rattle.dl_run.specs.Section.{Visit, of_header, of_version, of_row, of_open, of_end, header_of, visits, open_visit}
-use Rattle.dl_run.specs.Section.{end_visits, unit_visits, units_visits, section_visits}
-use Rattle.dl_run.specs.Visiting.{header_told}
-use Rattle.dl_run.proofs.CopyingVisits.{Foreign, Own, Neither, one_of, foreign_visits, own_visits, no_visits, header_is}
+use Rattle.dl_run.proofs.Names.{◌++◌, ◌+◌, ◌∙◌, ◌∷◌, ◌≡◌, ◌⊎◌, [], Bool, concat, Dialect, end_visits, ends_open}
+use Rattle.dl_run.proofs.Names.{false, foreign_no_header, header_of, header_told, HeaderData, inl, inr, length, List}
+use Rattle.dl_run.proofs.Names.{map, None, of_end, of_header, of_row, open_visit, Option, refl, Row, section_visits}
+use Rattle.dl_run.proofs.Names.{Some, true, unit_rows, unit_visits, units_visits, Visit, visits, ℕ}
+use Rattle.dl_run.proofs.CopyingVisits.{Foreign, Own, Neither, one_of, foreign_visits, own_visits, no_visits}
+use Rattle.dl_run.proofs.CopyingVisits.{header_is}
 
 -- by visits of two lists
 pub header_told-append : (h : Option HeaderData) (a b : List Visit)
     → header_told h (a ++ b) ≡ header_told (header_told h a) b
 header_told-append h [] b = refl
 header_told-append h (of_header n g ∷ a) b = header_told-append (Some g) a b
-header_told-append h (of_version n v ∷ a) b = header_told-append h a b
-header_told-append h (of_row r ∷ a) b = header_told-append h a b
-header_told-append h (of_open ∷ a) b = header_told-append h a b
 header_told-append h (of_end g ∷ a) b = header_told-append None a b
+header_told-append h (v ∷ a) b = header_told-append h a b
 
 of_open_none : (h : Option HeaderData) (is_open : Bool) → header_told h (open_visit is_open) ≡ h
 of_open_none h true = refl
@@ -48,27 +39,23 @@ module _ (dialect : Dialect) where
   none_of_units : (n : ℕ) (units : List (List ℕ)) → header_told None (units_visits dialect n units) ≡ None
   none_of_units n [] = refl
   none_of_units n (u ∷ units) =
-      header_told-append None (unit_visits dialect n u) (units_visits dialect (n + length u) units)
-      ∙ ap (λ (h : Option HeaderData). header_told h (units_visits dialect (n + length u) units)) (none_at_end n u)
-      ∙ none_of_units (n + length u) units
+      rw (
+        header_told-append None (unit_visits dialect n u) (units_visits dialect (n + length u) units),
+        none_at_end n u,
+      )
+      (none_of_units (n + length u) units)
 
   by_kind : (n : ℕ) (b : List ℕ) → Foreign dialect n b ⊎ (Own dialect n b ⊎ Neither dialect n b)
       → header_told None (visits dialect n b) ≡ header_of dialect b
-  by_kind n b (inl f) =
-      ap (header_told None) (foreign_visits dialect n b f)
-      ∙ sym (ap (λ (p : Option (HeaderData × List ℕ)). option_map (λ q. q.0) p) (foreign_no_header dialect b f.0 f.1))
+  by_kind n b (inl f) = rw (foreign_visits dialect n b f, foreign_no_header dialect b f.0 f.1) refl
   by_kind n b (inr (inl own)) =
-      ap (header_told None) (own_visits dialect n b own) ∙ rows_tell_none (Some own.0) (unit_rows dialect b)
-      ∙ sym (header_is dialect n b own)
-  by_kind n b (inr (inr none)) =
-      ap (header_told None) (no_visits dialect n b none)
-      ∙ sym (ap (λ (p : Option (HeaderData × List ℕ)). option_map (λ q. q.0) p) none.1)
+      rw (own_visits dialect n b own, header_is dialect n b own) (rows_tell_none (Some own.0) (unit_rows dialect b))
+  by_kind n b (inr (inr none)) = rw (no_visits dialect n b none, none.1) refl
 
   -- that of the bytes after the units
   pub header_of_section : (units : List (List ℕ)) (b : List ℕ)
       → header_told None (section_visits dialect units b) ≡ header_of dialect b
   header_of_section units b =
       let n = length (concat units) in
-      header_told-append None (units_visits dialect 0 units) (visits dialect n b)
-      ∙ ap (λ (h : Option HeaderData). header_told h (visits dialect n b)) (none_of_units 0 units)
-      ∙ by_kind n b (one_of dialect n b)
+      rw (header_told-append None (units_visits dialect 0 units) (visits dialect n b), none_of_units 0 units)
+      (by_kind n b (one_of dialect n b))

@@ -1,18 +1,16 @@
+pub mod Names
 pub mod OutLemmas
 pub mod EventLemmas
 pub mod Fronts
 pub mod SectionLemmas
 pub mod SectionCuts
 pub mod VisitsGrowth
-pub mod SectionGrowth
 pub mod OneAnswers
-pub mod OnePassing
+pub mod SectionGrowth
 pub mod PlainCopies
 pub mod OneCopying
-pub mod DumpFronts
 pub mod UnitsLemmas
 pub mod VisitLemmas
-pub mod HeaderPassed
 pub mod HeadersTold
 pub mod ToldLemmas
 pub mod CountLemmas
@@ -33,4 +31,3 @@ pub mod CopyingSections
 pub mod CopyingAnswers
 pub mod CopierLemmas
 pub mod CopiedUnits
-pub mod NewerUnits

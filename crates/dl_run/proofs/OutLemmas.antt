@@ -1,9 +1,6 @@
 -- What is said of the front of a text holds of the text.
-use Rattle.std.proofs.Common.{ℕ, List, ◌++◌, Option}
-use Rattle.dl_run.specs.RunOutput.{TellsOut}
-use Rattle.dl_run.specs.declared.fault.RunFault.{RunFault}
-use Rattle.dl_run.specs.declared.fault.RunFault.TheVariants.{Write}
-use Rattle.dl_print.proofs.Outs as outs
+use Rattle.dl_run.proofs.Names.{◌++◌, List, Option, RunFault, TellsOut, Write, ℕ}
+use Rattle.dl_run.proofs.Names.outs
 
 -- of a longer text no more is out
 pub TellsOut-more : (start now : Option (List ℕ)) (text more : List ℕ) (f : RunFault) → TellsOut start now text f

@@ -1,63 +1,32 @@
 -- The units of other versions, what is told of them, and what is kept of that.
-use Rattle.dl_head.specs.declared.dialect.Dialect.{Dialect}
-use Rattle.std.proofs.Common.{◌≡◌, ◌⊎◌, inl, inr, ℕ, ◌<◌, ◌≤◌, ◌+◌, min, max, List, [], ◌∷◌, ◌++◌, length, map}
-use Rattle.std.proofs.Common.{flat_map, Option, Some}
-use Rattle.std.proofs.Common.{None, Ok, Err, Bool, true, false, arith, refl, sym, ap, ap₂, ◌∙◌, subst, append-nil}
-use Rattle.std.proofs.Common.{length-append}
-use Rattle.std.specs.Prelude.{cond, is_some, option_to_list}
-use Rattle.std.specs.List.{Contains}
-use Rattle.std.proofs.lemmas.Bool.{cases_lt}
-use Rattle.std.proofs.lemmas.Grind.{flat_map-append}
-use Rattle.std.proofs.lemmas.List.Sums.{sum_by-cons}
-use Rattle.std.proofs.lemmas.List.Elements.{All-push, Contains-append_left, Contains-push}
-use Rattle.dl_num.specs.declared.fixed.Order.{Order}
-use Rattle.dl_field.specs.HeaderData.{HeaderData}
-use Rattle.dl_head.specs.Header.{foreign_in, header_in}
-use Rattle.dl_rows.specs.declared.row.Row.{Row}
-use Rattle.dl_rows.specs.declared.reader.Event.TheVariants as event
-use Rattle.dl_rows.specs.LineUnit.{ends_open, events_of, own_events, rows_later, unit_rows}
-use Rattle.dl_run.specs.declared.fault.RunFault.{RunFault}
-use Rattle.dl_run.specs.declared.fault.RunFault.TheVariants as fault
-use Rattle.dl_run.specs.declared.passing_over.OtherVersions.{OtherVersions}
-use Rattle.dl_run.specs.declared.passing_over.PassedOver.{PassedOver}
-use Rattle.dl_run.specs.declared.passing_over.VersionRange.{VersionRange}
-use Rattle.dl_print.specs.declared.summary.Summary.{Summary}
-use Rattle.dl_run.specs.PassedOver.{AreTold, IsGreatest, IsLeast, PassesOver, other_versions}
-use Rattle.dl_run.specs.PassingOver.{IsPassedOver, Spans, version_story, version_told, versions_told}
-use Rattle.dl_run.specs.Section.{Visit, of_row, of_end, header_of, header_visit, event_visits, visits, open_visit}
-use Rattle.dl_run.specs.Section.{end_visits, section_visits, summary_of, unit_visits, units_visits}
-use Rattle.dl_run.specs.Visiting.{Ran}
-use Rattle.dl_run.proofs.EventLemmas.{rows_visited}
+use Rattle.dl_run.proofs.Names.{◌++◌, ◌+◌, ◌∙◌, ◌∷◌, ◌≡◌, ◌≤◌, ◌⊎◌, [], All-push, ap, append-nil, AreTold, arith}
+use Rattle.dl_run.proofs.Names.{Bool, cond, Contains, Contains-append_left, Contains-push, Dialect, end_visits, ends}
+use Rattle.dl_run.proofs.Names.{ends_open, Err, false, flat_map-append, foreign_in, header_of, HeaderData, inl, inr}
+use Rattle.dl_run.proofs.Names.{is_some, IsGreatest, IsLeast, IsPassedOver, length, length-append, List, map, max}
+use Rattle.dl_run.proofs.Names.{min, None, of_end, of_row, Ok, open_visit, Option, option_to_list, other_versions}
+use Rattle.dl_run.proofs.Names.{OtherVersions, PassedOver, PassesOver, Ran, refl, Row, RunFault, Some, Spans}
+use Rattle.dl_run.proofs.Names.{sum_by-cons, Summary, summary_of, true, unit_rows, unit_visits, units_visits}
+use Rattle.dl_run.proofs.Names.{version_story, version_told, VersionRange, versions_told, Visit, visits, Write, ℕ}
+use Rattle.dl_run.proofs.Names.fault
+use Rattle.dl_run.proofs.CopyingVisits.{Foreign, Own, Neither, one_of, not_foreign, foreign_visits, own_visits}
+use Rattle.dl_run.proofs.CopyingVisits.{no_visits}
 
 -- ---- one number more
 
-least_is : (a b : ℕ) → (min a b ≡ a) ⊎ (min a b ≡ b)
-least_is a b = by (cases_lt a b) where
-  by : (a < b) ⊎ (b ≤ a) → (min a b ≡ a) ⊎ (min a b ≡ b)
-  by (inl lt) = inl (omega (arith, lt))
-  by (inr le) = inr (omega (arith, le))
-
-greatest_is : (a b : ℕ) → (max a b ≡ a) ⊎ (max a b ≡ b)
-greatest_is a b = by (cases_lt a b) where
-  by : (a < b) ⊎ (b ≤ a) → (max a b ≡ a) ⊎ (max a b ≡ b)
-  by (inl lt) = inr (omega (arith, lt))
-  by (inr le) = inl (omega (arith, le))
-
 module _ (numbers : List ℕ) (n old : ℕ) where
   is_in_more : (new : ℕ) → (new ≡ n) ⊎ (new ≡ old) → Contains numbers old → Contains (numbers ++ n ∷ []) new
-  is_in_more new (inl e) has = subst (Contains (numbers ++ n ∷ [])) (sym e) (Contains-push numbers n)
-  is_in_more new (inr e) has =
-      subst (Contains (numbers ++ n ∷ [])) (sym e) (Contains-append_left numbers (n ∷ []) old has)
+  is_in_more new (inl e) has = rw e (Contains-push numbers n)
+  is_in_more new (inr e) has = rw e (Contains-append_left numbers (n ∷ []) old has)
 
   pub least_of_more : IsLeast old numbers → IsLeast (min n old) (numbers ++ n ∷ [])
   least_of_more (has, least) = (
-    is_in_more (min n old) (least_is n old) has,
+    is_in_more (min n old) (grind arith) has,
     All-push (λ k. min n old ≤ k) numbers n (λ k d lt. let own = least k d lt in omega (arith, own)) (omega arith),
   )
 
   pub greatest_of_more : IsGreatest old numbers → IsGreatest (max n old) (numbers ++ n ∷ [])
   greatest_of_more (has, greatest) = (
-    is_in_more (max n old) (greatest_is n old) has,
+    is_in_more (max n old) (grind arith) has,
     All-push (λ k. k ≤ max n old) numbers n (λ k d lt. let own = greatest k d lt in omega (arith, own)) (omega arith),
   )
 
@@ -65,87 +34,67 @@ module _ (numbers : List ℕ) (n old : ℕ) where
 
 pub told-push : (before : List Visit) (visit : Visit)
     → versions_told (before ++ visit ∷ []) ≡ versions_told before ++ version_told visit
-told-push before visit =
-    flat_map-append version_told before (visit ∷ [])
-    ∙ ap (λ (l : List ℕ). versions_told before ++ l) (append-nil (version_told visit))
-
--- a visit that tells none
-pub spans_same : (before : List Visit) (visit : Visit) (range : Option VersionRange) → version_told visit ≡ []
-    → Spans (versions_told before) range → Spans (versions_told (before ++ visit ∷ [])) range
-spans_same before visit range none spans =
-    subst (λ (l : List ℕ). Spans l range) (sym (told-push before visit
-    ∙ ap (λ (l : List ℕ). versions_told before ++ l) none ∙ append-nil (versions_told before))) spans
+told-push before visit = rw (flat_map-append version_told before (visit ∷ []), append-nil) refl
 
 rows_tell_none : (rows : List Row) → versions_told (map of_row rows) ≡ []
 rows_tell_none [] = refl
 rows_tell_none (r ∷ rows) = rows_tell_none rows
-
-header_tells_none : (offset : ℕ) (h : Option HeaderData) → versions_told (header_visit offset h) ≡ []
-header_tells_none offset None = refl
-header_tells_none offset (Some h) = refl
-
-own_tell_none : (order : Order) (offset : ℕ) (h : Option HeaderData) (parts : Option (HeaderData × List ℕ))
-    → versions_told (flat_map (event_visits offset h) (own_events order parts)) ≡ []
-own_tell_none order offset h None = refl
-own_tell_none order offset h (Some parts) =
-    let rows = rows_later order (Some parts) in
-    flat_map-append version_told (header_visit offset h)
-    (flat_map (event_visits offset h) (map event.Row rows))
-    ∙ ap₂ (λ (a b : List ℕ). a ++ b) (header_tells_none offset h)
-    (ap versions_told (rows_visited offset h rows) ∙ rows_tell_none rows)
-
-events_tell : (order : Order) (offset : ℕ) (h : Option HeaderData) (version : Option ℕ)
-    (parts : Option (HeaderData × List ℕ))
-    → versions_told (flat_map (event_visits offset h) (events_of order version parts)) ≡ option_to_list version
-events_tell order offset h None parts = own_tell_none order offset h parts
-events_tell order offset h (Some version) parts = refl
 
 end_tells_none : (is_open : Bool) (h : Option HeaderData)
     → versions_told (open_visit is_open ++ of_end h ∷ []) ≡ []
 end_tells_none true h = refl
 end_tells_none false h = refl
 
-unit_tells : (dialect : Dialect) (offset : ℕ) (u : List ℕ)
-    → versions_told (unit_visits dialect offset u) ≡ option_to_list (foreign_in dialect u)
-unit_tells dialect offset u =
-    flat_map-append version_told (visits dialect offset u) (end_visits dialect u)
-    ∙ ap₂ (λ (a b : List ℕ). a ++ b)
-    (events_tell dialect.order offset (header_of dialect u) (foreign_in dialect u) (header_in dialect u))
-    (end_tells_none (ends_open (unit_rows dialect u)) (header_of dialect u))
-    ∙ append-nil (option_to_list (foreign_in dialect u))
+unit_tells : (dialect : Dialect) (n : ℕ) (u : List ℕ)
+    → versions_told (unit_visits dialect n u) ≡ option_to_list (foreign_in dialect u)
+unit_tells dialect n u =
+    rw (
+      flat_map-append version_told (visits dialect n u) (end_visits dialect u),
+      end_tells_none (ends_open (unit_rows dialect u)) (header_of dialect u),
+      append-nil,
+    ) (by (one_of dialect n u)) where
+      by : Foreign dialect n u ⊎ (Own dialect n u ⊎ Neither dialect n u)
+          → versions_told (visits dialect n u) ≡ option_to_list (foreign_in dialect u)
+      by (inl v) = rw (foreign_visits dialect n u v, v.1) refl
+      by (inr (inl own)) =
+          rw (own_visits dialect n u own, not_foreign dialect n u own) (rows_tell_none (unit_rows dialect u))
+      by (inr (inr neither)) = rw (no_visits dialect n u neither, neither.0) refl
 
-units_tell : (dialect : Dialect) (offset : ℕ) (units : List (List ℕ))
-    → versions_told (units_visits dialect offset units) ≡ other_versions dialect units
-units_tell dialect offset [] = refl
-units_tell dialect offset (u ∷ units) =
-    flat_map-append version_told (unit_visits dialect offset u) (units_visits dialect (offset + length u) units)
-    ∙ ap₂ (λ (a b : List ℕ). a ++ b) (unit_tells dialect offset u) (units_tell dialect (offset + length u) units)
-
-pub section_tells : (dialect : Dialect) (units : List (List ℕ))
-    → versions_told (section_visits dialect units []) ≡ other_versions dialect units
-section_tells dialect units = ap versions_told (append-nil (units_visits dialect 0 units)) ∙ units_tell dialect 0 units
+units_tell : (dialect : Dialect) (n : ℕ) (units : List (List ℕ))
+    → versions_told (units_visits dialect n units) ≡ other_versions dialect units
+units_tell dialect n [] = refl
+units_tell dialect n (u ∷ units) =
+    rw (
+      flat_map-append version_told (unit_visits dialect n u) (units_visits dialect (n + length u) units),
+      unit_tells dialect n u,
+      units_tell dialect (n + length u) units,
+    ) refl
 
 -- ---- how many there are
 
-of_one : (version : Option ℕ) → cond (is_some version) 1 0 ≡ length (option_to_list version)
-of_one None = refl
-of_one (Some version) = refl
-
-pub versions_counted : (dialect : Dialect) (units : List (List ℕ))
+versions_counted : (dialect : Dialect) (units : List (List ℕ))
     → (summary_of dialect units).skipped ≡ length (other_versions dialect units)
 versions_counted dialect [] = refl
 versions_counted dialect (u ∷ units) =
-    sum_by-cons (λ (b : List ℕ). cond (is_some (foreign_in dialect b)) 1 0) u units
-    ∙ ap₂ (λ (m n : ℕ). m + n) (of_one (foreign_in dialect u)) (versions_counted dialect units)
-    ∙ sym (length-append (option_to_list (foreign_in dialect u)) (other_versions dialect units))
+    let of_one : cond (is_some (foreign_in dialect u)) 1 0 ≡ length (option_to_list (foreign_in dialect u)) =
+    elim (foreign_in dialect u) as (λ v. cond (is_some v) 1 0 ≡ length (option_to_list v)) [
+      | None ↦ refl
+      | Some v ↦ refl
+    ] in
+    omega (
+      arith,
+      of_one,
+      versions_counted dialect units,
+      sum_by-cons (λ (b : List ℕ). cond (is_some (foreign_in dialect b)) 1 0) u units,
+      length-append (option_to_list (foreign_in dialect u)) (other_versions dialect units),
+    )
 
 -- ---- the answer
 
 told : (units : ℕ) (versions : List ℕ) (range : Option VersionRange) (passed : Option PassedOver)
     → Spans versions range → units ≡ length versions → IsPassedOver units range passed → AreTold versions passed
-told units versions None passed spans many is = subst (λ (p : Option PassedOver). AreTold versions p) (sym is) spans
-told units versions (Some range) passed spans many is =
-    subst (λ (p : Option PassedOver). AreTold versions p) (sym is) (many, spans.0, spans.1)
+told units versions None passed spans many is = rw is spans
+told units versions (Some range) passed spans many is = rw is (many, spans.0, spans.1)
 
 module _ (dialect : Dialect) (limit : ℕ) (bytes : List ℕ) (left : Option (List ℕ)) (first new : OtherVersions)
     (start now : Option (List ℕ)) where
@@ -154,24 +103,12 @@ module _ (dialect : Dialect) (limit : ℕ) (bytes : List ℕ) (left : Option (Li
       → IsPassedOver summary.skipped new.range passed → PassesOver dialect limit bytes left (Ok passed)
   counted summary passed (inl (units, ends, settled)) is =
       let many = ap (λ (s : Summary). s.skipped) ends.5 ∙ versions_counted dialect units in
-      let spans = subst (λ (l : List ℕ). Spans l new.range) (section_tells dialect units) settled.tells.1 in
+      let spans = rw (append-nil, units_tell dialect 0 units) at settled.tells.1 in
       (units, summary, ends, told summary.skipped (other_versions dialect units) new.range passed spans many is)
   counted summary passed (inr done) is = absurd done.4.tells
 
   pub failed : (f : RunFault) → Ran version_story dialect limit bytes left first new start now (Err f)
       → PassesOver dialect limit bytes left (Err f)
-  failed (fault.Write out) (units, b, back, has, writes) = absurd (omega (arith, writes.3.0))
-  failed (fault.Damage offset kind) (units, b, back, inl (ends, settled)) = (units, b, back, ends)
-  failed fault.NoMemory (units, b, back, inl (ends, settled)) = (units, b, back, ends)
-  failed fault.Read (units, b, back, inl (ends, settled)) = (units, b, back, ends)
-  failed fault.SectionTooLong (units, b, back, inl (ends, settled)) = (units, b, back, ends)
-  failed fault.NotFound (units, b, back, inl (ends, settled)) = absurd ends
-  failed (fault.ForeignUnit unit) (units, b, back, inl (ends, settled)) = absurd ends
-  failed (fault.Emit unit f) (units, b, back, inl (ends, settled)) = absurd ends
-  failed (fault.Damage offset kind) (units, b, back, inr (has, sound, stops)) = absurd stops.reason
-  failed fault.NoMemory (units, b, back, inr (has, sound, stops)) = absurd stops.reason
-  failed fault.Read (units, b, back, inr (has, sound, stops)) = absurd stops.reason
-  failed fault.SectionTooLong (units, b, back, inr (has, sound, stops)) = absurd stops.reason
-  failed fault.NotFound (units, b, back, inr (has, sound, stops)) = absurd stops.reason
-  failed (fault.ForeignUnit unit) (units, b, back, inr (has, sound, stops)) = absurd stops.reason
-  failed (fault.Emit unit f) (units, b, back, inr (has, sound, stops)) = absurd stops.reason
+  failed (fault.Write out) ran = absurd (omega (arith, ran.4.3.0))
+  failed f (units, b, back, inl (ends, settled)) = (units, b, back, ends)
+  failed f (units, b, back, inr (has, sound, stops)) = absurd stops.reason

@@ -1,12 +1,7 @@
 -- Where what becomes of a header doesn't depend on the place of its unit, as in `copy`, copies are told by units alone.
-use Rattle.std.proofs.Common.{◌≡◌, ℕ, ◌+◌, List, [], ◌∷◌, length, Option, Result, Ok, Err, refl, sym}
-use Rattle.std.specs.Io.KnownBytes.{Appends}
-use Rattle.dl_head.specs.Built.{with_standard_opcodes}
-use Rattle.dl_head.specs.declared.dialect.Dialect.{Dialect}
-use Rattle.dl_print.specs.declared.summary.Summary.{Summary}
-use Rattle.dl_run.specs.declared.fault.RunFault.{RunFault}
-use Rattle.dl_run.specs.declared.fault.RunFault.TheVariants as fault
-use Rattle.dl_run.specs.Commands.{Made, AreCopied, AreMade, Copies, CopiesAs, copied_units, units_as}
+use Rattle.dl_run.proofs.Names.{◌+◌, ◌∷◌, ◌≡◌, [], AreCopied, AreMade, copied_units, Copies, CopiesAs, CopiesBy}
+use Rattle.dl_run.proofs.Names.{Dialect, IsCopied, length, List, Made, Option, refl, Result, RunFault, subst, Summary}
+use Rattle.dl_run.proofs.Names.{sym, units_as, with_standard_opcodes, ℕ}
 
 abbrev pub standard : Made
 standard offset h = with_standard_opcodes h
@@ -16,58 +11,21 @@ module _ (dialect : Dialect) where
   same_text offset [] = refl
   same_text offset (u ∷ units) = rw (same_text (offset + length u) units) refl
 
-  are_copied : (offset : ℕ) (units : List (List ℕ)) → AreMade standard dialect offset units → AreCopied dialect units
-  are_copied offset [] each = tt
-  are_copied offset (u ∷ units) each = (each.0, are_copied (offset + length u) units each.1)
+  same_units : (offset : ℕ) (units : List (List ℕ)) → AreMade standard dialect offset units ≡ AreCopied dialect units
+  same_units offset [] = refl
+  same_units offset (u ∷ units) = λ i. IsCopied dialect u × same_units (offset + length u) units i
 
-  are_made : (offset : ℕ) (units : List (List ℕ)) → AreCopied dialect units → AreMade standard dialect offset units
-  are_made offset [] each = tt
-  are_made offset (u ∷ units) each = (each.0, are_made (offset + length u) units each.1)
+  module _ (limit : ℕ) (bytes : List ℕ) (left start now : Option (List ℕ)) (result : Result Summary RunFault) where
+    one_thing : CopiesAs standard dialect limit bytes left start now result
+        ≡ Copies dialect limit bytes left start now result
+    one_thing = λ i.
+        CopiesBy (λ units. same_units 0 units i) (λ units. same_text 0 units i) standard dialect limit bytes left start
+        now result
 
-  module _ (limit : ℕ) (bytes : List ℕ) (left start now : Option (List ℕ)) where
-    copied : (units : List (List ℕ)) → AreMade standard dialect 0 units
-        → Appends start now (units_as standard dialect 0 units)
-        → AreCopied dialect units × Appends start now (copied_units dialect units)
-    copied units each out = (are_copied 0 units each, rw (sym (same_text 0 units)) out)
+    pub copies_plainly : CopiesAs standard dialect limit bytes left start now result
+        → Copies dialect limit bytes left start now result
+    copies_plainly = subst (λ (T : Type 0). T) one_thing
 
-    pub copies_plainly : (result : Result Summary RunFault)
-        → CopiesAs standard dialect limit bytes left start now result → Copies dialect limit bytes left start now result
-    copies_plainly (Ok summary) (units, ends, (each, out)) = (units, ends, copied units each out)
-    copies_plainly (Err (fault.ForeignUnit offset)) (units, b, back, version, begun, at, is, (each, out)) =
-        (units, b, back, version, begun, at, is, copied units each out)
-    copies_plainly (Err (fault.Emit offset f)) (units, u, back, h, whole, at, header, refused, long, (each, out)) =
-        (units, u, back, h, whole, at, header, refused, long, copied units each out)
-    copies_plainly (Err fault.NoMemory) (units, b, back, begun, sound, own, grows, (each, out)) =
-        (units, b, back, begun, sound, own, grows, copied units each out)
-    copies_plainly (Err (fault.Write out)) (units, back, whole, each, tells) =
-        (units, back, whole, are_copied 0 units each, rw (sym (same_text 0 units)) tells)
-    copies_plainly (Err (fault.Damage at kind)) (units, b, back, ends, own, (each, out)) =
-        (units, b, back, ends, own, copied units each out)
-    copies_plainly (Err fault.Read) (units, b, back, ends, own, (each, out)) =
-        (units, b, back, ends, own, copied units each out)
-    copies_plainly (Err fault.SectionTooLong) (units, b, back, ends, own, (each, out)) =
-        (units, b, back, ends, own, copied units each out)
-    copies_plainly (Err fault.NotFound) (units, b, back, ends, own, each) = absurd ends
-
-    made_of : (units : List (List ℕ)) → AreCopied dialect units → Appends start now (copied_units dialect units)
-        → AreMade standard dialect 0 units × Appends start now (units_as standard dialect 0 units)
-    made_of units each out = (are_made 0 units each, rw (same_text 0 units) out)
-
-    pub copies_as : (result : Result Summary RunFault)
-        → Copies dialect limit bytes left start now result → CopiesAs standard dialect limit bytes left start now result
-    copies_as (Ok summary) (units, ends, (each, out)) = (units, ends, made_of units each out)
-    copies_as (Err (fault.ForeignUnit offset)) (units, b, back, version, begun, at, is, (each, out)) =
-        (units, b, back, version, begun, at, is, made_of units each out)
-    copies_as (Err (fault.Emit offset f)) (units, u, back, h, whole, at, header, refused, long, (each, out)) =
-        (units, u, back, h, whole, at, header, refused, long, made_of units each out)
-    copies_as (Err fault.NoMemory) (units, b, back, begun, sound, own, grows, (each, out)) =
-        (units, b, back, begun, sound, own, grows, made_of units each out)
-    copies_as (Err (fault.Write out)) (units, back, whole, each, tells) =
-        (units, back, whole, are_made 0 units each, rw (same_text 0 units) tells)
-    copies_as (Err (fault.Damage at kind)) (units, b, back, ends, own, (each, out)) =
-        (units, b, back, ends, own, made_of units each out)
-    copies_as (Err fault.Read) (units, b, back, ends, own, (each, out)) =
-        (units, b, back, ends, own, made_of units each out)
-    copies_as (Err fault.SectionTooLong) (units, b, back, ends, own, (each, out)) =
-        (units, b, back, ends, own, made_of units each out)
-    copies_as (Err fault.NotFound) (units, b, back, ends, own, each) = absurd ends
+    pub copies_as : Copies dialect limit bytes left start now result
+        → CopiesAs standard dialect limit bytes left start now result
+    copies_as = subst (λ (T : Type 0). T) (sym one_thing)

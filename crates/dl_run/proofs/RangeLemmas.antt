@@ -1,37 +1,15 @@
 -- The rows of a unit are in the range of its params, so that it isn't written only where it is too long.
-use Rattle.std.proofs.Common.{◌≡◌, ℕ, ◌+◌, ◌*◌, ◌^◌, ◌%◌, ◌≤◌, Bool, true, false, nat_lt, List, [], ◌∷◌, ◌++◌, Option}
-use Rattle.std.proofs.Common.{Some, None, refl, sym, ap, ◌∙◌, arith}
-use Rattle.std.specs.Prelude.{option_map, ◌&&◌, if◌then◌else◌}
-use Rattle.std.specs.Option.{option_or}
-use Rattle.std.proofs.lemmas.Bool.{lt-ltb, eq-eqb}
-use Rattle.std.proofs.lemmas.Nat.{pow_pos}
-use Rattle.std.proofs.Math.Nat.{mod-lt}
-use Rattle.dl_head.specs.declared.dialect.Dialect.{Dialect}
-use Rattle.dl_head.specs.Built.{with_standard_opcodes}
-use Rattle.dl_field.specs.HeaderData.{HeaderData}
-use Rattle.dl_head.specs.Header.{header_in, IsHeader}
-use Rattle.dl_head.specs.Written.{is_within_limit}
-use Rattle.dl_field.specs.declared.params.Params.{Params}
-use Rattle.dl_head.proofs.HeaderLaws.{found_is_header}
-use Rattle.dl_rows.specs.declared.operation.Operation.{Operation}
-use Rattle.dl_rows.specs.declared.row.Row.{Row}
-use Rattle.dl_rows.specs.LineUnit.{rows_later, unit_rows}
-use Rattle.dl_rows.specs.Matrix.{address, appends_row, last_part, parts, moves, op_index, row, row_from, rows_after}
-use Rattle.dl_rows.specs.Matrix.{sequence, fresh, is_end}
-use Rattle.dl_rows.specs.OperationSpelt.{operations_in}
-use Rattle.dl_rows.proofs.HeaderParams.{header_is_usable}
-use Rattle.dl_emit.specs.declared.fault.EmitFault.{EmitFault}
-use Rattle.dl_emit.specs.declared.fault.EmitFault.TheVariants as emit
-use Rattle.dl_emit.specs.WrittenUnit.{refusal, rows_refusal, is_in_range, out_of_range, program_len, unless}
-use Rattle.dl_emit.proofs.ConversionLemmas.{params_are}
-use Rattle.dl_run.specs.Commands.{Made, to_5}
-use Rattle.dl_run.specs.Section.{header_of}
+use Rattle.dl_run.proofs.Names.{if◌then◌else◌, ◌%◌, ◌*◌, ◌++◌, ◌+◌, ◌^◌, ◌∙◌, ◌∷◌, ◌≡◌, ◌≤◌, [], address, ap}
+use Rattle.dl_run.proofs.Names.{appends_row, arith, Bool, Dialect, EmitFault, eq-eqb, false, found_is_header, fresh}
+use Rattle.dl_run.proofs.Names.{header_is_usable, header_of, HeaderData, is_end, is_in_range, is_within_limit}
+use Rattle.dl_run.proofs.Names.{IsHeader, last_part, List, lt-ltb, Made, mod-lt, moves, None, op_index, Operation}
+use Rattle.dl_run.proofs.Names.{operations_in, Option, option_or, out_of_range, Params, params_are, parts, pow_pos}
+use Rattle.dl_run.proofs.Names.{program_len, refl, refusal, Row, row, row_from, rows_later, rows_refusal, sequence}
+use Rattle.dl_run.proofs.Names.{Some, sym, to_5, TooLong, true, unit_rows, unless, with_standard_opcodes, ℕ}
+use Rattle.dl_run.proofs.Names.emit
+use Rattle.dl_rows.specs.Matrix.{rows_after}
+use Rattle.dl_run.proofs.EventLemmas.{header_parts}
 use Rattle.dl_run.proofs.Fronts.{none_is_some, value_same}
-
-both : (a b : Bool) → a ≡ true → b ≡ true → (a && b) ≡ true
-both true true p q = refl
-both true false p q = q
-both false b p q = p
 
 -- what is made of a header of a unit is of version 5 with standard opcodes, and has the ranges of the unit's rows
 pub record KeepsRange (h made : Params) : Type 0 where
@@ -47,30 +25,20 @@ module _ (h its_params : Params) (keeps : KeepsRange h its_params)
       let most = h.maximum_operations_per_instruction in
       let size = 2 ^ (8 * h.address_size) in
       rw (keeps.operations, keeps.address_size)
-      (both (nat_lt (op_index h s) most) (nat_lt (address h s % size) size)
-      (lt-ltb (op_index h s) most (mod-lt (last_part (parts h (moves s))) (omega (arith, some))))
-      (lt-ltb (address h s % size) size (mod-lt (address h s) (pow_pos (8 * h.address_size)))))
-
-  if_true : (b : Bool) (o : Option EmitFault) (f : EmitFault) → b ≡ true → o ≡ None → (if b then o else Some f) ≡ None
-  if_true true o f is none = none
-  if_true false o f is none = absurd cc
+      (rw (
+        lt-ltb (op_index h s) most (mod-lt (last_part (parts h (moves s))) (omega (arith, some))),
+        lt-ltb (address h s % size) size (mod-lt (address h s) (pow_pos (8 * h.address_size))),
+      ) refl)
 
   none_out : (i : ℕ) (front os : List Operation) → out_of_range its_params i (rows_after h front os) ≡ None
   none_out i front [] = refl
   none_out i front (o ∷ os) =
-      by (appends_row o) refl (none_out (i + 1) (front ++ o ∷ []) os) (none_out i (front ++ o ∷ []) os) where
-        tail : List Row
-        tail = rows_after h (front ++ o ∷ []) os
-
-        by : (b : Bool) → appends_row o ≡ b → out_of_range its_params (i + 1) tail ≡ None
-            → out_of_range its_params i tail ≡ None
-            → out_of_range its_params i (if appends_row o then row h front o ∷ tail else tail) ≡ None
-        by true is next same =
-            ap (λ (c : Bool). out_of_range its_params i (if c then row h front o ∷ tail else tail)) is
-            ∙ if_true (is_in_range its_params (row h front o)) (out_of_range its_params (i + 1) tail)
-            (emit.RowRange i) (row_in_range (sequence front o) (fresh front o) (is_end o)) next
-        by false is next same =
-            ap (λ (c : Bool). out_of_range its_params i (if c then row h front o ∷ tail else tail)) is ∙ same
+      let tail = rows_after h (front ++ o ∷ []) os in
+      elim (appends_row o)
+      as (λ b. out_of_range its_params i (if b then row h front o ∷ tail else tail) ≡ None) [
+        | true ↦ rw (row_in_range (sequence front o) (fresh front o) (is_end o)) (none_out (i + 1) (front ++ o ∷ []) os)
+        | false ↦ none_out i (front ++ o ∷ []) os
+      ]
 
 length_alone : (b : Bool) (f : EmitFault) → unless b emit.TooLong ≡ Some f → f ≡ emit.TooLong
 length_alone true f e = absurd (none_is_some e)
@@ -112,20 +80,11 @@ to_5_keeps dialect directories offset h w is =
 pub too_long : (dialect : Dialect) (made : Made) → KeepsRanges dialect made → (offset : ℕ)
     (u : List ℕ) (h : HeaderData) (f : EmitFault) → header_of dialect u ≡ Some h
     → refusal (made offset h) (unit_rows dialect u) ≡ Some f → f ≡ emit.TooLong
-too_long dialect made keeps offset u h f is refused = by (header_in dialect u) refl where
-  by : (parts : Option (HeaderData × List ℕ)) → header_in dialect u ≡ parts → f ≡ emit.TooLong
-  by None e = absurd (none_is_some (sym (ap (λ (p : Option (HeaderData × List ℕ)). option_map (λ q. q.0) p) e) ∙ is))
-  by (Some (own, program)) e =
-      let same : own ≡ h =
-      value_same own h (sym (ap (λ (p : Option (HeaderData × List ℕ)). option_map (λ q. q.0) p) e) ∙ is) in
-      let w = found_is_header dialect own u program e in
-      let usable = header_is_usable dialect own w.0 w.2 in
-      let rows : unit_rows dialect u ≡ rows_later dialect.order (Some (own, program)) =
-      ap (rows_later dialect.order) e in
-      let refused_own = ap
-      (λ (d : HeaderData). refusal (made offset d) (rows_later dialect.order (Some (own, program)))) same
-      ∙ ap (refusal (made offset h)) (sym rows) ∙ refused in
-      let range = keeps offset own w.0 w.2 in
-      refused_rows (made offset own) (rows_later dialect.order (Some (own, program))) f range.version range.opcodes
-      (none_out own.params (made offset own).params range usable.operations 0 []
-      (operations_in dialect.order own.params program).found) refused_own
+too_long dialect made keeps offset u h f is refused =
+    let parts = header_parts dialect u h is in
+    let w = found_is_header dialect h u parts.0 parts.1 in
+    let usable = header_is_usable dialect h w.0 w.2 in
+    let range = keeps offset h w.0 w.2 in
+    refused_rows (made offset h) (rows_later dialect.order (Some (h, parts.0))) f range.version range.opcodes
+    (none_out h.params (made offset h).params range usable.operations 0 []
+    (operations_in dialect.order h.params parts.0).found) (rw parts.1 at refused)

@@ -1,195 +1,144 @@
 -- The one way in which bytes are cut into units, and the one way in which a section ends.
-use Rattle.std.proofs.Common.{◌≡◌, ◌≢◌, ◌<◌, ◌≤◌, ◌⊎◌, inl, inr, ℕ, ◌+◌, List, [], ◌∷◌, ◌++◌, length, take, Option}
-use Rattle.std.proofs.Common.{Result, Ok, Err, arith, refl, sym, ap, ap₂, ◌∙◌, subst, append_assoc, append-nil}
-use Rattle.std.proofs.Common.{length-append}
-use Rattle.std.specs.List.{AllByRecursion, concat}
-use Rattle.std.proofs.lemmas.List.{nil_from_length, take_all}
-use Rattle.dl_head.specs.declared.dialect.Dialect.{Dialect}
-use Rattle.dl_table.specs.declared.fault.FaultKind.{FaultKind}
-use Rattle.dl_table.specs.declared.fault.FaultKind.TheVariants.{Truncated}
-use Rattle.dl_head.proofs.FrontLemmas.{GoesOn, fronts, after_front}
-use Rattle.dl_rows.specs.LineUnit.{IsUnit}
-use Rattle.dl_rows.specs.Refusal.{Refused}
-use Rattle.dl_rows.specs.Runs.{Sound}
-use Rattle.dl_rows.proofs.UnitLengths.{no_unit_begins_another}
-use Rattle.dl_rows.proofs.UnitLaws.{one_refusal}
-use Rattle.dl_run.specs.declared.fault.RunFault.{RunFault}
-use Rattle.dl_run.specs.declared.fault.RunFault.TheVariants as fault
-use Rattle.dl_print.specs.declared.summary.Summary.{Summary}
-use Rattle.dl_run.specs.Section.{HasUnits, NoUnitBegins, EndsAs, summary_of}
-use Rattle.dl_run.specs.SectionLaws.{OneCut, IsOfBytes, OneEnd}
+use Rattle.dl_run.proofs.Names.{if◌then◌else◌, ◌++◌, ◌+◌, ◌∙◌, ◌∷◌, ◌≡◌, ◌≢◌, [], AllByRecursion, ap, append-nil}
+use Rattle.dl_run.proofs.Names.{append_assoc, append_cancel_left, concat, Dialect, EndsAs, Err, FaultKind}
+use Rattle.dl_run.proofs.Names.{HasUnits, inl, inr, IsOfBytes, IsUnit, le-ltb, length, length_of_unit, List, lt-ltb}
+use Rattle.dl_run.proofs.Names.{nat_lt, NoUnitBegins, Ok, one_refusal, OneCut, OneEnd, Option, refl, Refused, Result}
+use Rattle.dl_run.proofs.Names.{RunFault, some_same, Sound, Summary, summary_of, sym, take, take_all, Truncated}
+use Rattle.dl_run.proofs.Names.{unit_len, unit_len_on, ℕ}
+use Rattle.dl_run.proofs.Names.fault
+use Rattle.dl_run.proofs.Fronts.{same_fronts}
 use Rattle.dl_run.proofs.SectionLemmas.{none_begins, none_refused}
 
 -- ---- one cut
-
-same_front : (dialect : Dialect) (u v : List ℕ) → IsUnit dialect u → IsUnit dialect v → (u ≡ v)
-    ⊎ (GoesOn u v ⊎ GoesOn v u) → u ≡ v
-same_front dialect u v one two (inl same) = same
-same_front dialect u v one two (inr (inl g)) =
-    let none = no_unit_begins_another dialect u (g.0 ∷ g.1) one (subst (IsUnit dialect) g.2 two) in
-    absurd (omega (arith, ap length none))
-same_front dialect u v one two (inr (inr g)) =
-    let none = no_unit_begins_another dialect v (g.0 ∷ g.1) two (subst (IsUnit dialect) g.2 one) in
-    absurd (omega (arith, ap length none))
 
 -- of the fronts of a list at most one is a unit
 pub one_front : (dialect : Dialect) (u v x y : List ℕ) → IsUnit dialect u → IsUnit dialect v → u ++ x ≡ v ++ y
     → (u ≡ v) × (x ≡ y)
 one_front dialect u v x y one two e =
-    let same = same_front dialect u v one two (fronts u v x y e) in
-    (same, after_front v x y (ap (λ (l : List ℕ). l ++ x) (sym same) ∙ e))
+    same_fronts u v x y (some_same _ _ (sym (unit_len_on dialect u x _ (length_of_unit dialect u one))
+    ∙ ap (unit_len dialect) e ∙ unit_len_on dialect v y _ (length_of_unit dialect v two))) e
 
-pub cuts : (dialect : Dialect) (units units2 : List (List ℕ)) (rest rest2 : List ℕ)
-    → AllByRecursion (IsUnit dialect) units → AllByRecursion (IsUnit dialect) units2
-    → NoUnitBegins dialect rest → NoUnitBegins dialect rest2 → concat units ++ rest ≡ concat units2 ++ rest2
-    → (units ≡ units2) × (rest ≡ rest2)
-cuts dialect [] [] rest rest2 all all2 none none2 e = (refl, e)
-cuts dialect [] (v ∷ units2) rest rest2 all all2 none none2 e =
-    absurd (none v (concat units2 ++ rest2) (e ∙ append_assoc v (concat units2) rest2) all2.0)
-cuts dialect (u ∷ units) [] rest rest2 all all2 none none2 e =
-    absurd (none2 u (concat units ++ rest) (sym e ∙ append_assoc u (concat units) rest) all.0)
-cuts dialect (u ∷ units) (v ∷ units2) rest rest2 all all2 none none2 e =
-    let front = one_front dialect u v (concat units ++ rest) (concat units2 ++ rest2) all.0 all2.0
-    (sym (append_assoc u (concat units) rest) ∙ e ∙ append_assoc v (concat units2) rest2) in
-    let more = cuts dialect units units2 rest rest2 all.1 all2.1 none none2 front.1 in
-    (ap₂ (λ (x : List ℕ) (xs : List (List ℕ)). x ∷ xs) front.0 more.0, more.1)
+-- bytes that are cut into units twice: the units are the same, or those of one cut go on where the others end
+pub data Meet (dialect : Dialect) (units units2 : List (List ℕ)) (w w2 : List ℕ) : Type 0 where
+  same : units ≡ units2 → w ≡ w2 → Meet dialect units units2 w w2
+  shorter : (v : List ℕ) (vs : List (List ℕ)) → units2 ≡ units ++ v ∷ vs → w ≡ v ++ (concat vs ++ w2)
+      → IsUnit dialect v → Meet dialect units units2 w w2
+  longer : (v : List ℕ) (vs : List (List ℕ)) → units ≡ units2 ++ v ∷ vs → w2 ≡ v ++ (concat vs ++ w)
+      → IsUnit dialect v → Meet dialect units units2 w w2
+
+meet_all : (dialect : Dialect) (units units2 : List (List ℕ)) (w w2 : List ℕ) → AllByRecursion (IsUnit dialect) units
+    → AllByRecursion (IsUnit dialect) units2 → concat units ++ w ≡ concat units2 ++ w2 → Meet dialect units units2 w w2
+meet_all dialect [] [] w w2 all all2 e = same refl e
+meet_all dialect [] (v ∷ vs) w w2 all all2 e = shorter v vs refl (cc (append_assoc v (concat vs) w2)) all2.0
+meet_all dialect (u ∷ us) [] w w2 all all2 e = longer u us refl (cc (append_assoc u (concat us) w)) all.0
+meet_all dialect (u ∷ us) (v ∷ vs) w w2 all all2 e =
+    let front = one_front dialect u v (concat us ++ w) (concat vs ++ w2) all.0 all2.0 (simp append_assoc at e) in
+    elim (meet_all dialect us vs w w2 all.1 all2.1 front.1) [
+      | same a b ↦ same (cc front.0) b
+      | shorter x xs a b unit ↦ shorter x xs (cc front.0) b unit
+      | longer x xs a b unit ↦ longer x xs (cc front.0) b unit
+    ]
+
+pub meet : {dialect : Dialect} {s : List ℕ} {units units2 : List (List ℕ)} {w w2 : List ℕ}
+    → HasUnits dialect s units w → HasUnits dialect s units2 w2 → Meet dialect units units2 w w2
+meet {dialect} {s} {units} {units2} {w} {w2} has has2 =
+    meet_all dialect units units2 w w2 has.each has2.each (sym has.whole ∙ has2.whole)
 
 pub one_cut : OneCut
-one_cut dialect s units units2 rest rest2 has none has2 none2 =
-    cuts dialect units units2 rest rest2 has.each has2.each none none2 (sym has.whole ∙ has2.whole)
+one_cut dialect s units units2 rest rest2 has none has2 none2 = elim (meet has has2) [
+  | same a b ↦ (a, b)
+  | shorter v vs a b unit ↦ absurd (none v (concat vs ++ rest2) b unit)
+  | longer v vs a b unit ↦ absurd (none2 v (concat vs ++ rest) b unit)
+]
 
 -- ---- one end
 
--- how a section ends for its own bytes: units, and b and back, which no unit begins
-pub data Ending (dialect : Dialect) (limit : ℕ) (bytes : List ℕ) (units : List (List ℕ)) (b back : List ℕ)
+-- what is answered where all bytes are units and b
+abbrev pub last_answer : Dialect → (size : ℕ) → List (List ℕ) → (b : List ℕ) → Result Summary RunFault
+last_answer dialect size units [] = Ok (summary_of dialect units)
+last_answer dialect size units (x ∷ b) = Err (fault.Damage size Truncated)
+
+abbrev pub over_answer : Dialect → (limit : ℕ) (bytes : List ℕ) → List (List ℕ) → (b : List ℕ) → Result Summary RunFault
+over_answer dialect limit bytes units b =
+    if nat_lt limit (length bytes) then Err fault.SectionTooLong else last_answer dialect (length bytes) units b
+
+-- how a section ends: b is refused, or the bytes are over; and what is answered where its bytes settle that
+pub data How (dialect : Dialect) (limit : ℕ) (bytes : List ℕ) (units : List (List ℕ)) (b back : List ℕ)
     (result : Result Summary RunFault) : Type 0 where
-  is_whole : b ≡ [] → back ≡ [] → length bytes ≤ limit → result ≡ Ok (summary_of dialect units)
-      → Ending dialect limit bytes units b back result
-  is_refused : (at : ℕ) (kind : FaultKind) → Refused dialect b at kind
-      → result ≡ Err (fault.Damage (length (concat units) + at) kind) → Ending dialect limit bytes units b back result
-  is_short : back ≡ [] → b ≢ [] → Sound dialect b → length bytes ≤ limit
-      → result ≡ Err (fault.Damage (length bytes) Truncated) → Ending dialect limit bytes units b back result
-  is_long : back ≡ [] → Sound dialect b → limit < length bytes → result ≡ Err fault.SectionTooLong
-      → Ending dialect limit bytes units b back result
+  refused : (at : ℕ) (kind : FaultKind) → Refused dialect b at kind
+      → (IsOfBytes result → result ≡ Err (fault.Damage (length (concat units) + at) kind))
+      → How dialect limit bytes units b back result
+  over : back ≡ [] → Sound dialect b → (IsOfBytes result → result ≡ over_answer dialect limit bytes units b)
+      → How dialect limit bytes units b back result
 
 pub record Ended (dialect : Dialect) (limit : ℕ) (bytes : List ℕ) (units : List (List ℕ)) (b back : List ℕ)
     (result : Result Summary RunFault) : Type 0 where
   pub has : HasUnits dialect (take limit bytes) units (b ++ back)
   pub none : NoUnitBegins dialect (b ++ back)
-  pub ending : Ending dialect limit bytes units b back result
+  pub how : How dialect limit bytes units b back result
 
-damage_is : {offset n : ℕ} {kind k : FaultKind} → offset ≡ n → kind ≡ k
-    → ◌≡◌ {A = Result Summary RunFault} (Err (fault.Damage offset kind)) (Err (fault.Damage n k))
-damage_is o k = rw (o, k) refl
+cut_short : (dialect : Dialect) (size : ℕ) (units : List (List ℕ)) (b : List ℕ) → b ≢ []
+    → last_answer dialect size units b ≡ Err (fault.Damage size Truncated)
+cut_short dialect size units [] some = absurd (some refl)
+cut_short dialect size units (x ∷ b) some = refl
+
+pub of_bytes : {result : Result Summary RunFault} → IsOfBytes result → result ≢ Err fault.NoMemory
+of_bytes of e = rw e at of
 
 module _ (dialect : Dialect) (limit : ℕ) (bytes : List ℕ) (left : Option (List ℕ)) (units : List (List ℕ))
     (b back : List ℕ) where
-  pub ended : (result : Result Summary RunFault) → IsOfBytes result
+  pub ended : (result : Result Summary RunFault) → result ≢ Err fault.NoMemory
       → EndsAs dialect limit bytes left units b back result → Ended dialect limit bytes units b back result
-  ended (Ok summary) of (has, none, nothing, fits, at_end, is) = record {
-    has = subst (λ (l : List ℕ). HasUnits dialect l units (b ++ back)) (sym (take_all limit bytes fits))
-        (subst (λ (l : List ℕ). HasUnits dialect bytes units l) (sym empty) has);
-    none = subst (NoUnitBegins dialect) (sym empty) (none_begins dialect);
-    ending = is_whole none nothing fits (ap (λ (s : Summary). Ok s) is);
-  } where
-    empty : b ++ back ≡ []
-    empty = ap₂ (λ (x y : List ℕ). x ++ y) none nothing
-  ended (Err (fault.Damage offset kind)) of (has, none, inl (at, place, refused)) = record {
+  ended (Ok summary) not (has, empty, nothing, fits, end, is) = rw (empty, nothing) (record {
+    has = rw (take_all limit bytes fits) has;
+    none = none_begins dialect;
+    how = over refl (none_refused dialect) (λ of. rw (le-ltb limit (length bytes) fits, is) refl);
+  })
+  ended (Err (fault.Damage offset kind)) not (has, none, inl (at, place, r)) =
+      record { has = has; none = none; how = refused at kind r (λ of. rw place refl) }
+  ended (Err (fault.Damage offset kind)) not (has, none, inr (nothing, some, sound, fits, end, place, is)) = record {
     has = has;
     none = none;
-    ending = is_refused at kind refused (damage_is place refl);
+    how = over nothing sound (λ of. rw (le-ltb limit (length bytes) fits, place, is)
+        (sym (cut_short dialect (length bytes) units b some)));
   }
-  ended (Err (fault.Damage offset kind)) of (has, none, inr (nothing, some, sound, fits, at_end, place, is)) = record {
-    has = has;
-    none = none;
-    ending = is_short nothing some sound fits (damage_is place is);
-  }
-  ended (Err fault.SectionTooLong) of (has, nothing, none, sound, long) = record {
-    has = subst (HasUnits dialect (take limit bytes) units) (sym same) has;
-    none = subst (NoUnitBegins dialect) (sym same) none;
-    ending = is_long nothing sound long refl;
-  } where
-    same : b ++ back ≡ b
-    same = ap (λ (l : List ℕ). b ++ l) nothing ∙ append-nil b
-  ended (Err fault.Read) of ends = absurd of
-  ended (Err fault.NoMemory) of ends = absurd of
-  ended (Err (fault.Write out)) of ends = absurd of
-  ended (Err fault.NotFound) of ends = absurd ends
-  ended (Err (fault.ForeignUnit unit)) of ends = absurd ends
-  ended (Err (fault.Emit unit f)) of ends = absurd ends
-
--- no b is nothing and refused
-nothing_refused : (dialect : Dialect) (b : List ℕ) (at : ℕ) (kind : FaultKind) → b ≡ [] → Refused dialect b at kind → ⊥
-nothing_refused dialect b at kind nothing refused =
-    none_refused dialect [] [] at kind refl (subst (λ (l : List ℕ). Refused dialect l at kind) nothing refused)
-
--- what is refused isn't sound
-refused_front : (dialect : Dialect) (b back b2 : List ℕ) (at : ℕ) (kind : FaultKind) → b ++ back ≡ b2
-    → Refused dialect b at kind → Sound dialect b2 → ⊥
-refused_front dialect b back b2 at kind e refused sound = sound b back at kind (sym e) refused
-
-after_nothing : (b back : List ℕ) → back ≡ [] → b ++ back ≡ b
-after_nothing b back nothing = ap (λ (l : List ℕ). b ++ l) nothing ∙ append-nil b
-
-no_front : (b back : List ℕ) → b ++ back ≡ [] → b ≡ []
-no_front b back e = nil_from_length b (omega (arith, ap length e, length-append b back))
+  ended (Err fault.Read) not (has, nothing, none, sound, fits) = rw nothing (record {
+    has = rw (take_all limit bytes fits, append-nil b) has;
+    none = rw (append-nil b) none;
+    how = over refl sound (λ of. absurd of);
+  })
+  ended (Err fault.SectionTooLong) not (has, nothing, none, sound, long) = rw nothing (record {
+    has = rw (append-nil b) has;
+    none = rw (append-nil b) none;
+    how = over refl sound (λ of. rw (lt-ltb limit (length bytes) long) refl);
+  })
+  ended (Err fault.NoMemory) not ends = absurd (not refl)
+  ended (Err f) not ends = absurd ends
 
 -- two ends of the same units
-module _ (dialect : Dialect) (limit : ℕ) (bytes : List ℕ) (units : List (List ℕ)) where
-  abbrev Same : (b b2 back back2 : List ℕ) (result result2 : Result Summary RunFault) → Type 0
-  Same b b2 back back2 result result2 = (b ≡ b2) × (back ≡ back2) × (result ≡ result2)
-
-  both : (b b2 back back2 : List ℕ) → back ≡ [] → back2 ≡ [] → b ++ back ≡ b2 ++ back2 → b ≡ b2
-  both b b2 back back2 nothing nothing2 e = sym (after_nothing b back nothing) ∙ e ∙ after_nothing b2 back2 nothing2
-
-  same_end : (b b2 back back2 : List ℕ) (result result2 : Result Summary RunFault) → b ++ back ≡ b2 ++ back2
-      → Ending dialect limit bytes units b back result → Ending dialect limit bytes units b2 back2 result2
-      → Same b b2 back back2 result result2
-  same_end b b2 back back2 result result2 e (is_whole none nothing fits is) (is_whole none2 nothing2 fits2 is2) =
-      (none ∙ sym none2, nothing ∙ sym nothing2, is ∙ sym is2)
-  same_end b b2 back back2 result result2 e (is_whole none nothing fits is) (is_refused at kind refused is2) =
-      absurd (nothing_refused dialect b2 at kind (no_front b2 back2 (sym e ∙ after_nothing b back nothing ∙ none))
-      refused)
-  same_end b b2 back back2 result result2 e (is_whole none nothing fits is) (is_short nothing2 some sound fits2 is2) =
-      absurd (some (sym (both b b2 back back2 nothing nothing2 e) ∙ none))
-  same_end b b2 back back2 result result2 e (is_whole none nothing fits is) (is_long nothing2 sound long is2) =
-      absurd (omega (arith, fits, long))
-  same_end b b2 back back2 result result2 e (is_refused at kind refused is) (is_whole none nothing fits is2) =
-      absurd (nothing_refused dialect b at kind (no_front b back (e ∙ after_nothing b2 back2 nothing ∙ none)) refused)
-  same_end b b2 back back2 result result2 e (is_refused at kind refused is) (is_refused at2 kind2 refused2 is2) =
-      let one = one_refusal dialect b b2 back back2 at at2 kind kind2 e refused refused2 in (
-        one.0,
-        after_front b2 back back2 (ap (λ (l : List ℕ). l ++ back) (sym one.0) ∙ e),
-        is ∙ damage_is (ap (λ (n : ℕ). length (concat units) + n) one.1) one.2 ∙ sym is2,
-      )
-  same_end b b2 back back2 result result2 e (is_refused at kind refused is) (is_short nothing some sound fits is2) =
-      absurd (refused_front dialect b back b2 at kind (e ∙ after_nothing b2 back2 nothing) refused sound)
-  same_end b b2 back back2 result result2 e (is_refused at kind refused is) (is_long nothing sound long is2) =
-      absurd (refused_front dialect b back b2 at kind (e ∙ after_nothing b2 back2 nothing) refused sound)
-  same_end b b2 back back2 result result2 e (is_short nothing some sound fits is) (is_whole none2 nothing2 fits2 is2) =
-      absurd (some (both b b2 back back2 nothing nothing2 e ∙ none2))
-  same_end b b2 back back2 result result2 e (is_short nothing some sound fits is) (is_refused at kind refused is2) =
-      absurd (refused_front dialect b2 back2 b at kind (sym e ∙ after_nothing b back nothing) refused sound)
-  same_end b b2 back back2 result result2 e (is_short nothing some sound fits is)
-      (is_short nothing2 some2 sound2 fits2 is2) =
-      (both b b2 back back2 nothing nothing2 e, nothing ∙ sym nothing2, is ∙ sym is2)
-  same_end b b2 back back2 result result2 e (is_short nothing some sound fits is) (is_long nothing2 sound2 long is2) =
-      absurd (omega (arith, fits, long))
-  same_end b b2 back back2 result result2 e (is_long nothing sound long is) (is_whole none2 nothing2 fits2 is2) =
-      absurd (omega (arith, fits2, long))
-  same_end b b2 back back2 result result2 e (is_long nothing sound long is) (is_refused at kind refused is2) =
-      absurd (refused_front dialect b2 back2 b at kind (sym e ∙ after_nothing b back nothing) refused sound)
-  same_end b b2 back back2 result result2 e (is_long nothing sound long is) (is_short nothing2 some sound2 fits is2) =
-      absurd (omega (arith, fits, long))
-  same_end b b2 back back2 result result2 e (is_long nothing sound long is) (is_long nothing2 sound2 long2 is2) =
-      (both b b2 back back2 nothing nothing2 e, nothing ∙ sym nothing2, is ∙ sym is2)
+same_end : (dialect : Dialect) (limit : ℕ) (bytes : List ℕ) (units : List (List ℕ)) (b b2 back back2 : List ℕ)
+    (result result2 : Result Summary RunFault) → How dialect limit bytes units b back result
+    → How dialect limit bytes units b2 back2 result2 → IsOfBytes result → IsOfBytes result2 → b ++ back ≡ b2 ++ back2
+    → (b ≡ b2) × (back ≡ back2) × (result ≡ result2)
+same_end dialect limit bytes units b b2 back back2 result result2 (refused at kind r is) (refused at2 kind2 r2 is2) of
+    of2 e =
+    let one = one_refusal dialect b b2 back back2 at at2 kind kind2 e r r2 in
+    (one.0, append_cancel_left b back back2 (cc one.0), cc (one.1, one.2, is of, is2 of2))
+same_end dialect limit bytes units b b2 back back2 result result2 (refused at kind r is) (over nothing sound is2) of
+    of2 e = absurd (sound b back at kind (cc (append-nil b2)) r)
+same_end dialect limit bytes units b b2 back back2 result result2 (over nothing sound is) (refused at kind r is2) of
+    of2 e = absurd (sound b2 back2 at kind (cc (append-nil b)) r)
+same_end dialect limit bytes units b b2 back back2 result result2 (over nothing sound is) (over nothing2 sound2 is2) of
+    of2 e =
+    let same : b ≡ b2 = cc (append-nil b, append-nil b2) in
+    (same, cc, is of ∙ ap (over_answer dialect limit bytes units) same ∙ sym (is2 of2))
 
 pub one_end : OneEnd
 one_end dialect limit bytes left left2 units units2 b b2 back back2 result result2 of of2 ends ends2 =
-    let first = ended dialect limit bytes left units b back result of ends in
-    let second = ended dialect limit bytes left2 units2 b2 back2 result2 of2 ends2 in
+    let first = ended dialect limit bytes left units b back result (of_bytes of) ends in
+    let second = ended dialect limit bytes left2 units2 b2 back2 result2 (of_bytes of2) ends2 in
     let cut = one_cut dialect (take limit bytes) units units2 (b ++ back) (b2 ++ back2) first.has first.none second.has
     second.none in
-    let same = same_end dialect limit bytes units b b2 back back2 result result2 cut.1 first.ending
-    (subst (λ (us : List (List ℕ)). Ending dialect limit bytes us b2 back2 result2) (sym cut.0) second.ending) in
+    let same = same_end dialect limit bytes units b b2 back back2 result result2 first.how (rw (← cut.0) at second.how)
+    of of2 cut.1 in
     (cut.0, same.0, same.1, same.2)

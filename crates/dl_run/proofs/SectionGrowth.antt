@@ -1,42 +1,22 @@
--- A section of which more bytes come: how far its front was told, and where both end.
-use Rattle.dl_head.specs.declared.dialect.Dialect.{Dialect}
-use Rattle.std.proofs.Common.{[], ◌≡◌, ◌≢◌, ◌≤◌, ◌⊎◌, inl, inr, ℕ, ◌+◌, ◌-◌, List, ◌∷◌, ◌++◌, length}
-use Rattle.std.proofs.Common.{take, drop, Option, Some, Result, Ok, Err, arith, refl, sym, ap, ap₂}
-use Rattle.std.proofs.Common.{◌∙◌, subst, append_assoc, append-nil, length-append, length-take, length-drop}
-use Rattle.std.proofs.Common.{take-append-drop}
-use Rattle.std.specs.List.{concat}
-use Rattle.std.proofs.lemmas.Bool.{cases_lt}
-use Rattle.std.proofs.lemmas.List.{take_all, take-append-le}
-use Rattle.std.proofs.Math.Seq.{take-append-add}
-use Rattle.dl_num.specs.declared.fixed.Order.{Order}
-use Rattle.dl_table.specs.declared.form.Format.{Format}
-use Rattle.dl_table.specs.declared.form.Format.TheVariants.{Dwarf32, Dwarf64}
-use Rattle.dl_table.specs.declared.fault.FaultKind.{FaultKind}
-use Rattle.dl_field.specs.Field.{IsInitialLength}
-use Rattle.dl_field.specs.Layout.{Item, length_is, number_is, form_is, value_is, end_is}
-use Rattle.dl_head.specs.HeaderLayout.{header_layout}
-use Rattle.dl_head.specs.HeaderLayout.{initial_size}
-use Rattle.dl_head.specs.Header.{SpellsFields, cut, unit_end}
-use Rattle.dl_head.specs.Header.{unit_len}
-use Rattle.dl_head.proofs.CutLemmas.{cut_sound, Sound as CutSound}
-use Rattle.dl_field.proofs.FieldLemmas.{none_some}
-use Rattle.dl_field.proofs.FieldLaws.{field_is_judged}
-use Rattle.dl_head.proofs.FrontLemmas.{GoesOn, fronts, after_front}
-use Rattle.dl_rows.specs.Reading.{WithinUnit}
-use Rattle.dl_rows.specs.Refusal.{Refused}
-use Rattle.dl_rows.specs.Runs.{Sound}
-use Rattle.dl_rows.proofs.UnitLengths.{length_is_computed, some_same}
-use Rattle.dl_rows.proofs.UnitLaws.{one_refusal}
-use Rattle.dl_rows.proofs.UnitWhole.{unit_unless_refused}
-use Rattle.dl_run.specs.declared.fault.RunFault.{RunFault}
-use Rattle.dl_run.specs.declared.fault.RunFault.TheVariants as fault
-use Rattle.dl_print.specs.declared.summary.Summary.{Summary}
-use Rattle.dl_run.specs.Section.{Visit, HasUnits, NoUnitBegins, EndsAs}
-use Rattle.dl_run.specs.Section.{section_visits}
-use Rattle.dl_run.specs.SectionLaws.{MoreIsTold}
-use Rattle.dl_run.proofs.SectionCuts.{cuts}
-use Rattle.dl_run.proofs.SectionLemmas.{none_begins, none_refused, no_unit_refused}
-use Rattle.dl_run.proofs.VisitsGrowth.{told, from_zero}
+-- A section of which more bytes come: what is told of its front is told of it first, and what is written of it too.
+use Rattle.dl_run.proofs.Names.{◌++◌, ◌+◌, ◌-◌, ◌∙◌, ◌∷◌, ◌≡◌, ◌≤◌, [], ap, append-nil, append_assoc, arith, cases_lt}
+use Rattle.dl_run.proofs.Names.{concat, cut, cut_sound, Dialect, drop, DumpIsFront, Dwarf32, Dwarf64, end_visits}
+use Rattle.dl_run.proofs.Names.{FaultKind, field_is_judged, flat_map-append, Format, fronts, HasBegun, header_layout}
+use Rattle.dl_run.proofs.Names.{initial_size, inl, inr, IsInitialLength, IsUnit, Item, length, length-append}
+use Rattle.dl_run.proofs.Names.{length-drop, length-take, length_is, length_is_computed, length_of_unit, List}
+use Rattle.dl_run.proofs.Names.{MoreIsTold, NoUnitBegins, one_refusal, Order, Refused, Result, RunFault, section_text}
+use Rattle.dl_run.proofs.Names.{section_visits, Some, some_same, SpellsFields, Summary, sym, take, take-append-add}
+use Rattle.dl_run.proofs.Names.{take-append-drop, take-append-le, take_all, unit_end, unit_len, unit_len_on}
+use Rattle.dl_run.proofs.Names.{unit_unless_refused, units_visits, Visit, visit_text, visits, visits_text, WithinUnit}
+use Rattle.dl_run.proofs.Names.{Write, ℕ}
+use Rattle.dl_run.proofs.Names.fault
+use Rattle.dl_head.proofs.CutLemmas.{Sound as CutSound}
+use Rattle.dl_run.proofs.Fronts.{none_is_some}
+use Rattle.dl_run.proofs.OneAnswers.{dumped}
+use Rattle.dl_run.proofs.OutLemmas.{TellsOut-more}
+use Rattle.dl_run.proofs.SectionCuts.{Meet, same, shorter, longer, meet, How, refused, over, Ended, of_bytes, ended}
+use Rattle.dl_run.proofs.SectionLemmas.{units_visits-append}
+use Rattle.dl_run.proofs.VisitsGrowth.{more_visits, same_visits}
 
 -- ---- no further than a unit
 
@@ -56,31 +36,20 @@ unit_len_front dialect b n e le =
     on : (items : List Item) (w rest : List ℕ) → b ≡ w ++ rest
         → SpellsFields dialect.order (header_layout dialect) items w
         → unit_end items ≡ Some n → unit_len dialect (take n b) ≡ Some (length (take n b))
-    on [] w rest whole s e = absurd (none_some refl e)
-    on (number_is m ∷ items) w rest whole s e = absurd (none_some refl e)
-    on (form_is f ∷ items) w rest whole s e = absurd (none_some refl e)
-    on (value_is v ∷ items) w rest whole s e = absurd (none_some refl e)
-    on (end_is k ∷ items) w rest whole s e = absurd (none_some refl e)
     on (length_is format m ∷ items) w rest whole s e =
         let is = (field_is_judged dialect.order (header_layout dialect) (length_is format m) s.0).1 s.3 in
-        let sizes : initial_size is.0 + is.1 ≡ initial_size format + m =
-        ap (λ (i : Item). elim i [
-          | length_is g k ↦ initial_size g
-              + k
-          | number_is k ↦ 0
-          | form_is g ↦ 0
-          | value_is v ↦ 0
-          | end_is k ↦ 0
-        ]) (sym is.2) in
+        let formats : is.0 ≡ format = cc (is.2) in
+        let lengths : is.1 ≡ m = cc (is.2) in
         let size = initial_length dialect.order is.0 is.1 s.0 is.3 in
-        let n_is : n ≡ length s.0 + is.1 = omega (arith, some_same _ _ e, sizes, size) in
-        let b_is : b ≡ s.0 ++ (s.1 ++ rest) = whole ∙ ap (λ (l : List ℕ). l ++ rest) s.2 ∙ append_assoc s.0 s.1 rest in
+        let n_is : n ≡ length s.0 + is.1 =
+        omega (arith, some_same _ _ e, ap initial_size formats, lengths, size) in
+        let b_is : b ≡ s.0 ++ (s.1 ++ rest) = cc (s.2, append_assoc s.0 s.1 rest) in
         (length_is_computed dialect (take n b)).0 (record {
           format = is.0;
           unit_length = is.1;
           front = s.0;
           rest = take is.1 (s.1 ++ rest);
-          whole = ap₂ (λ (k : ℕ) (l : List ℕ). take k l) n_is b_is ∙ take-append-add s.0 (s.1 ++ rest) is.1;
+          whole = rw (n_is, b_is) (take-append-add s.0 (s.1 ++ rest) is.1);
           spells = is.3;
           size = omega (
             arith,
@@ -91,6 +60,7 @@ unit_len_front dialect b n e le =
             length-append s.0 (s.1 ++ rest),
           );
         })
+    on items w rest whole s e = absurd (none_is_some e)
 
 -- no front of b but b is refused
 abbrev NoneBefore : Dialect → List ℕ → Type 0
@@ -106,177 +76,125 @@ within_unit dialect b back none before n e = elim (cases_lt n (length b)) [
       let parts : b ≡ take n b ++ drop n b = sym (take-append-drop n b) in
       let len = unit_len_front dialect b n e (omega (arith, lt)) in
       let is = (unit_unless_refused dialect (take n b) len).1 (λ front more at kind f refused.
-      before front (more ++ drop n b) at kind (parts ∙ ap (λ (l : List ℕ). l ++ drop n b) f
-      ∙ append_assoc front more (drop n b)) (omega (arith, lt, length-drop n b, length-append more (drop n b)))
-      refused) in
-      absurd (none (take n b) (drop n b ++ back) (ap (λ (l : List ℕ). l ++ back) parts
-      ∙ append_assoc (take n b) (drop n b) back) is)
+      before front (more ++ drop n b) at kind (cc (f, parts, append_assoc front more (drop n b)))
+      (omega (arith, lt, length-drop n b, length-append more (drop n b))) refused) in
+      absurd (none (take n b) (drop n b ++ back) (cc (parts, append_assoc (take n b) (drop n b) back)) is)
 ]
 
-none_before : (dialect : Dialect) (b : List ℕ) (at : ℕ) (kind : FaultKind) → Refused dialect b at kind
-    → NoneBefore dialect b
-none_before dialect b at kind refused front back at2 kind2 e some refused2 =
-    let one = one_refusal dialect front b back [] at2 at kind2 kind (sym e ∙ sym (append-nil b)) refused2 refused in
-    omega (arith, some, ap length one.0, ap length e, length-append front back)
+-- so it is where a section ends
+ended_within : {dialect : Dialect} {limit : ℕ} {bytes : List ℕ} {units : List (List ℕ)} {b back : List ℕ}
+    {result : Result Summary RunFault} → Ended dialect limit bytes units b back result → WithinUnit dialect b
+ended_within {dialect} {limit} {bytes} {units} {b} {back} {result} s =
+    within_unit dialect b back s.none (by s.how) where
+      by : How dialect limit bytes units b back result → NoneBefore dialect b
+      by (refused at kind r is) front more at2 kind2 e some r2 =
+          let one = one_refusal dialect front b more [] at2 at kind2 kind (cc (append-nil b)) r2 r in
+          omega (arith, some, ap length one.0, ap length e, length-append front more)
+      by (over nothing sound is) front more at kind e some r = sound front more at kind e r
 
--- ---- two ends
+-- ---- what is told
 
--- how the reading of a section stops: at a refusal, or where the bytes end
-pub record Stops (dialect : Dialect) (t : List ℕ) (units : List (List ℕ)) (b back : List ℕ) : Type 0 where
-  pub has : HasUnits dialect t units (b ++ back)
-  pub none : NoUnitBegins dialect (b ++ back)
-  pub how : ((at : ℕ) × (kind : FaultKind) × Refused dialect b at kind) ⊎ ((back ≡ []) × Sound dialect b)
+-- b goes no further than a unit at the front of the same list
+begun_unit : (dialect : Dialect) (b m u back : List ℕ) → WithinUnit dialect b → IsUnit dialect u
+    → b ++ m ≡ u ++ back → (x : List ℕ) × (u ≡ b ++ x)
+begun_unit dialect b m u back within is e = elim (fronts b u m back e) [
+  | inl one ↦ ([], cc (append-nil b))
+  | inr (inl g) ↦ (g.0 ∷ g.1, g.2)
+  | inr (inr g) ↦
+      let len = rw (← g.2) at (unit_len_on dialect u (g.0 ∷ g.1) (length u) (length_of_unit dialect u is)) in
+      absurd (omega (arith, within (length u) len, ap length g.2, length-append u (g.0 ∷ g.1)))
+]
 
-after_nothing : (b back : List ℕ) → back ≡ [] → b ++ back ≡ b
-after_nothing b back nothing = ap (λ (l : List ℕ). b ++ l) nothing ∙ append-nil b
+-- what is told where more units come, the first of which begins with b
+told_on : (dialect : Dialect) (units vs : List (List ℕ)) (b x b2 : List ℕ)
+    → (others : List Visit)
+    × (section_visits dialect (units ++ (b ++ x) ∷ vs) b2 ≡ section_visits dialect units b ++ others)
+told_on dialect units vs b x b2 =
+    let n = length (concat units) in
+    let more = more_visits dialect n b x in (
+      (more.0 ++ (end_visits dialect (b ++ x) ++ units_visits dialect (n + length (b ++ x)) vs))
+          ++ visits dialect (length (concat (units ++ (b ++ x) ∷ vs))) b2,
+      rw (units_visits-append dialect 0 units ((b ++ x) ∷ vs) n (omega arith), more.1) (simp append_assoc),
+    )
 
-stops_at_end : (dialect : Dialect) (t : List ℕ) (units : List (List ℕ)) (b back : List ℕ) → HasUnits dialect t units b
-    → back ≡ [] → NoUnitBegins dialect b → Sound dialect b → Stops dialect t units b back
-stops_at_end dialect t units b back has nothing none sound = record {
-  has = subst (HasUnits dialect t units) (sym (after_nothing b back nothing)) has;
-  none = subst (NoUnitBegins dialect) (sym (after_nothing b back nothing)) none;
-  how = inr (nothing, sound);
-}
+-- what was begun is told first of a section that ends in the same bytes
+begun_grows : {dialect : Dialect} {limit : ℕ} {bytes : List ℕ} {units units2 : List (List ℕ)} {b b2 back back2 : List ℕ}
+    {result : Result Summary RunFault} → HasBegun dialect (take limit bytes) units b back
+    → Ended dialect limit bytes units2 b2 back2 result
+    → (others : List Visit) × (section_visits dialect units2 b2 ≡ section_visits dialect units b ++ others)
+begun_grows {dialect} {limit} {bytes} {units} {units2} {b} {b2} {back} {back2} {result} s s2 =
+    by (meet s.has s2.has) where
+      Grows : Type 0
+      Grows = (others : List Visit) × (section_visits dialect units2 b2 ≡ section_visits dialect units b ++ others)
 
-module _ (dialect : Dialect) (limit : ℕ) (bytes : List ℕ) (left : Option (List ℕ)) (units : List (List ℕ))
-    (b back : List ℕ) where
-  within_limit : length bytes ≤ limit → (rest : List ℕ) → HasUnits dialect bytes units rest
-      → HasUnits dialect (take limit bytes) units rest
-  within_limit fits rest has = subst (λ (l : List ℕ). HasUnits dialect l units rest)
-      (sym (take_all limit bytes fits)) has
+      longer_by : (x : ℕ) (v : List ℕ) → b ≡ b2 ++ x ∷ v → units ≡ units2 → b ++ back ≡ b2 ++ back2
+          → How dialect limit bytes units2 b2 back2 result → Grows
+      longer_by x v goes us e (refused at kind r is) = (
+        [],
+        rw (us, goes, same_visits dialect b2 (x ∷ v) at kind r (rw goes at s.in_unit) (length (concat units2)))
+            (simp append-nil),
+      )
+      longer_by x v goes us e (over nothing sound is) =
+          absurd (omega (
+            arith,
+            ap length e,
+            ap length nothing,
+            ap length goes,
+            length-append b back,
+            length-append b2 back2,
+            length-append b2 (x ∷ v),
+          ))
 
-  pub stops : (result : Result Summary RunFault) → result ≢ Err fault.NoMemory
-      → EndsAs dialect limit bytes left units b back result → Stops dialect (take limit bytes) units b back
-  stops (Ok summary) not (has, empty, nothing, fits, at_end, is) =
-      stops_at_end dialect (take limit bytes) units b back
-      (subst (HasUnits dialect (take limit bytes) units) (sym empty)
-      (within_limit fits [] has)) nothing
-      (subst (NoUnitBegins dialect) (sym empty) (none_begins dialect))
-      (subst (Sound dialect) (sym empty) (none_refused dialect))
-  stops (Err (fault.Damage offset kind)) not (has, none, inl (at, place, refused)) =
-      record { has = has; none = none; how = inl (at, kind, refused) }
-  stops (Err (fault.Damage offset kind)) not (has, none, inr (nothing, some, sound, fits, at_end, place, is)) =
-      record { has = has; none = none; how = inr (nothing, sound) }
-  stops (Err fault.Read) not (has, nothing, none, sound, fits) =
-      stops_at_end dialect (take limit bytes) units b back (within_limit fits b has) nothing none sound
-  stops (Err fault.SectionTooLong) not (has, nothing, none, sound, long) =
-      stops_at_end dialect (take limit bytes) units b back has nothing none sound
-  stops (Err fault.NoMemory) not ends = absurd (not refl)
-  stops (Err fault.NotFound) not ends = absurd ends
-  stops (Err (fault.Write out)) not ends = absurd ends
-  stops (Err (fault.ForeignUnit unit)) not ends = absurd ends
-  stops (Err (fault.Emit unit f)) not ends = absurd ends
+      by : Meet dialect units units2 (b ++ back) (b2 ++ back2) → Grows
+      by (same us e) = elim (fronts b b2 back back2 e) [
+        | inl is ↦ ([], rw (us, is) (simp append-nil))
+        | inr (inl g) ↦
+            let more = more_visits dialect (length (concat units2)) b (g.0 ∷ g.1) in
+            (more.0, rw (us, g.2, more.1) (simp append_assoc))
+        | inr (inr g) ↦ longer_by g.0 g.1 g.2 us e s2.how
+      ]
+      by (shorter v vs us e unit) =
+          let x = begun_unit dialect b back v (concat vs ++ (b2 ++ back2)) s.in_unit unit e in
+          rw (us, x.1) (told_on dialect units vs b x.0 b2)
+      by (longer v vs us e unit) = absurd (s2.none v (concat vs ++ (b ++ back)) e unit)
 
 take_more : (limit : ℕ) (bytes more : List ℕ) → (m : List ℕ) × (take limit (bytes ++ more) ≡ take limit bytes ++ m)
 take_more limit bytes more = elim (cases_lt limit (length bytes)) [
-  | inl lt ↦ ([], take-append-le limit bytes more (omega (arith, lt)) ∙ sym (append-nil (take limit bytes)))
-  | inr le ↦ (
-    take (limit - length bytes) more,
-    ap (λ (n : ℕ). take n (bytes ++ more)) (let n_is : limit ≡ length bytes + (limit - length bytes) = omega (
-      arith,
-      le,
-    ) in n_is)
-        ∙ take-append-add bytes more (limit - length bytes)
-        ∙ ap (λ (l : List ℕ). l ++ take (limit - length bytes) more) (sym (take_all limit bytes le)),
-  )
+  | inl lt ↦ ([], rw append-nil (take-append-le limit bytes more (omega (arith, lt))))
+  | inr le ↦
+      let n_is : limit ≡ length bytes + (limit - length bytes) = omega (arith, le) in (
+        take (limit - length bytes) more,
+        rw (take_all limit bytes le) (ap (λ (n : ℕ). take n (bytes ++ more)) n_is
+            ∙ take-append-add bytes more (limit - length bytes)),
+      )
 ]
-
-module _ (dialect : Dialect) (t m : List ℕ) (units units2 : List (List ℕ)) (b b2 back back2 : List ℕ)
-    (s : Stops dialect t units b back) (s2 : Stops dialect (t ++ m) units2 b2 back2) where
-  abbrev Grows : Type 0
-  Grows = (others : List Visit) × (section_visits dialect units2 b2 ≡ section_visits dialect units b ++ others)
-
-  whole : concat units ++ (b ++ (back ++ m)) ≡ concat units2 ++ (b2 ++ back2)
-  whole =
-      ap (λ (l : List ℕ). concat units ++ l) (sym (append_assoc b back m))
-      ∙ sym (append_assoc (concat units) (b ++ back) m)
-      ∙ ap (λ (l : List ℕ). l ++ m) (sym s.has.whole)
-      ∙ s2.has.whole
-
-  same_told : units ≡ units2 → b ≡ b2 → Grows
-  same_told us bs = (
-    [],
-    ap₂ (λ (x : List (List ℕ)) (y : List ℕ). section_visits dialect x y) (sym us) (sym bs)
-        ∙ sym (append-nil (section_visits dialect units b)),
-  )
-
-  -- the front is refused
-  at_refusal : (at : ℕ) (kind : FaultKind) → Refused dialect b at kind
-      → ((at : ℕ) × (kind : FaultKind) × Refused dialect b2 at kind) ⊎ ((back2 ≡ []) × Sound dialect b2) → Grows
-  at_refusal at kind refused how2 =
-      let within = within_unit dialect b back s.none (none_before dialect b at kind refused) in
-      let cut = cuts dialect units units2 (b ++ (back ++ m)) (b2 ++ back2) s.has.each s2.has.each
-      (no_unit_refused dialect b (back ++ m) at kind within refused) s2.none whole in
-      elim how2 [
-        | inl (at2, kind2, refused2) ↦ same_told cut.0
-            (one_refusal dialect b b2 (back ++ m) back2 at at2 kind kind2 cut.1 refused refused2).0
-        | inr (
-          nothing,
-          sound,
-        ) ↦ absurd (sound b (back ++ m) at kind (sym (cut.1 ∙ after_nothing b2 back2 nothing)) refused)
-      ]
-
-  module _ (nothing : back ≡ []) (sound : Sound dialect b) where
-    t_is : t ≡ concat units ++ b
-    t_is = s.has.whole ∙ ap (λ (l : List ℕ). concat units ++ l) (after_nothing b back nothing)
-
-    both : (concat units ++ b) ++ m ≡ (concat units2 ++ b2) ++ back2
-    both = ap (λ (l : List ℕ). l ++ m) (sym t_is) ∙ s2.has.whole ∙ sym (append_assoc (concat units2) b2 back2)
-
-    -- a refusal is no earlier
-    no_earlier : (at : ℕ) (kind : FaultKind) → Refused dialect b2 at kind
-        → GoesOn (concat units2 ++ b2) (concat units ++ b) → ⊥
-    no_earlier at kind refused (x, w, goes) =
-        let rest : (x ∷ w) ++ m ≡ back2 =
-        after_front (concat units2 ++ b2) ((x ∷ w) ++ m) back2 (sym (append_assoc (concat units2 ++ b2) (x ∷ w) m)
-        ∙ ap (λ (l : List ℕ). l ++ m) (sym goes) ∙ both) in
-        let none : NoUnitBegins dialect (b2 ++ x ∷ w) = λ u more e is.
-        s2.none u (more ++ m) (ap (λ (l : List ℕ). b2 ++ l) (sym rest) ∙ sym (append_assoc b2 (x ∷ w) m)
-        ∙ ap (λ (l : List ℕ). l ++ m) e ∙ append_assoc u more m) is in
-        let cut = cuts dialect units units2 b (b2 ++ x ∷ w) s.has.each s2.has.each
-        (subst (NoUnitBegins dialect) (after_nothing b back nothing) s.none) none (goes
-        ∙ append_assoc (concat units2) b2 (x ∷ w)) in
-        sound b2 (x ∷ w) at kind cut.1 refused
-
-    no_further : ((at : ℕ) × (kind : FaultKind) × Refused dialect b2 at kind) ⊎ ((back2 ≡ []) × Sound dialect b2)
-        → length (concat units ++ b) ≤ length (concat units2 ++ b2)
-    no_further (inr (nothing2, sound2)) =
-        omega (
-          arith,
-          ap length both,
-          ap length nothing2,
-          length-append (concat units ++ b) m,
-          length-append (concat units2 ++ b2) back2,
-        )
-    no_further (inl (at, kind, refused)) = elim (fronts (concat units ++ b) (concat units2 ++ b2) m back2 both) [
-      | inl same ↦ omega (arith, ap length same)
-      | inr (inl g) ↦ omega (arith, ap length g.2, length-append (concat units ++ b) (g.0 ∷ g.1))
-      | inr (inr g) ↦ absurd (no_earlier at kind refused g)
-    ]
-
-    at_end : ((at : ℕ) × (kind : FaultKind) × Refused dialect b2 at kind) ⊎ ((back2 ≡ []) × Sound dialect b2) → Grows
-    at_end how2 =
-        let within = within_unit dialect b back s.none
-        (λ front more at kind e some refused. sound front more at kind e refused) in
-        let e : concat units ++ (b ++ m) ≡ concat units2 ++ (b2 ++ back2) =
-        ap (λ (l : List ℕ). concat units ++ (b ++ (l ++ m))) (sym nothing) ∙ whole in
-        let more = told dialect 0 units units2 b m b2 back2 s.has.each s2.has.each within s2.none e
-        (no_further how2) in (
-          more.0,
-          sym (from_zero dialect units2 b2) ∙ more.1
-              ∙ ap (λ (l : List Visit). l ++ more.0) (from_zero dialect units b),
-        )
-
-  grows : Grows
-  grows = elim s.how [
-    | inl (at, kind, refused) ↦ at_refusal at kind refused s2.how
-    | inr (nothing, sound) ↦ at_end nothing sound s2.how
-  ]
 
 pub more_is_told : MoreIsTold
 more_is_told dialect limit bytes more left left2 units units2 b b2 back back2 result result2 not not2 ends ends2 =
     let m = take_more limit bytes more in
-    let s = stops dialect limit bytes left units b back result not ends in
-    let s2 = subst (λ (l : List ℕ). Stops dialect l units2 b2 back2) m.1
-    (stops dialect limit (bytes ++ more) left2 units2 b2 back2 result2 not2 ends2) in
-    grows dialect (take limit bytes) m.0 units units2 b b2 back back2 s s2
+    let s = ended dialect limit bytes left units b back result not ends in
+    begun_grows {back = back ++ m.0} (record {
+      has = record { whole = rw (m.1, s.has.whole) (simp append_assoc); each = s.has.each };
+      in_unit = ended_within s;
+    }) (ended dialect limit (bytes ++ more) left2 units2 b2 back2 result2 not2 ends2)
+
+-- ---- what is written
+
+pub dump_is_front : DumpIsFront
+dump_is_front dialect strings limit bytes left left2 start start2 now now2 out result2 of2 (
+  units,
+  b,
+  back,
+  begun,
+  tells,
+) dumps2 =
+    let d2 = dumped dialect strings limit bytes left2 start2 now2 result2 of2 dumps2 in
+    let more = begun_grows begun (ended dialect limit bytes left2 d2.0 d2.1 d2.2 result2 (of_bytes of2) d2.3) in
+    let text : section_text dialect strings d2.0 d2.1 ≡ section_text dialect strings units b
+    ++ visits_text strings more.0 =
+    rw more.1 (flat_map-append (visit_text strings) (section_visits dialect units b) more.0) in (
+      section_text dialect strings d2.0 d2.1,
+      rw text (TellsOut-more start now (section_text dialect strings units b) (visits_text strings more.0)
+          (fault.Write out) tells),
+      d2.4,
+    )

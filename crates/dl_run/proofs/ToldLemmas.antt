@@ -1,28 +1,11 @@
 -- Rows that a visitor is told while a reader takes bytes, and what it stands for then.
-use Rattle.std.proofs.Common.{◌≡◌, ℕ, ◌+◌, ◌^◌, ◌-◌, min, List, [], ◌∷◌, ◌++◌, map, Option, Some, None}
-use Rattle.std.proofs.Common.{Result, Ok, Err, arith, refl, sym, ap, ◌∙◌, subst, append_assoc, append-nil}
-use Rattle.std.proofs.Common.{length-append}
-use Rattle.std.specs.Prelude.{⊤, cond}
-use Rattle.std.proofs.lemmas.List.Sums.{sum_by-append}
-use Rattle.std.proofs.lemmas.List.{map-append}
-use Rattle.std.proofs.lemmas.Option.{same_Some}
-use Rattle.dl_field.proofs.FieldLemmas.{none_some}
-use Rattle.dl_head.specs.declared.fault.Fault.{Fault}
-use Rattle.dl_rows.specs.declared.row.Row.{Row}
-use Rattle.dl_rows.specs.declared.reader.Event.{Event}
-use Rattle.dl_rows.specs.declared.reader.Event.TheVariants as event
-use Rattle.dl_rows.specs.declared.reader.Fed.{Fed}
-use Rattle.dl_rows.specs.declared.reader.Reader.{Reader}
-use Rattle.dl_rows.specs.LineUnit.{events}
-use Rattle.dl_rows.specs.ReaderAnswers.{FedAfter, RowsFed}
-use Rattle.dl_rows.specs.Reading.{SinkAt, SinkAfter}
-use Rattle.dl_run.specs.declared.fault.RunFault.{RunFault}
-use Rattle.dl_run.specs.declared.section.Told.{Told}
-use Rattle.dl_run.specs.declared.section.SectionUnits.{SectionUnits}
-use Rattle.dl_run.specs.Section.{Visit, of_row}
-use Rattle.dl_run.specs.Told.{ends, Counted, HeardRows, told_story, NoRow, RowsOf, StopsAtRow}
-use Rattle.dl_run.specs.Visiting.{Story, Stopped, Hears}
-use Rattle.dl_run.specs.UnitsRead.{row_told}
+use Rattle.dl_run.proofs.Names.{ends, ◌++◌, ◌+◌, ◌-◌, ◌^◌, ◌∙◌, ◌∷◌, ◌≡◌, [], ap, append-nil, append_assoc, arith, cond}
+use Rattle.dl_run.proofs.Names.{Counted, Err, Event, Fault, Fed, HeardRows, Hears, length-append, List, map}
+use Rattle.dl_run.proofs.Names.{map-append, min, None, none_some, NoRow, of_row, Ok, Option, Reader, refl, Result}
+use Rattle.dl_run.proofs.Names.{Row, row_told, RowsFed, RowsOf, RunFault, same_Some, SectionUnits, SinkAfter}
+use Rattle.dl_run.proofs.Names.{SinkAt, Some, StopsAtRow, Story, sum_by-append, sym, told, Told, told_story, visits}
+use Rattle.dl_run.proofs.Names.{ℕ, ⊤}
+use Rattle.dl_run.proofs.Names.event
 
 pub ends-append : (xs ys : List Row) → ends (xs ++ ys) ≡ ends xs + ends ys
 ends-append xs ys = sum_by-append (λ (r : Row). cond r.end_sequence 1 0) xs ys
@@ -32,14 +15,13 @@ pub counts_more : (old_rows old_ends rows_now ends_now rows_new ends_new : ℕ) 
     → Counted old_rows old_ends rows_now ends_now rows
     → rows_new ≡ min (rows_now + 1) (2 ^ 64 - 1) → ends_new ≡ min (ends_now + cond r.end_sequence 1 0) (2 ^ 64 - 1)
     → Counted old_rows old_ends rows_new ends_new (rows ++ r ∷ [])
-counts_more old_rows old_ends rows_now ends_now rows_new ends_new rows r counts more_rows more_ends = record {
-  of_rows =
-      λ small. let size =
-      length-append rows (r ∷ []) in omega (arith, counts.of_rows (omega (arith, small, size)), more_rows, small, size);
-  of_ends =
-      λ small. let size =
-      ends-append rows (r ∷ []) in omega (arith, counts.of_ends (omega (arith, small, size)), more_ends, small, size);
-}
+counts_more old_rows old_ends rows_now ends_now rows_new ends_new rows r counts more_rows more_ends =
+    let size = length-append rows (r ∷ []) in
+    let ends_are = ends-append rows (r ∷ []) in
+    record {
+      of_rows = λ small. omega (arith, counts.of_rows (omega (arith, small, size)), more_rows, small);
+      of_ends = λ small. omega (arith, counts.of_ends (omega (arith, small, ends_are)), more_ends, small);
+    }
 
 module _ {W V : Type 0} (story : Story V) (contents : W → Option (List ℕ)) where
   -- rows that are told, and one at which the visitor stops
@@ -51,9 +33,8 @@ module _ {W V : Type 0} (story : Story V) (contents : W → Option (List ℕ)) w
       let s = stops first start (visits ++ map of_row rows) (told first start visits tells) in (
         map of_row rows ++ s.0,
         s.1,
-        map-append of_row rows (r ∷ []) ∙ ap (λ (l : List Visit). map of_row rows ++ l) s.2
-            ∙ sym (append_assoc (map of_row rows) s.0 s.1),
-        subst (λ (l : List Visit). Stopped story first w start c l f) (append_assoc visits (map of_row rows) s.0) s.3,
+        rw (map-append, s.2) (simp append_assoc),
+        rw append_assoc at s.3,
       )
 
   -- no row was told
@@ -64,8 +45,7 @@ module _ {W V : Type 0} (story : Story V) (contents : W → Option (List ℕ)) w
     counts = record { of_rows = λ small. omega arith; of_ends = λ small. omega arith };
     fails = none;
     hears = λ fst start visits tells.
-        subst (λ (l : List Visit). story.tells fst first.visitor.now start (contents first.output.now) l)
-        (sym (append-nil visits)) tells;
+        rw append-nil tells;
   }
 
   -- the sink goes on, so no row is answered
@@ -77,11 +57,7 @@ module _ {W V : Type 0} (story : Story V) (contents : W → Option (List ℕ)) w
     at : (e : Event) → fed.event ≡ e → SinkAt (told_story story contents first) now rows e
         → (row_told fed.event ≡ []) × HeardRows story contents first now rows None (Ok (tt {0}))
     at (event.Row r) is stopped = absurd (none_some none stopped.1.fails)
-    at event.More is told = (ap row_told is, told)
-    at event.Header is told = (ap row_told is, told)
-    at (event.Foreign version) is told = (ap row_told is, told)
-    at event.End is told = (ap row_told is, told)
-    at event.NoMemory is told = (ap row_told is, told)
+    at e is told = (ap row_told is, told)
 
   -- the sink stopped, at the row that is answered
   pub stops_with : (first now : Told W V) (rows : List Row) (f : RunFault) (fed : Result Fed Fault)
@@ -99,14 +75,9 @@ module _ {W V : Type 0} (story : Story V) (contents : W → Option (List ℕ)) w
           refl,
           r,
           is,
-          subst (λ (e : RunFault). HeardRows story contents first now (rows ++ r ∷ []) (Some e) (Err e)) same
-              stopped.1,
+          rw same at stopped.1,
         )
-    at event.More is told = absurd (none_some told.fails some)
-    at event.Header is told = absurd (none_some told.fails some)
-    at (event.Foreign version) is told = absurd (none_some told.fails some)
-    at event.End is told = absurd (none_some told.fails some)
-    at event.NoMemory is told = absurd (none_some told.fails some)
+    at e is told = absurd (none_some told.fails some)
 
   -- w, after: what the visitor and the writer end as, where the sink still holds them
   pub all_told : (b piece : List ℕ) (old : SectionUnits) (reader : Reader) (first sink : Told W V) (w : V) (now : W)
@@ -129,9 +100,7 @@ module _ {W V : Type 0} (story : Story V) (contents : W → Option (List ℕ)) w
         dialect = dialect;
         fed_rows = f.fed;
         same = refl;
-        counts =
-            subst (λ (n : ℕ). Counted n old.sequences sink.rows sink.sequences f.rows) rows_are
-            (subst (λ (n : ℕ). Counted first.rows n sink.rows sink.sequences f.rows) ends_are told.counts);
+        counts = rw (rows_are, ends_are) at told.counts;
         hears = rw (w_is (sym told.visitor), now_is (sym told.output)) told.hears;
         no_row = so.0;
       }
@@ -152,8 +121,6 @@ module _ {W V : Type 0} (story : Story V) (contents : W → Option (List ℕ)) w
         fed = so.0;
         is_row = so.3;
         dialect = dialect;
-        fed_rows =
-            subst (λ (r : Result Fed Fault). FedAfter old.reader.dialect (events old.reader.dialect b
-            ++ map event.Row rf.rows) b piece r new.reader) so.1 rf.fed;
+        fed_rows = rw so.1 at rf.fed;
         hears = rw (w_is (sym told.visitor), now_is (sym told.output)) told.hears;
       }

@@ -1,19 +1,14 @@
 -- Visits that a visitor is told one after the other.
-use Rattle.std.proofs.Common.{◌≡◌, ℕ, List, [], ◌∷◌, ◌++◌, Option, Result, Ok, Err, refl, sym, ap, ◌∙◌, subst}
-use Rattle.std.proofs.Common.{append_assoc}
-use Rattle.std.specs.Prelude.{MatchResult}
-use Rattle.dl_rows.specs.declared.row.Row.{Row}
-use Rattle.dl_run.specs.declared.fault.RunFault.{RunFault}
-use Rattle.dl_rows.specs.declared.sink.Flow.{Flow}
+use Rattle.dl_run.proofs.Names.{◌++◌, ◌∷◌, ◌≡◌, [], append_assoc, Err, Flow, List, MatchResult, of_end, of_row, Ok}
+use Rattle.dl_run.proofs.Names.{Option, refl, Result, Row, RunFault, StopsIn, Story, Visit, visits, ℕ}
 use Rattle.dl_run.specs.RowsTold.{rows_after}
-use Rattle.dl_run.specs.Section.{Visit, of_header, of_version, of_row, of_open, of_end}
-use Rattle.dl_run.specs.Visiting.{Story, Stopped, StopsIn, GoesOn}
+use Rattle.dl_run.specs.Visiting.{GoesOn}
 
 module _ {S : Type 0} (story : Story S) (first new : S) (start now : Option (List ℕ)) where
   pub stops_before : (visits more others : List Visit) (f : RunFault) → StopsIn story first new start now visits more f
       → StopsIn story first new start now visits (more ++ others) f
   stops_before visits more others f s =
-      (s.0, s.1 ++ others, ap (λ (l : List Visit). l ++ others) s.2 ∙ append_assoc s.0 s.1 others, s.3)
+      (s.0, s.1 ++ others, rw s.2 (append_assoc s.0 s.1 others), s.3)
 
   pub stops_after : (visits more others : List Visit) (f : RunFault)
       → StopsIn story first new start now (visits ++ more) others f
@@ -21,8 +16,8 @@ module _ {S : Type 0} (story : Story S) (first new : S) (start now : Option (Lis
   stops_after visits more others f s = (
     more ++ s.0,
     s.1,
-    ap (λ (l : List Visit). more ++ l) s.2 ∙ sym (append_assoc more s.0 s.1),
-    subst (λ (l : List Visit). Stopped story first new start now l f) (append_assoc visits more s.0) s.3,
+    rw s.2 (simp append_assoc),
+    rw append_assoc at s.3,
   )
 
   pub ends_after : (visits more others : List Visit) (result : Result Flow RunFault)
@@ -31,15 +26,13 @@ module _ {S : Type 0} (story : Story S) (first new : S) (start now : Option (Lis
       → MatchResult result (GoesOn story first new start now (visits ++ (more ++ others)))
       (StopsIn story first new start now visits (more ++ others))
   ends_after visits more others (Ok flow) goes =
-      subst (λ (l : List Visit). GoesOn story first new start now l flow) (append_assoc visits more others) goes
+      rw append_assoc at goes
   ends_after visits more others (Err f) stops = stops_after visits more others f stops
 
 -- the rows that visits tell
 pub rows_after-append : (rows : List Row) (a b : List Visit)
     → rows_after rows (a ++ b) ≡ rows_after (rows_after rows a) b
 rows_after-append rows [] b = refl
-rows_after-append rows (of_header n h ∷ a) b = rows_after-append rows a b
-rows_after-append rows (of_version n v ∷ a) b = rows_after-append rows a b
 rows_after-append rows (of_row r ∷ a) b = rows_after-append (rows ++ r ∷ []) a b
-rows_after-append rows (of_open ∷ a) b = rows_after-append rows a b
 rows_after-append rows (of_end h ∷ a) b = rows_after-append [] a b
+rows_after-append rows (v ∷ a) b = rows_after-append rows a b

@@ -1,6 +1,5 @@
 -- What `find` is told and prints. No promise rests on this file.
-use Rattle.std.specs.Prelude.{◌≡◌, true, false, ℕ, List, [], ◌∷◌, ◌++◌, Option, Some, None, option_map}
-use Rattle.std.specs.Option.{option_or, option_map_or}
+use Rattle.std.specs.Prelude.{◌≡◌, true, false, ℕ, List, [], ◌∷◌, ◌++◌, Option, Some, None, fold}
 use Rattle.dl_field.specs.HeaderData.{HeaderData}
 use Rattle.dl_rows.specs.declared.row.Row.{Row}
 use Rattle.dl_look.specs.declared.place.Place.{Place}
@@ -9,60 +8,65 @@ use Rattle.dl_look.specs.FinderRows.{StandsFor}
 use Rattle.dl_run.specs.declared.finding.Seeker.{Seeker}
 use Rattle.dl_run.specs.Commands.{found_text}
 use Rattle.dl_print.specs.Output.{HasPrinted}
-use Rattle.dl_run.specs.RowsTold.{rows_after}
 use Rattle.dl_run.specs.Section.{Visit, of_row, of_end}
 use Rattle.dl_print.specs.ValueText.{Strings, strings_of}
 use Rattle.dl_run.specs.Visiting.{Story}
 
 -- ---- what visits give
 
--- the answer of a unit's rows, with its header
-abbrev pub answer_under : Place → List Row → Option HeaderData → Option (HeaderData × Row)
-answer_under x rows None = None
-answer_under x rows (Some h) = option_map (λ r. (h, r)) (answer rows x)
+-- no unit that is whole has an answer, and the current one has these rows; or the first answer, with its header
+pub data Search : Type 0 where
+  seeks : (rows : List Row) → Search
+  finds : (h : HeaderData) (r : Row) → Search
 
--- the first answer; rows: those of the current unit before the visits
-abbrev pub found_after : Place → List Row → List Visit → Option (HeaderData × Row)
-found_after x rows [] = None
-found_after x rows (of_row r ∷ visits) = found_after x (rows ++ r ∷ []) visits
-found_after x rows (of_end h ∷ visits) = option_or (answer_under x rows h) (found_after x [] visits)
-found_after x rows (visit ∷ visits) = found_after x rows visits
+-- the answer of a unit's rows, with its header
+abbrev pub answer_under : Option HeaderData → Option Row → Search
+answer_under None found = seeks []
+answer_under (Some h) None = seeks []
+answer_under (Some h) (Some r) = finds h r
+
+abbrev pub seen : Place → Search → Visit → Search
+seen x (finds h r) visit = finds h r
+seen x (seeks rows) (of_row r) = seeks (rows ++ r ∷ [])
+seen x (seeks rows) (of_end h) = answer_under h (answer rows x)
+seen x (seeks rows) visit = seeks rows
+
+abbrev pub search_of : Place → List Visit → Search
+search_of x visits = fold (seen x) (seeks []) visits
 
 -- what is printed of an answer, where there is one
-abbrev pub text_found : Strings → Option (HeaderData × Row) → List ℕ
-text_found strings found = option_map_or (λ f. found_text strings f.0 f.1) found []
+abbrev pub text_found : Strings → Search → List ℕ
+text_found strings (seeks rows) = []
+text_found strings (finds h r) = found_text strings h r
 
 -- ---- the seeker
 
--- it looks for the same place, and prints with the same string sections
-pub record SeeksOn (first now : Seeker) : Type 0 where
+-- it looks for the same place, and prints with the same string sections; nothing was found, and nothing is printed
+pub record Seeks (first now : Seeker) (start held : Option (List ℕ)) (visits : List Visit) : Type 0 where
+  pub rows : List Row
+  pub told : search_of first.place visits ≡ seeks rows
   pub place : now.place ≡ first.place
   pub strings : now.strings ≡ first.strings
-
--- nothing was found, and nothing is printed
-pub record Seeks (first now : Seeker) (start held : Option (List ℕ)) (visits : List Visit) : Type 0 where
-  pub same : SeeksOn first now
-  pub none : found_after first.place [] visits ≡ None
   pub not_found : now.found ≡ false
-  pub stands : StandsFor now.finder first.place (rows_after [] visits)
+  pub stands : StandsFor now.finder first.place rows
   pub printed : HasPrinted start held [] now.printer
 
 -- the last of the visits gave the first answer, which is printed
 pub record HasFound (first now : Seeker) (start held : Option (List ℕ)) (visits : List Visit) : Type 0 where
   pub before : List Visit
-  pub last : Visit
-  pub whole : visits ≡ before ++ last ∷ []
-  pub none_before : found_after first.place [] before ≡ None
+  pub rows : List Row
+  pub told : search_of first.place before ≡ seeks rows
   pub h : HeaderData
   pub r : Row
-  pub finds : found_after first.place [] visits ≡ Some (h, r)
+  pub row : answer rows first.place ≡ Some r
+  pub whole : visits ≡ before ++ of_end (Some h) ∷ []
   pub found : now.found ≡ true
   pub printed : HasPrinted start held (found_text (strings_of first.strings) h r) now.printer
 
 -- nothing before the first answer, and nothing more after it
 abbrev pub find_story : Story Seeker
 find_story = record {
-  text = λ first visits. text_found (strings_of first.strings) (found_after first.place [] visits);
+  text = λ first visits. text_found (strings_of first.strings) (search_of first.place visits);
   tells = Seeks;
   is_done = HasFound;
   refuses = λ first visits fault. ⊥;

@@ -1,8 +1,6 @@
-use Rattle.std.proofs.Common.{◌++◌, ℕ, List, append_assoc, subst}
-use Rattle.std.specs.Prelude.{MatchResult}
-use Rattle.std.proofs.lemmas.Result.{err_from_is_err_and}
-use Rattle.dl_print.specs.Output.{HasPrinted, TellsOut}
-use Rattle.dl_print.proofs.Outs.{TellsOut-front}
+use Rattle.dl_print.specs.Output.{TellsOut}
+use Rattle.dl_run.proofs.Names.{◌++◌, append_assoc, err_from_is_err_and, HasPrinted, List, MatchResult, subst}
+use Rattle.dl_run.proofs.Names.{TellsOut-front, ℕ}
 use Rattle.dl_run.proofs.copying.print_parts.Goals as goal
 
 pub returns-in_err-put : goal.returns-in_err-put

@@ -1,4 +1,4 @@
-use Rattle.dl_run.proofs.NewerUnits.{copies_are_newer}
+use Rattle.dl_run.proofs.CopiedUnits.{copies_are_newer}
 use Rattle.dl_run.proofs.laws.copies_are_newer.Goals as goal
 
 pub returns : goal.returns

@@ -1,4 +1,4 @@
-use Rattle.dl_run.proofs.DumpFronts.{dump_is_front}
+use Rattle.dl_run.proofs.SectionGrowth.{dump_is_front}
 use Rattle.dl_run.proofs.OneAnswers.{one_dumping, one_dump}
 use Rattle.dl_run.proofs.laws.one_dumping.Goals as goal
 

@@ -1,4 +1,4 @@
-use Rattle.dl_run.proofs.OnePassing.{one_passing_over}
+use Rattle.dl_run.proofs.OneAnswers.{one_passing_over}
 use Rattle.dl_run.proofs.laws.one_passing_over.Goals as goal
 
 pub returns : goal.returns

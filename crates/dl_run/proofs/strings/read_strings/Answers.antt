@@ -1,5 +1,4 @@
-use Rattle.std.proofs.Common.{◌++◌, arith, length-append}
-use Rattle.std.proofs.KnownBytes.{Consumes-trans}
+use Rattle.dl_run.proofs.Names.{◌++◌, arith, Consumes-trans, length-append}
 use Rattle.dl_run.proofs.strings.read_strings.Goals as goal
 
 pub returns-then-limit-len : goal.returns-then-limit-len

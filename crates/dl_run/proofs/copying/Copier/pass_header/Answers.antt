@@ -1,9 +1,6 @@
-use Rattle.std.proofs.Common.{Err, arith, subst}
-use Rattle.dl_head.specs.Written.{header_bytes}
-use Rattle.dl_emit.specs.declared.fault.EmitFault.{EmitFault}
 use Rattle.dl_emit.specs.Writing.{WritesUnitHeader}
-use Rattle.dl_emit.specs.WrittenUnit.{program_len}
-use Rattle.dl_run.proofs.HeaderPassed.{all_passed, part_passed}
+use Rattle.dl_run.proofs.Names.{arith, EmitFault, Err, header_bytes, program_len, subst}
+use Rattle.dl_run.proofs.CopierLemmas.{all_passed, part_passed}
 use Rattle.dl_run.proofs.copying.Copier.pass_header.Goals as goal
 
 pub returns-in-Ok-clause-printed : goal.returns-in-Ok-clause-printed

@@ -1,10 +1,9 @@
-use Rattle.std.proofs.Common.{refl}
-use Rattle.dl_run.specs.Section.{of_open}
-use Rattle.dl_run.proofs.CopierLemmas.{copies_past, grows_past_open}
+use Rattle.dl_run.proofs.Names.{of_open, refl}
+use Rattle.dl_run.proofs.CopierLemmas.{copies_on, grows_past_open}
 use Rattle.dl_run.proofs.copying.CopierVisitor.unterminated.Goals as goal
 
 pub returns : goal.returns
 returns g c first start visits s =
     let copier = c.args.self.now in
-    copies_past first copier copier start (g.W.Write.contents c.args._output.now) visits of_open s refl refl refl
-    refl (grows_past_open visits copier s.grown) refl refl
+    copies_on s copier (g.W.Write.contents c.args._output.now) of_open s.rows s.text refl refl refl
+    (grows_past_open visits copier s.rows s.grown) s.printed

@@ -1,4 +1,4 @@
-use Rattle.std.proofs.lemmas.Result.{err_from_is_err_and}
+use Rattle.dl_run.proofs.Names.{err_from_is_err_and}
 use Rattle.dl_run.proofs.SeekerLemmas.{settles, loses}
 use Rattle.dl_run.proofs.finding.SeekerVisitor.flush.Goals as goal
 

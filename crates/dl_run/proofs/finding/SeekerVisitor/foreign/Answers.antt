@@ -1,9 +1,6 @@
-use Rattle.std.proofs.Common.{refl}
-use Rattle.dl_run.specs.Section.{of_version}
+use Rattle.dl_run.proofs.Names.{of_version, refl}
 use Rattle.dl_run.proofs.SeekerLemmas.{seeks_past}
 use Rattle.dl_run.proofs.finding.SeekerVisitor.foreign.Goals as goal
 
 pub returns : goal.returns
-returns g c first start visits s =
-    seeks_past first c.args.self.now start (g.W.Write.contents c.args._output.now) visits
-    (of_version c.args._offset c.args._version) refl refl s
+returns g c first start visits s = seeks_past s (of_version c.args._offset c.args._version) refl

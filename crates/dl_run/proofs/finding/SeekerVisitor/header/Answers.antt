@@ -1,9 +1,6 @@
-use Rattle.std.proofs.Common.{refl}
-use Rattle.dl_run.specs.Section.{of_header}
+use Rattle.dl_run.proofs.Names.{of_header, refl}
 use Rattle.dl_run.proofs.SeekerLemmas.{seeks_past}
 use Rattle.dl_run.proofs.finding.SeekerVisitor.header.Goals as goal
 
 pub returns : goal.returns
-returns g c first start visits s =
-    seeks_past first c.args.self.now start (g.W.Write.contents c.args._output.now) visits
-    (of_header c.args._offset c.args._header.now) refl refl s
+returns g c first start visits s = seeks_past s (of_header c.args._offset c.args._header.now) refl

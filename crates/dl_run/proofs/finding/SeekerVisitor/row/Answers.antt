@@ -1,17 +1,9 @@
-use Rattle.std.proofs.Common.{refl, [], ◌∷◌}
-use Rattle.dl_run.specs.RowsTold.{rows_after}
-use Rattle.dl_run.specs.Section.{of_row}
+use Rattle.dl_run.proofs.Names.{◌++◌, ◌∷◌, [], of_row, refl}
 use Rattle.dl_run.proofs.SeekerLemmas.{seeks_on}
 use Rattle.dl_run.proofs.finding.SeekerVisitor.row.Goals as goal
 
 pub returns : goal.returns
 returns g c first start visits s =
-    seeks_on first c.args.self.now (record c.args.self.now {
-      finder =
-          c.row.new.self;
-    }) start (g.W.Write.contents c.args._output.now) visits (of_row c.args.row.now ∷ []) s
-    (record {
-      place = refl;
-      strings =
-          refl;
-    }) s.not_found refl refl (c.row.ensures first.place (rows_after [] visits) s.stands)
+    seeks_on s (record c.args.self.now { finder = c.row.new.self }) (of_row c.args.row.now)
+    (s.rows ++ c.args.row.now ∷ []) refl refl s.not_found refl refl
+    (c.row.ensures first.place s.rows s.stands)
