@@ -217,7 +217,8 @@ calls_of dialect b piece [] used gave m = alone dialect b piece used gave (rw ap
 calls_of dialect b piece (r ∷ rows) used gave m =
     let before = events dialect b ++ map event.Row (r ∷ rows) in
     let u = used_of dialect before b piece used gave m in
-    let t = row_taken dialect b piece used r (map event.Row rows ++ told_by gave) u.within (rw append_assoc at u.grows) in (
+    let t =
+    row_taken dialect b piece used r (map event.Row rows ++ told_by gave) u.within (rw append_assoc at u.grows) in (
       t.n,
       first_call t before gave m,
       elim (cases_lt t.n (length piece)) [

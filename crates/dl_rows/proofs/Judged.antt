@@ -196,7 +196,8 @@ module _ (order : Order) (h : Params) (w size : List ℕ) (n : ℕ) (s : IsUleb 
   wrong_length : (opcode : ℕ) (operand : List ℕ) → IsTo opcode operand → IsWrongLength h opcode n
       → is_empty operand ≡ true → IsFaulty h w fault.ExtendedLength
   wrong_length opcode operand e wrong none =
-      inl (record { n = n; opcode = opcode; begins = begins opcode [] (rw (empty_is operand none) at e); wrong = wrong })
+      let empty = begins opcode [] (rw (empty_is operand none) at e) in
+      inl (record { n = n; opcode = opcode; begins = empty; wrong = wrong })
 
   end_judged : (operand : List ℕ) → IsTo 1 operand
       → Judged order h w (extended_spelt order h.address_size n 1 operand)
@@ -304,7 +305,11 @@ body_judged order h w size n [] e s =
       | inr some ↦ rw (ne_eqb n 0 some) (elim (cases_lt n (2 ^ 64)) [
         | inl lt ↦ rw (lt-ltb n (2 ^ 64) lt) tt
         | inr le ↦ rw (le-ltb n (2 ^ 64) le)
-            (inr (inr (inl (record { number = n; ends = record { size = size; bytes = bytes; spells = s }; out = le }))))
+            (inr (inr (inl (record {
+              number = n;
+              ends = record { size = size; bytes = bytes; spells = s };
+              out = le;
+            }))))
       ])
     ]
 body_judged order h w size n (opcode ∷ operand) e s = elim (cases_eq n 0) [

@@ -106,7 +106,10 @@ last_set-push sets (x ∷ os) o = rw (last_set-push sets os o) (or_assoc (sets o
 pub any-push : (p : Operation → Bool) (os : List Operation) (o : Operation)
     → list_any p (os ++ o ∷ []) ≡ cond (p o) true (list_any p os)
 any-push p [] o = grind arith
-any-push p (x ∷ os) o = rw (any-push p os o) (elim (cases_Bool (p x)) [ inl a ↦ rw a (grind arith) | inr a ↦ rw a refl ])
+any-push p (x ∷ os) o = rw (any-push p os o) (elim (cases_Bool (p x)) [
+  | inl a ↦ rw a (grind arith)
+  | inr a ↦ rw a refl
+])
 
 -- ---- parts
 

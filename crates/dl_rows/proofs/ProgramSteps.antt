@@ -1,6 +1,6 @@
 -- A reader inside a program, and the bytes of one operation more.
-use Rattle.std.proofs.Common.{◌≡◌, ℕ, ◌+◌, ◌-◌, ◌^◌, List, [], ◌∷◌, ◌++◌, length, min, Option, Some, None, Ok, Err, refl}
-use Rattle.std.proofs.Common.{sym, ap, ◌∙◌, arith, inl, inr, append_assoc, append-nil, length-append}
+use Rattle.std.proofs.Common.{◌≡◌, ℕ, ◌+◌, ◌-◌, ◌^◌, List, [], ◌∷◌, ◌++◌, length, min, Option, Some, None, Ok, Err}
+use Rattle.std.proofs.Common.{refl, sym, ap, ◌∙◌, arith, inl, inr, append_assoc, append-nil, length-append}
 use Rattle.dl_num.specs.declared.fixed.Order.{Order}
 use Rattle.dl_num.specs.Front.{SpellsNowhere, SpellsFirst, Standing, standing_after}
 use Rattle.dl_num.specs.Laws.{AllBytes}
@@ -17,7 +17,8 @@ use Rattle.dl_rows.specs.Matrix.{matrix}
 use Rattle.dl_rows.specs.OperationSpelt.{good_one, operation_spelt, operations_in}
 use Rattle.dl_rows.specs.Phases.{StepIs}
 use Rattle.dl_rows.specs.LineUnit.{rows_in, ends_open}
-use Rattle.dl_rows.specs.Programs.{row_list, Finishes, ProgramStands, Unrefused, Walked, NothingGiven, RowGiven, BadGiven}
+use Rattle.dl_rows.specs.Programs.{row_list, Finishes, ProgramStands, Unrefused, Walked, NothingGiven, RowGiven}
+use Rattle.dl_rows.specs.Programs.{BadGiven}
 use Rattle.dl_rows.specs.Sums.{FitsProgram, HasRange, registers_after}
 use Rattle.dl_rows.proofs.FirstLemmas.{split_front, nowhere_nil}
 use Rattle.dl_rows.proofs.Judged.{judged}
@@ -166,7 +167,8 @@ module _ {order : Order} {h : Params} {p : Program} {b : List ℕ} (s : ProgramS
         unrefused = unrefused_within l.0 none;
       }
     where
-      nowhere : (w : List ℕ) (last : ℕ) → x ∷ u ≡ w ++ last ∷ [] → SpellsNowhere (operation_spelt order h) (s.begun ++ w)
+      nowhere : (w : List ℕ) (last : ℕ) → x ∷ u ≡ w ++ last ∷ []
+          → SpellsNowhere (operation_spelt order h) (s.begun ++ w)
       nowhere w last whole front back e =
           let all : s.begun ++ x ∷ u ≡ front ++ (back ++ last ∷ []) =
           rw (whole, ← append_assoc s.begun w (last ∷ []), e) (append_assoc front back (last ∷ [])) in
@@ -231,7 +233,8 @@ module _ {order : Order} {h : Params} {p : Program} {b : List ℕ} (s : ProgramS
         unrefused = unrefused m (ap (λ (t : Standing Operation). t.rest) found);
       }
     where
-      unrefused : Before order h b (x ∷ u) → (operations_in order h (b ++ x ∷ u)).rest ≡ [] → Unrefused order h b (x ∷ u)
+      unrefused : Before order h b (x ∷ u) → (operations_in order h (b ++ x ∷ u)).rest ≡ []
+          → Unrefused order h b (x ∷ u)
       unrefused m ends front [] e k bad =
           let same : x ∷ u ≡ front = e ∙ append-nil front in
           none_some refl (rw ends at (rw (← same) at bad))

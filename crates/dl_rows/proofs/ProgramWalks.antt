@@ -112,7 +112,8 @@ tell_start bytes stands hears =
     record { rows = []; walked = walk_start bytes stands; hears = rw append-nil hears }
 
 module _ {S : Type 0} {story : Story S} {order : Order} {h : Params} {b bytes : List ℕ} {before : List Row}
-    {p : Program} {rest : List ℕ} {s : S} (t : Telling story order h b bytes before p rest s) (all : AllBytes bytes) where
+    {p : Program} {rest : List ℕ} {s : S} (t : Telling story order h b bytes before p rest s)
+    (all : AllBytes bytes) where
   rest_bytes : AllBytes rest
   rest_bytes = bytes_back t.walked.done rest (rw t.walked.split at all)
 

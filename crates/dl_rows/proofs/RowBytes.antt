@@ -31,7 +31,8 @@ use Rattle.dl_rows.proofs.UnitBodyLemmas.{begun_in, later, decided_at, events_mo
 abbrev ByteRows : Order → Params → List ℕ → ℕ → Type 0
 ByteRows order h b x =
     (rows_in order h (b ++ x ∷ []) ≡ rows_in order h b)
-    ⊎ ((r : Row) × (rows_in order h (b ++ x ∷ []) ≡ rows_in order h b ++ r ∷ []) × (begun_in order h (b ++ x ∷ []) ≡ []))
+    ⊎ ((r : Row) × (rows_in order h (b ++ x ∷ []) ≡ rows_in order h b ++ r ∷ [])
+    × (begun_in order h (b ++ x ∷ []) ≡ []))
 
 byte_rows : (order : Order) (h : Params) (b : List ℕ) (x : ℕ) → ByteRows order h b x
 byte_rows order h b x =
@@ -59,7 +60,10 @@ some_more rows more r e = omega (arith, ap length e, length-append rows (r ∷ m
 pub row_ends : (order : Order) (h : Params) (b : List ℕ) (x : ℕ) (row : Row)
     → rows_in order h (b ++ x ∷ []) ≡ rows_in order h b ++ row ∷ [] → begun_in order h (b ++ x ∷ []) ≡ []
 row_ends order h b x row e =
-    elim (byte_rows order h b x) [ inl same ↦ absurd (some_more (rows_in order h b) [] row (sym same ∙ e)) | inr (r, one, ends) ↦ ends ]
+    elim (byte_rows order h b x) [
+      | inl same ↦ absurd (some_more (rows_in order h b) [] row (sym same ∙ e))
+      | inr (r, one, ends) ↦ ends
+    ]
 
 -- more bytes append rows
 rows_grow : (order : Order) (h : Params) (b v : List ℕ)

@@ -61,8 +61,8 @@ record Turned {S : Type 0} (Heard : S → List Event → Type 0) (dialect : Dial
   hears : Hears Heard before after (heard_in answers)
   stands : StandsFor new (b ++ take (used_in answers) bytes)
 
-module _ {S : Type 0} {Heard : S → List Event → Type 0} {dialect : Dialect} {b bytes turns : List ℕ} {i taken refused : ℕ}
-    {before now : S} {r : Reader}
+module _ {S : Type 0} {Heard : S → List Event → Type 0} {dialect : Dialect} {b bytes turns : List ℕ}
+    {i taken refused : ℕ} {before now : S} {r : Reader}
     (g : Going Heard dialect b bytes turns i taken refused before now r) (same : r.dialect ≡ dialect)
     (lt : i < length turns)
     (piece : List ℕ) (is : piece ≡ take (slice_index_or turns i 0) (drop taken bytes)) where

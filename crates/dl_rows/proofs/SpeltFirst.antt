@@ -284,7 +284,8 @@ skips_extended order h w some s = extended_case order h op.Skipped s.opcode s.op
     (at_here (at_same (extended_spelt order h.address_size (suc (length s.operand)) s.opcode)
     (sized (length s.operand) (λ v. op.Skipped)) s.operand
     (rest_then order h.address_size (suc (length s.operand)) s.opcode (length s.operand) s.not_end_sequence
-    s.not_set_address s.not_set_discriminator (omega arith))) (sized_first (length s.operand) (λ v. op.Skipped) s.operand refl))
+    s.not_set_address s.not_set_discriminator (omega arith)))
+    (sized_first (length s.operand) (λ v. op.Skipped) s.operand refl))
 
 -- ---- each operation
 

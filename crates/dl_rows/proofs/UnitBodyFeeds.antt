@@ -195,8 +195,8 @@ feeds_nothing {dialect} {h} {t} {new} {b} {piece} {bytes} {rows} {fed} is g fron
 
 -- u being what is taken of the piece
 fails_with : {dialect : Dialect} {h : HeaderData} {t new : UnitBody} {b piece u : List ℕ} {used : ℕ}
-    {answer : Fault} {kind : FaultKind} (is : InProgram dialect h t b) (rows : List Row) → TakenOf piece t.bytes.left u used
-    → Counted t.bytes new.bytes (length u)
+    {answer : Fault} {kind : FaultKind} (is : InProgram dialect h t b) (rows : List Row)
+    → TakenOf piece t.bytes.left u used → Counted t.bytes new.bytes (length u)
     → rows_in dialect.order h.params (is.at.program ++ u) ≡ rows_in dialect.order h.params is.at.program ++ rows
     → new.program.in_sequence ≡ ends_open (rows_in dialect.order h.params (is.at.program ++ u))
     → answer ≡ record { offset = new.bytes.taken - new.program.begun; kind = kind }
@@ -250,7 +250,8 @@ pub fails_bad : {dialect : Dialect} {h : HeaderData} {t new : UnitBody} {b piece
     → answer ≡ record { offset = new.bytes.taken - new.program.begun; kind = kind }
     → (n : ℕ) × FailsAfter dialect (events dialect b ++ map event.Row rows) b piece answer n
     × Stops dialect new (b ++ take n piece)
-fails_bad {t = t} {new = new} {piece = piece} {tail = tail} {rows = rows} {kind = kind} {used = used} is g size counts answer_is =
+fails_bad {t = t} {new = new} {piece = piece} {tail = tail} {rows = rows} {kind = kind} {used = used} is g size
+    counts answer_is =
     let u = g.front ++ g.last ∷ [] in
     let taken = taken_of piece u tail t.bytes.left used g.split size in
     let counted = rw taken.exact at counts in

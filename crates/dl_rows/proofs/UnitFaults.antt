@@ -42,7 +42,8 @@ quiet_in_header dialect h w v front back is e none =
       refused : NoneRefused dialect front
       refused begun more at kind split r =
           let none_begun = no_header_before dialect begun more (ap (header_in dialect) (sym split) ∙ none) in
-          header_is_not_refused dialect h w v begun (more ++ back) at kind is (e ∙ rw split (append_assoc begun more back))
+          header_is_not_refused dialect h w v begun (more ++ back) at kind is
+          (e ∙ rw split (append_assoc begun more back))
           ((refused_in_header dialect begun at kind none_begun).0 r)
 
 -- an overrun is decided at the end, and is one

@@ -37,7 +37,8 @@ returns-in-Ok-clause-step c order h v s =
     let answer = rw c.in-Ok.is at c.in-Some.ensures.answer in
     ends_after order h v (take i xs) xs _ (slice_index_or xs i 0) _ (split_at xs i c.loop-i-test.true)
     (discriminator_ends order h (slice_index_or xs i 0) c.loop-i.number (v ++ take i xs) c.in-Ok.value
-    (rw c.if-left-eq1.true at (c.loop-i.invariant h v s)) (rw c.in-Ok.is at c.in-Some.ensures.fits) (λ w t. (answer w t).0))
+    (rw c.if-left-eq1.true at (c.loop-i.invariant h v s)) (rw c.in-Ok.is at c.in-Some.ensures.fits)
+    (λ w t. (answer w t).0))
 
 pub returns-in-Ok-2-clause-step : goal.returns-in-Ok-2-clause-step
 returns-in-Ok-2-clause-step c order h v s =

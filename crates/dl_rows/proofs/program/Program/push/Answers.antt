@@ -38,8 +38,8 @@ loop-bytes-preserved-in-On g c = record {
       (let o = c.in-Ends.ensures.step stands.begun stands.phase in
       record {
         rows = _;
-        walked = walked_row (turned_at stands o.0 c.in-Ends.tail.now fits bytes o.1 o.2 c.in-Some.ensures.finishes c.complete.ensures.phase
-            c.complete.ensures.begun) o.1;
+        walked = walked_row (turned_at stands o.0 c.in-Ends.tail.now fits bytes o.1 o.2 c.in-Some.ensures.finishes
+            c.complete.ensures.phase c.complete.ensures.begun) o.1;
         hears = c.in-On.ensures first heard told;
       })));
 }
@@ -52,8 +52,8 @@ returns-in-Stop-clause-given g c b before first fits all s hears =
     (let o = c.in-Ends.ensures.step stands.begun stands.phase in
     record {
       rows = [];
-      gives = row_given (turned_at stands o.0 c.in-Ends.tail.now fits bytes o.1 o.2 c.in-Some.ensures.finishes c.complete.ensures.phase
-          c.complete.ensures.begun) o.1;
+      gives = row_given (turned_at stands o.0 c.in-Ends.tail.now fits bytes o.1 o.2 c.in-Some.ensures.finishes
+          c.complete.ensures.phase c.complete.ensures.begun) o.1;
       sink = rw append-nil (c.in-Stop.ensures first heard told);
     }))
 

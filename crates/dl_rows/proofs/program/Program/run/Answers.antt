@@ -36,8 +36,9 @@ returns-in-Stop-clause-told g c b before first fits all s hears =
     (given.Row c.in-Some-finish.row c.in-Some.tail)
     (λ v heard bytes stands told. record {
       rows = [];
-      gives = row_given (turned_whole stands o.0 c.in-Some.tail.now fits bytes (c.loop-operation.invariant.between ∙ c.requires.between)
-          o.1 o.2 c.in-Some-finish.ensures.finishes c.finish.ensures.phase c.finish.ensures.begun) o.1;
+      gives = row_given (turned_whole stands o.0 c.in-Some.tail.now fits bytes
+          (c.loop-operation.invariant.between ∙ c.requires.between) o.1 o.2 c.in-Some-finish.ensures.finishes
+          c.finish.ensures.phase c.finish.ensures.begun) o.1;
       sink = rw append-nil (c.in-Stop.ensures first heard told);
     })
 

@@ -14,7 +14,8 @@ returns-in-Row-clause-fed g c h b before first e is hears =
     record {
       rows = t.rows;
       fed = feeds_row is t.gives
-          (ap (λ (w : List ℕ). length w - length c.in-Row.tail.now) c.front-bytes.ensures) (record { taken = c.count.ensures.taken; left = c.count.ensures.left });
+          (ap (λ (w : List ℕ). length w - length c.in-Row.tail.now) c.front-bytes.ensures)
+          (record { taken = c.count.ensures.taken; left = c.count.ensures.left });
       sink = t.sink;
     }
 
@@ -59,7 +60,8 @@ returns-else-self-eq0-clause-fed g c h b before first e is hears =
           (record { taken = c.count-in-Nothing.ensures.taken; left = c.count-in-Nothing.ensures.left })
           (λ none. elim c.else-self-eq0.branch [
             | else-self-eq0-via-then-self-eq0+else-not-is_between
-                w ↦ (w.is_between.ensures.rest c.args.dialect.order h.params _ t.gives.stands).0 w.if-not-is_between.false
+                w ↦ (w.is_between.ensures.rest c.args.dialect.order h.params _ t.gives.stands).0
+                w.if-not-is_between.false
             | else-self-eq0-via-else-self-eq0 w ↦ absurd (w.if-self-eq0.false none)
           ]);
       sink = sink_goes_on (g.S.RowSink.story first) c.push.new.sink (before ++ t.rows) c.pause.result.event
