@@ -4,11 +4,9 @@ use Rattle.std.proofs.Common.{ap, ◌∙◌, arith}
 use Rattle.dl_num.specs.declared.fixed.Order.{Order}
 use Rattle.dl_head.specs.declared.dialect.Dialect.{Dialect}
 use Rattle.dl_table.specs.declared.form.Format.{Format}
-use Rattle.dl_field.specs.declared.params.Params.{Params}
 use Rattle.dl_field.specs.Layout.{path_or_end, Layout, initial_length_then, number_then, form_then, value_then}
 use Rattle.dl_field.specs.Layout.{foreign_version, last_entry, Item, following_all, field_spelt, initial_length_spelt}
 use Rattle.dl_head.specs.declared.reader.byte_field.ByteField.{ByteField}
-use Rattle.dl_head.specs.declared.reader.byte_field.ByteField.TheVariants as field
 use Rattle.dl_head.specs.declared.reader.HeadReader.{HeadReader}
 use Rattle.dl_head.specs.declared.reader.Phase.TheVariants as phase
 use Rattle.dl_field.specs.declared.field_step.FieldStep.{FieldStep}

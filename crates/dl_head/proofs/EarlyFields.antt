@@ -23,7 +23,6 @@ use Rattle.dl_field.specs.Layout.{initial_length_spelt, unit_length_limit}
 use Rattle.dl_head.proofs.HeaderEnds.{before_own, before_older}
 use Rattle.dl_field.proofs.FieldLemmas.{following_all-append}
 use Rattle.dl_head.specs.declared.reader.HeadReader.{HeadReader}
-use Rattle.dl_table.specs.declared.fault.FaultKind.{FaultKind}
 use Rattle.dl_table.specs.declared.fault.FaultKind.TheVariants as fault
 use Rattle.dl_table.specs.Value.{Judgement, good, bad, offset_size}
 use Rattle.dl_head.specs.Header.{header_end, unit_end}
@@ -241,7 +240,8 @@ started_header old new n items w byte_makes.Ends early of size is s = (
   s.1 items early of,
 )
 started_header old new n items w (byte_makes.Refuses kind) early of size is s =
-    rw s.1 (header_length_spelt old items w n early.items_are of size is ∙ rw (lt-leb n (old.unit_length - fixed_part old.params.format old.params.version) (omega (arith, s.0))) refl)
+    rw s.1 (header_length_spelt old items w n early.items_are of size is
+    ∙ rw (lt-leb n (old.unit_length - fixed_part old.params.format old.params.version) (omega (arith, s.0))) refl)
 started_header old new n items w byte_makes.Within early of size is s = absurd s
 started_header old new n items w byte_makes.NoMemory early of size is s = absurd s
 

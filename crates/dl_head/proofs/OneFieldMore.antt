@@ -4,7 +4,6 @@ use Rattle.std.proofs.Common.{inr, w8, ◌≢◌, to_z, of_z, SFits, List, [], �
 use Rattle.std.proofs.Common.{arith, length-append}
 use Rattle.std.proofs.lemmas.Int.{ints, to_z-of_z}
 use Rattle.std.proofs.lemmas.Bool.{cases_lt, lt-ltb, le-ltb, ltb-true, cases_eq, eq-eqb, ne_eqb}
-use Rattle.dl_num.specs.declared.fixed.Order.{Order}
 use Rattle.dl_field.specs.declared.list_reader.ListReader.{ListReader}
 use Rattle.dl_field.specs.Layout.{number_size, table_layout, opcode_length, Layout, number_then, Item, number_is}
 use Rattle.dl_field.specs.Layout.{following, following_all, field_spelt, objection, judged}
@@ -14,7 +13,6 @@ use Rattle.dl_head.specs.HeaderLayout.{from_segment_selector_size, header_layout
 use Rattle.dl_head.specs.HeaderLayout.{tables_layout, from_files, from_opcode_base}
 use Rattle.dl_head.specs.HeadStep.{first_table, field_after_minimum, lengths_fit}
 use Rattle.dl_head.specs.declared.dialect.Dialect.{Dialect}
-use Rattle.dl_num.specs.Fixed.{fixed}
 use Rattle.dl_head.specs.declared.reader.byte_field.ByteField.{ByteField}
 use Rattle.dl_head.specs.declared.reader.byte_field.ByteField.TheVariants as field
 use Rattle.dl_head.specs.declared.reader.Phase.{Phase}
