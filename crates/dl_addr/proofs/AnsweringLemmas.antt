@@ -31,10 +31,11 @@ use Rattle.dl_addr.specs.Answers.{located_seen}
 use Rattle.dl_look.specs.Asked.{looked_up, place_of}
 use Rattle.dl_addr.specs.Code.{is_code}
 use Rattle.dl_dirs.specs.Compilation.{directory_by}
-use Rattle.dl_addr.specs.Commands.{Ends, Locates, answer_in, answer_lines, found_in, is_answered}
+use Rattle.dl_addr.specs.Commands.{Ends, Locates, answer_lines, is_answered}
 use Rattle.dl_addr.specs.Knowing.{Knows}
-use Rattle.dl_addr.specs.Locating.{IsMadeFor, Locating, StopsAt, code_of, locate_story, located_by}
-use Rattle.dl_addr.specs.Locations.{Located, answer_text, asked_text, compilation_directory, located, row_text}
+use Rattle.dl_addr.specs.Locating.{IsMadeFor, Locating, code_of, locate_story, located_after, located_by}
+use Rattle.dl_addr.specs.Locations.{Located, answer_text, asked_line, asked_text, compilation_directory, located}
+use Rattle.dl_addr.specs.Locations.{row_text}
 use Rattle.dl_path.specs.Paths.{compiled_in, path_of}
 use Rattle.dl_path.specs.Shown.{basename}
 use Rattle.dl_addr.specs.Printing.{PrintsAll, answer_for, found_by, named_text, seen_lines, seen_text, told}
@@ -45,19 +46,37 @@ use Rattle.dl_addr.proofs.LocatedLemmas.{located_of_section}
 
 -- ---- lists
 
-flat_same : {A B : Type 0} (f g : A → List B) → ((a : A) → f a ≡ g a) → (xs : List A) → flat_map f xs ≡ flat_map g xs
+pub flat_same : {A B : Type 0} (f g : A → List B) → ((a : A) → f a ≡ g a) → (xs : List A)
+    → flat_map f xs ≡ flat_map g xs
 flat_same f g same [] = refl
 flat_same f g same (x ∷ xs) = ap₂ (λ (a b : List _). a ++ b) (same x) (flat_same f g same xs)
 
-all_same : {A : Type 0} (f g : A → Bool) → ((a : A) → f a ≡ g a) → (xs : List A) → list_all f xs ≡ list_all g xs
+pub all_same : {A : Type 0} (f g : A → Bool) → ((a : A) → f a ≡ g a) → (xs : List A) → list_all f xs ≡ list_all g xs
 all_same f g same [] = refl
 all_same f g same (x ∷ xs) = ap₂ (λ (a b : Bool). a && b) (same x) (all_same f g same xs)
 
-ends_same : (xs ys : List Visit) (x y : Visit) → xs ++ x ∷ [] ≡ ys ++ y ∷ [] → (xs ≡ ys) × (x ≡ y)
+pub ends_same : (xs ys : List Visit) (x y : Visit) → xs ++ x ∷ [] ≡ ys ++ y ∷ [] → (xs ≡ ys) × (x ≡ y)
 ends_same [] [] x y e = (refl, cc)
 ends_same [] (b ∷ ys) x y e = absurd (omega (arith, ap length e, length-append ys (y ∷ [])))
 ends_same (a ∷ xs) [] x y e = absurd (omega (arith, ap length e, length-append xs (x ∷ [])))
 ends_same (a ∷ xs) (b ∷ ys) x y e = let same = ends_same xs ys x y cc in (cc, same.1)
+
+-- a place that is looked up was asked for
+pub was_asked : (q : Question) (number : ℕ) (x : Place) → slice_get (map (looked_up q.base) q.asked.now) number ≡ Some x
+    → (a : Asked) × (slice_get q.asked.now number ≡ Some a) × (looked_up q.base a ≡ x)
+was_asked q number x at = by (slice_get q.asked.now number) refl where
+  by : (o : Option Asked) → slice_get q.asked.now number ≡ o → (a : Asked) × (slice_get q.asked.now number ≡ Some a)
+      × (looked_up q.base a ≡ x)
+  by None is =
+      absurd (Rattle.dl_addr.proofs.TextLemmas.none_is_some (sym (ap (option_map (looked_up q.base)) is)
+      ∙ sym (slice_get-map (looked_up q.base) q.asked.now number) ∙ at))
+  by (Some a) is = (
+    a,
+    is,
+    Rattle.dl_addr.proofs.TextLemmas.some_same (looked_up q.base a) x
+        (sym (ap (option_map (looked_up q.base)) is) ∙ sym (slice_get-map (looked_up q.base) q.asked.now number)
+        ∙ at),
+  )
 
 -- ---- the answers of a locator are those of the units
 
@@ -78,15 +97,14 @@ path_text_is style directory None = refl
 path_text_is style directory (Some path) = refl
 
 module _ (dialect : Dialect) (q : Question) (s : Strings) (first : Locator) (knows : Knows first q s) where
-  abbrev live : ℕ → Bool
+  abbrev pub live : ℕ → Bool
   live = is_code (option_copied q.code)
 
-  pub live_is : (x : Place) (visits : List Visit) (units : List (List ℕ))
-      → ((l : ℕ → Bool)
-      → Rattle.dl_addr.specs.Locating.located_after l x [] first.unit visits ≡ located dialect l units x)
-      → located_by first x visits ≡ located dialect live units x
-  live_is x visits units is =
-      is (code_of first) ∙ ap (λ code. located dialect (is_code (option_copied code)) units x) knows.code
+  pub live_is : (x : Place) (visits : List Visit) (look_up : (ℕ → Bool) → Option Located)
+      → ((l : ℕ → Bool) → located_after l x [] first.unit visits ≡ look_up l)
+      → located_by first x visits ≡ look_up live
+  live_is x visits look_up is =
+      is (code_of first) ∙ ap (λ code. look_up (is_code (option_copied code))) knows.code
 
   text_named : (directory path : Option (List ℕ))
       → named_text q.style.form (printed q.style directory (named q.style path)) ≡ path_text q.style directory path
@@ -107,32 +125,38 @@ module _ (dialect : Dialect) (q : Question) (s : Strings) (first : Locator) (kno
       ∙ ap (λ (ss : Strings). row_text q.style.form (path_text q.style directory (path_of ss l.header l.row.file)) l.row
       l.unit) knows.strings
 
-  module _ (visits : List Visit) (units : List (List ℕ))
-      (is : (x : Place) → located_by first x visits ≡ located dialect live units x) where
+  -- look_up: what they answer for a place
+  module _ (visits : List Visit) (look_up : Place → Option Located)
+      (is : (x : Place) → located_by first x visits ≡ look_up x) where
+    abbrev answer : Asked → Option Located
+    answer a = option_and_then look_up (place_of q.base a)
+
     place_same : (o : Option Place)
-        → option_and_then (λ x. located_by first x visits) o ≡ option_and_then (located dialect live units) o
+        → option_and_then (λ x. located_by first x visits) o ≡ option_and_then look_up o
     place_same None = refl
     place_same (Some x) = is x
 
     answer_same : (a : Asked)
-        → answer_for first visits q.base a ≡ option_map (located_seen first) (answer_in dialect q units a)
+        → answer_for first visits q.base a ≡ option_map (located_seen first) (answer a)
     answer_same a = ap (option_map (located_seen first)) (place_same (place_of q.base a))
 
-    pub lines_same : seen_lines q.style (answer_for first visits q.base) q.asked.now ≡ answer_lines dialect s q units
+    pub lines_same : seen_lines q.style (answer_for first visits q.base) q.asked.now
+        ≡ flat_map (λ a. asked_line q.style (directory_by q.directories) s a (answer a)) q.asked.now
     lines_same =
         flat_same _ _ (λ (a : Asked). ap (λ (t : List ℕ). (asked_text q.style.form (option_copied q.style.section)
         a ++ t) ++ 10 ∷ [])
-        (ap (seen_text q.style.form) (answer_same a) ∙ text_seen (answer_in dialect q units a))) q.asked.now
+        (ap (seen_text q.style.form) (answer_same a) ∙ text_seen (answer a))) q.asked.now
 
     some_same : (o : Option Located) → is_some (option_map (located_seen first) o) ≡ is_some o
     some_same None = refl
     some_same (Some l) = refl
 
-    pub found_same : found_by (answer_for first visits q.base) q.asked.now ≡ found_in dialect q units
+    pub found_same : found_by (answer_for first visits q.base) q.asked.now
+        ≡ (if list_all (λ a. is_answered a (is_some (answer a))) q.asked.now then found.All else found.NotAll)
     found_same =
         ap (λ (b : Bool). if b then found.All else found.NotAll)
         (all_same _ _ (λ (a : Asked). ap (is_answered a) (ap is_some (answer_same a)
-        ∙ some_same (answer_in dialect q units a))) q.asked.now)
+        ∙ some_same (answer a))) q.asked.now)
 
   -- ---- the reading
 
@@ -152,7 +176,8 @@ module _ (dialect : Dialect) (q : Question) (s : Strings) (first : Locator) (kno
     section_same : (units : List (List ℕ)) (b : List ℕ) (x : Place)
         → located_by first x (section_visits dialect units b) ≡ located dialect live units x
     section_same units b x =
-        live_is x (section_visits dialect units b) units (λ l. located_of_section l x dialect first.unit units b)
+        live_is x (section_visits dialect units b) (λ l. located dialect l units x)
+        (λ l. located_of_section l x dialect first.unit units b)
 
     pub reads_all : (summary : Summary) → Ran locate_story dialect limit bytes left first new start mid (Ok summary)
         → (units : List (List ℕ)) × EndsAs dialect limit bytes left units [] [] (Ok summary)
@@ -161,22 +186,6 @@ module _ (dialect : Dialect) (q : Question) (s : Strings) (first : Locator) (kno
         × Appends start mid []
     reads_all summary (inl (units, ends, settled)) = (units, ends, settled.tells, section_same units [], settled.out)
     reads_all summary (inr done) = absurd done.4.tells
-
-    was_asked : (number : ℕ) (x : Place) → slice_get (map (looked_up q.base) q.asked.now) number ≡ Some x
-        → (a : Asked) × (slice_get q.asked.now number ≡ Some a) × (looked_up q.base a ≡ x)
-    was_asked number x at = by (slice_get q.asked.now number) refl where
-      by : (o : Option Asked) → slice_get q.asked.now number ≡ o → (a : Asked) × (slice_get q.asked.now number ≡ Some a)
-          × (looked_up q.base a ≡ x)
-      by None is =
-          absurd (Rattle.dl_addr.proofs.TextLemmas.none_is_some (sym (ap (option_map (looked_up q.base)) is)
-          ∙ sym (slice_get-map (looked_up q.base) q.asked.now number) ∙ at))
-      by (Some a) is = (
-        a,
-        is,
-        Rattle.dl_addr.proofs.TextLemmas.some_same (looked_up q.base a) x
-            (sym (ap (option_map (looked_up q.base)) is) ∙ sym (slice_get-map (looked_up q.base) q.asked.now number)
-            ∙ at),
-      )
 
     -- it stopped at the end of a unit
     stopped : (f : RunFault) (units : List (List ℕ)) (b back : List ℕ)
@@ -190,13 +199,13 @@ module _ (dialect : Dialect) (q : Question) (s : Strings) (first : Locator) (kno
         stops.whole ∙ ap (λ (v : Visit). stops.before ++ v ∷ stops.more) last.1 in
         let split = splits_section dialect first.unit units b stops.before r.h stops.more cut in
         let a = r.answers (map (looked_up q.base) q.asked.now) made in
-        let asked = was_asked a.0 a.1 a.2 in
+        let asked = was_asked q a.0 a.1 a.2 in
         let before_is : (x : Place) → located_by first x stops.before ≡ located dialect live split.front x =
-        λ x. live_is x stops.before split.front (λ l. split.located_before l x) in
+        λ x. live_is x stops.before (λ l. located dialect l split.front x) (λ l. split.located_before l x) in
         let after_is : (x : Place)
         → located_by first x (stops.before ++ of_end r.h ∷ [])
         ≡ located dialect live (split.front ++ split.u ∷ []) x =
-        λ x. live_is x (stops.before ++ of_end r.h ∷ []) (split.front ++ split.u ∷ [])
+        λ x. live_is x (stops.before ++ of_end r.h ∷ []) (λ l. located dialect l (split.front ++ split.u ∷ []) x)
         (λ l. split.located_later l x) in
         let all : units ≡ (split.front ++ split.u ∷ []) ++ split.after =
         split.whole ∙ sym (append_assoc split.front (split.u ∷ []) split.after) in (
@@ -324,7 +333,7 @@ module _ (dialect : Dialect) (q : Question) (s : Strings) (first : Locator) (kno
           → Appends start now (answer_lines dialect s q units)
       lines_out units visits same nothing out =
           Appends-trans start mid now [] (answer_lines dialect s q units) nothing
-          (subst (Appends mid now) (lines_same visits units same) out)
+          (subst (Appends mid now) (lines_same visits (located dialect live units) same) out)
 
       pub all_told : (summary : Summary) (all_found : Found)
           → Ran locate_story dialect limit bytes left first new start mid (Ok summary)
@@ -337,7 +346,7 @@ module _ (dialect : Dialect) (q : Question) (s : Strings) (first : Locator) (kno
             r.0,
             summary,
             r.1,
-            p.0 ∙ found_same (section_visits dialect r.0 []) r.0 r.3,
+            p.0 ∙ found_same (section_visits dialect r.0 []) (located dialect live r.0) r.3,
             lines_out r.0 (section_visits dialect r.0 []) r.3 r.4 p.1,
           )
 
@@ -381,7 +390,8 @@ module _ (dialect : Dialect) (q : Question) (s : Strings) (first : Locator) (kno
           → Locates dialect s q limit bytes left start now (Err (fault.Write lost.out))
       lines_lost ending lost ran prints =
           let r = reads ending ran in
-          let t = subst (λ (l : List ℕ). TellsOut mid now l lost) (lines_same r.visits r.units r.same)
+          let t = subst (λ (l : List ℕ). TellsOut mid now l lost)
+          (lines_same r.visits (located dialect live r.units) r.same)
           (prints r.visits r.stands) in (
             r.units,
             r.b,

@@ -9,8 +9,9 @@ use Rattle.dl_field.specs.HeaderData.{HeaderData}
 use Rattle.dl_rows.specs.declared.reader.Event.{Event}
 use Rattle.dl_rows.specs.declared.reader.Event.TheVariants as event
 use Rattle.dl_rows.specs.LineUnit.{ends_open, events, unit_rows}
-use Rattle.dl_run.specs.Section.{Visit, of_header, of_version, of_row, of_open, of_end, header_of, header_visit}
-use Rattle.dl_run.specs.Section.{event_visits, visits, open_visit, unit_visits, units_visits, section_visits}
+use Rattle.dl_run.specs.Section.{Visit, of_header, of_version, of_row, of_open, of_end, of_damage, header_of}
+use Rattle.dl_run.specs.Section.{header_visit, event_visits, visits, open_visit, unit_visits, units_visits}
+use Rattle.dl_run.specs.Section.{section_visits}
 use Rattle.dl_run.specs.Copying.{offset_after}
 use Rattle.dl_run.proofs.Fronts.{fronts_of, or_none}
 use Rattle.dl_rows.specs.declared.row.Row.{Row}
@@ -19,18 +20,18 @@ use Rattle.dl_addr.specs.Locating.{located_after}
 use Rattle.dl_addr.specs.Locations.{Located, located_from, located_in}
 use Rattle.dl_addr.proofs.LocatedLemmas.{located_after-append, located_of_unit, rows_of_unit}
 
-abbrev is_end : Visit → Bool
+abbrev pub is_end : Visit → Bool
 is_end (of_end h) = true
 is_end other = false
 
-any_mid : (a : List Visit) (h : Option HeaderData) (b : List Visit) → list_any is_end (a ++ of_end h ∷ b) ≡ true
+pub any_mid : (a : List Visit) (h : Option HeaderData) (b : List Visit) → list_any is_end (a ++ of_end h ∷ b) ≡ true
 any_mid [] h b = refl
 any_mid (v ∷ a) h b = or_true (is_end v) (list_any is_end (a ++ of_end h ∷ b)) (any_mid a h b) where
   or_true : (b c : Bool) → c ≡ true → (b || c) ≡ true
   or_true true c e = refl
   or_true false c e = e
 
-none_both : (a b : List Visit) → list_any is_end a ≡ false → list_any is_end b ≡ false
+pub none_both : (a b : List Visit) → list_any is_end a ≡ false → list_any is_end b ≡ false
     → list_any is_end (a ++ b) ≡ false
 none_both [] b e e' = e'
 none_both (of_header n h ∷ a) b e e' = none_both a b e e'
@@ -38,12 +39,13 @@ none_both (of_version n v ∷ a) b e e' = none_both a b e e'
 none_both (of_row r ∷ a) b e e' = none_both a b e e'
 none_both (of_open ∷ a) b e e' = none_both a b e e'
 none_both (of_end h ∷ a) b e e' = absurd (true≢false e)
+none_both (of_damage n k ∷ a) b e e' = none_both a b e e'
 
 none_header : (offset : ℕ) (h : Option HeaderData) → list_any is_end (header_visit offset h) ≡ false
 none_header offset None = refl
 none_header offset (Some h) = refl
 
-none_in : (offset : ℕ) (h : Option HeaderData) (es : List Event)
+pub none_in : (offset : ℕ) (h : Option HeaderData) (es : List Event)
     → list_any is_end (flat_map (event_visits offset h) es) ≡ false
 none_in offset h [] = refl
 none_in offset h (event.More ∷ es) = none_in offset h es
@@ -60,15 +62,16 @@ none_open false = refl
 
 module _ (dialect : Dialect) where
   -- the visits of a unit before its end
-  abbrev own : ℕ → List ℕ → List Visit
+  abbrev pub own : ℕ → List ℕ → List Visit
   own offset u = visits dialect offset u ++ open_visit (ends_open (unit_rows dialect u))
 
-  none_own : (offset : ℕ) (u : List ℕ) → list_any is_end (own offset u) ≡ false
+  pub none_own : (offset : ℕ) (u : List ℕ) → list_any is_end (own offset u) ≡ false
   none_own offset u =
       none_both (visits dialect offset u) (open_visit (ends_open (unit_rows dialect u)))
       (none_in offset (header_of dialect u) (events dialect u)) (none_open (ends_open (unit_rows dialect u)))
 
-  own_end : (offset : ℕ) (u : List ℕ) → own offset u ++ of_end (header_of dialect u) ∷ [] ≡ unit_visits dialect offset u
+  pub own_end : (offset : ℕ) (u : List ℕ)
+      → own offset u ++ of_end (header_of dialect u) ∷ [] ≡ unit_visits dialect offset u
   own_end offset u =
       append_assoc (visits dialect offset u) (open_visit (ends_open (unit_rows dialect u)))
       (of_end (header_of dialect u)
@@ -86,14 +89,15 @@ module _ (dialect : Dialect) where
     pub located_later : (live : ℕ → Bool) (x : Place)
         → located_after live x [] n (before ++ of_end h ∷ []) ≡ located_from dialect live offset (front ++ u ∷ []) x
 
-  none_located : (live : ℕ → Bool) (x : Place) (rows : List Row) (n : ℕ) (vs : List Visit) → list_any is_end vs ≡ false
-      → located_after live x rows n vs ≡ None
+  pub none_located : (live : ℕ → Bool) (x : Place) (rows : List Row) (n : ℕ) (vs : List Visit)
+      → list_any is_end vs ≡ false → located_after live x rows n vs ≡ None
   none_located live x rows n [] e = refl
   none_located live x rows n (of_header m h ∷ vs) e = none_located live x rows m vs e
   none_located live x rows n (of_version m v ∷ vs) e = none_located live x rows n vs e
   none_located live x rows n (of_row r ∷ vs) e = none_located live x (rows ++ r ∷ []) n vs e
   none_located live x rows n (of_open ∷ vs) e = none_located live x rows n vs e
   none_located live x rows n (of_end h ∷ vs) e = absurd (true≢false e)
+  none_located live x rows n (of_damage m k ∷ vs) e = none_located live x [] n vs e
 
   after_unit : (live : ℕ → Bool) (x : Place) (n offset : ℕ) (u : List ℕ) (rest : List Visit)
       → located_after live x [] n (unit_visits dialect offset u ++ rest)
@@ -107,7 +111,7 @@ module _ (dialect : Dialect) where
       ∙ ap (λ (o : Option Located). option_or o (located_after live x [] (offset_after n own_visits) rest))
       (located_of_unit live x dialect n offset u)
 
-  end_same : (a b : Option HeaderData) → of_end a ≡ of_end b → a ≡ b
+  pub end_same : (a b : Option HeaderData) → of_end a ≡ of_end b → a ≡ b
   end_same a b e = cc
 
   abbrev rest_of : ℕ → List ℕ → List (List ℕ) → List Visit → List Visit

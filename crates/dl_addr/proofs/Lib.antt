@@ -5,3 +5,6 @@ pub mod KeepLemmas
 pub mod EndLemmas
 pub mod LinesLemmas
 pub mod AnsweringLemmas
+pub mod AroundEnds
+pub mod AroundAnswers
+pub mod UndamagedLemmas

@@ -19,8 +19,8 @@ use Rattle.dl_look.specs.Units.{answer_of_units}
 use Rattle.dl_look.proofs.LiveLemmas.{of_live_rows}
 use Rattle.dl_run.specs.Copying.{offset_after}
 use Rattle.dl_run.specs.RowsTold.{rows_after}
-use Rattle.dl_run.specs.Section.{Visit, of_header, of_version, of_row, of_open, of_end, header_of, header_visit}
-use Rattle.dl_run.specs.Section.{event_visits, visits, open_visit, end_visits, unit_visits, units_visits}
+use Rattle.dl_run.specs.Section.{Visit, of_header, of_version, of_row, of_open, of_end, of_damage, header_of}
+use Rattle.dl_run.specs.Section.{header_visit, event_visits, visits, open_visit, end_visits, unit_visits, units_visits}
 use Rattle.dl_run.specs.Section.{section_visits}
 use Rattle.dl_run.proofs.EventLemmas.{rows_visited}
 use Rattle.dl_run.proofs.Fronts.{or_assoc, or_none}
@@ -36,6 +36,7 @@ offset_after-append n (of_version m v ∷ a) b = offset_after-append n a b
 offset_after-append n (of_row r ∷ a) b = offset_after-append n a b
 offset_after-append n (of_open ∷ a) b = offset_after-append n a b
 offset_after-append n (of_end h ∷ a) b = offset_after-append n a b
+offset_after-append n (of_damage m k ∷ a) b = offset_after-append n a b
 
 module _ (live : ℕ → Bool) where
   pub ended_rows-append : (rows : List Row) (a b : List Visit)
@@ -47,6 +48,7 @@ module _ (live : ℕ → Bool) where
   ended_rows-append rows (of_open ∷ a) b = ended_rows-append rows a b
   ended_rows-append rows (of_end h ∷ a) b =
       ap (λ (l : List (List Row)). live_rows live rows ∷ l) (ended_rows-append [] a b)
+  ended_rows-append rows (of_damage m k ∷ a) b = ended_rows-append [] a b
 
   -- no rows are live where there are none
   pub no_live_rows : live_rows live [] ≡ []
@@ -68,6 +70,7 @@ module _ (live : ℕ → Bool) where
         ap (option_or (located_under live x rows n h)) (located_after-append [] n a b)
         ∙ sym (or_assoc (located_under live x rows n h) (located_after live x [] n a)
         (located_after live x (rows_after [] a) (offset_after n a) b))
+    located_after-append rows n (of_damage m k ∷ a) b = located_after-append [] n a b
 
     row_of_or : (n : ℕ) (h : Option HeaderData) (a : Option Row) (tail : Option Located) (rest : Option Row)
         → rest ≡ option_map (λ (l : Located). l.row) tail
@@ -89,6 +92,7 @@ module _ (live : ℕ → Bool) where
     rows_located rows n (of_end h ∷ a) =
         row_of_or n h (answer (live_rows live rows) x) (located_after live x [] n a)
         (answer_of_units (ended_rows live [] a) x) (rows_located [] n a)
+    rows_located rows n (of_damage m k ∷ a) = rows_located [] n a
 
     -- ---- the units of a section
 

@@ -18,7 +18,9 @@ use Rattle.dl_print.specs.ValueText.{strings_of}
 use Rattle.dl_run.specs.declared.fault.RunFault.TheVariants as fault
 use Rattle.dl_run.specs.Copying.{offset_after}
 use Rattle.dl_run.specs.RowsTold.{rows_after}
-use Rattle.dl_run.specs.Section.{Visit, of_end}
+use Rattle.dl_run.specs.declared.around.Damage.{Damage}
+use Rattle.dl_run.specs.GoingOn.{IsTold}
+use Rattle.dl_run.specs.Section.{Visit, of_damage, of_end}
 use Rattle.dl_rows.specs.declared.sink.Flow.{Flow}
 use Rattle.dl_rows.specs.declared.sink.Flow.TheVariants as flow
 use Rattle.dl_run.specs.Visiting.{GoesOn, StopsIn}
@@ -96,6 +98,23 @@ module _ (first old new : Locator) (start held : Option (List ℕ)) (visits more
         });
     nothing = s.nothing;
   }
+
+-- the current unit is damaged
+pub forgets : (old : Locator) (finders : Finders) (told : LiveRows) (damage : Damage)
+    → ((places : List Place) (units : List (List Row)) (rows : List Row) → Stand old.finders places units rows
+    → Stand finders places units [])
+    → ((live : ℕ → Bool) → Tells told live [])
+    → IsTold locate_story old (record old { finders = finders; live = told }) damage
+forgets old finders told damage forgot tells = record {
+  tells = λ first start now visits s. (
+      let live = code_of first in
+      goes_on first old (record old { finders = finders; live = told }) start now visits
+      (of_damage damage.offset damage.kind ∷ []) s (λ x n. refl) refl refl refl refl refl refl (tells live) refl refl
+      (λ places units st. stand_same finders places units units [] (live_rows live []) refl (sym (no_live_rows live))
+      (forgot places units (live_rows live (rows_after [] visits)) st)));
+  quiet = λ first visits. refl;
+  reasons = λ first visits offset kind r. let e = r.is in absurd cc;
+}
 
 -- the current unit ends
 module _ (first old mid : Locator) (start held : Option (List ℕ)) (visits : List Visit) (h : Option HeaderData)

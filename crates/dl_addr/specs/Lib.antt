@@ -4,6 +4,8 @@ pub mod Shown
 pub mod Code
 pub mod Locations
 pub mod Commands
+pub mod AroundCommands
+pub mod AroundLaws
 -- Of contracts inside the crate, and of proofs; no public contract reaches these.
 pub mod Kept
 pub mod Texts

@@ -14,7 +14,7 @@ use Rattle.dl_run.specs.declared.fault.RunFault.{RunFault}
 use Rattle.dl_run.specs.declared.fault.RunFault.TheVariants.{NoMemory}
 use Rattle.dl_run.specs.Copying.{offset_after}
 use Rattle.dl_run.specs.RowsTold.{rows_after}
-use Rattle.dl_run.specs.Section.{Visit, of_header, of_row, of_end}
+use Rattle.dl_run.specs.Section.{Visit, of_header, of_row, of_end, of_damage}
 use Rattle.dl_run.specs.Visiting.{Story}
 use Rattle.dl_addr.specs.declared.kept.PathUnit.{PathUnit}
 use Rattle.dl_addr.specs.declared.locating.Locator.{Locator}
@@ -26,11 +26,12 @@ use Rattle.dl_addr.specs.Texts.{IsKept, named, printed, unit_place}
 
 -- ---- what visits give; rows, offset: of the current unit before the visits
 
--- the live rows of the units that ended
+-- the live rows of the units that ended; those of a damaged one don't count
 abbrev pub ended_rows : (live : ℕ → Bool) → List Row → List Visit → List (List Row)
 ended_rows live rows [] = []
 ended_rows live rows (of_row r ∷ visits) = ended_rows live (rows ++ r ∷ []) visits
 ended_rows live rows (of_end h ∷ visits) = live_rows live rows ∷ ended_rows live [] visits
+ended_rows live rows (of_damage at kind ∷ visits) = ended_rows live [] visits
 ended_rows live rows (visit ∷ visits) = ended_rows live rows visits
 
 -- the answer of a unit
@@ -45,6 +46,7 @@ located_after live x rows offset (of_header n h ∷ visits) = located_after live
 located_after live x rows offset (of_row r ∷ visits) = located_after live x (rows ++ r ∷ []) offset visits
 located_after live x rows offset (of_end h ∷ visits) =
     option_or (located_under live x rows offset h) (located_after live x [] offset visits)
+located_after live x rows offset (of_damage at kind ∷ visits) = located_after live x [] offset visits
 located_after live x rows offset (visit ∷ visits) = located_after live x rows offset visits
 
 -- ---- the locator

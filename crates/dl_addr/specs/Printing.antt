@@ -10,6 +10,7 @@ use Rattle.dl_print.specs.declared.fault.WriteFault.{WriteFault}
 use Rattle.dl_print.specs.Output.{TellsOut}
 use Rattle.dl_print.specs.Text.{line}
 use Rattle.dl_print.specs.declared.summary.Summary.{Summary}
+use Rattle.dl_run.specs.declared.around.Survey.{Survey}
 use Rattle.dl_run.specs.declared.fault.RunFault.{RunFault}
 use Rattle.dl_run.specs.declared.fault.RunFault.TheVariants as fault
 use Rattle.dl_run.specs.Section.{Visit}
@@ -17,6 +18,7 @@ use Rattle.dl_look.specs.declared.asked.Asked.{Asked}
 use Rattle.dl_addr.specs.declared.locating.Locator.{Locator}
 use Rattle.dl_addr.specs.declared.question.Found.{Found}
 use Rattle.dl_addr.specs.declared.question.Found.TheVariants as found
+use Rattle.dl_addr.specs.declared.question.FoundAround.{FoundAround}
 use Rattle.dl_addr.specs.declared.question.Question.{Question}
 use Rattle.dl_addr.specs.declared.style.Form.{Form}
 use Rattle.dl_addr.specs.declared.style.Form.TheVariants.{Location, AddressAndLocation, Json}
@@ -71,3 +73,9 @@ abbrev pub told : Result Summary RunFault → Result Found WriteFault → Result
 told ended (Err lost) = Err (fault.Write lost.out)
 told (Ok summary) (Ok all_found) = Ok all_found
 told (Err f) (Ok all_found) = Err f
+
+-- the same of a section of which units may be damaged
+abbrev pub told_around : Result Survey RunFault → Result Found WriteFault → Result FoundAround RunFault
+told_around ended (Err lost) = Err (fault.Write lost.out)
+told_around (Ok survey) (Ok all_found) = Ok (record { found = all_found; damaged = survey.damaged })
+told_around (Err f) (Ok all_found) = Err f

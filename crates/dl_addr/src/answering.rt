@@ -10,18 +10,19 @@ ghost use Rattle.dl_run.specs.Section.{Visit};
 ghost use Rattle.dl_addr.specs.declared.locating.Locator as locators;
 ghost use Rattle.dl_addr.specs.declared.question.Found.TheVariants as all_found;
 ghost use Rattle.dl_addr.specs.Answers.{answer_seen};
+ghost use Rattle.dl_addr.specs.AroundCommands.{LocatesAround};
 ghost use Rattle.dl_look.specs.Asked.{looked_up};
 ghost use Rattle.dl_addr.specs.Commands.{Locates, is_answered};
 ghost use Rattle.dl_addr.specs.Knowing.{Knows};
 ghost use Rattle.dl_addr.specs.Locating.{IsMadeFor, Locating};
-ghost use Rattle.dl_addr.specs.Printing.{PrintsAll, answer_for, told};
+ghost use Rattle.dl_addr.specs.Printing.{PrintsAll, answer_for, told, told_around};
 
 use crate::locating::{Answer, Locator};
 use crate::printing::print_line;
-use crate::question::{Found, Question};
+use crate::question::{Found, FoundAround, Question};
 use dl_look::{Asked, NoMemory, Place};
 use dl_print::{Printer, StringSections, Summary, WriteFault};
-use dl_run::{Options, RunFault, SECTION_LIMIT, read_units};
+use dl_run::{Options, RunFault, SECTION_LIMIT, Survey, read_units, read_units_around};
 use std::alloc::Global;
 use std::io::{Read, Write};
 
@@ -60,13 +61,50 @@ fn told(
 ) -> Result<Found, RunFault>
     ensures { result ≡ told ended printed }
 {
-    match printed {
-        Ok(found) => match ended {
-            Ok(_) => Ok(found),
-            Err(fault) => Err(fault),
-        },
-        Err(fault) => Err(RunFault::Write { out: fault.out }),
-    }
+    let found = printed?;
+    ended?;
+    Ok(found)
+}
+
+/// Answers each address as `addr` does, and goes on after units that are damaged, whose rows answer for no address.
+///
+/// The section is read as `read_units_around` reads it. Then the lines are printed that the whole units before its end,
+/// or before the fault, answer. The faults are those of `addr` but for `Damage`: of damaged units the answer says what
+/// is wrong with the first, and how many others there are.
+pub fn addr_around<R: Read, W: Write>(
+    alloc: Global,
+    input: &mut R,
+    output: &mut W,
+    question: &Question<'_>,
+    options: &Options<'_>,
+) -> Result<FoundAround, RunFault>
+    requires { options.now.limit ≤ SECTION_LIMIT }
+    ensures { (bs : List ℕ) × Consumes (R.remaining input.old) (R.remaining input.new) bs
+        × LocatesAround options.now.dialect (strings_in options.now) question.now options.now.limit bs
+        (R.remaining input.new) (W.contents output.old) (W.contents output.new) result }
+{
+    let strings = StringSections::new(options.debug_line_str, options.debug_str);
+    let Ok(mut locator) = locator_of(alloc, &strings, question) else {
+        return Err(RunFault::NoMemory);
+    };
+    let ended = read_units_around(alloc, input, output, options, &mut locator);
+    let printed = print_all(&locator, output, question);
+    told_around(ended, printed)
+}
+
+/// What is answered where the reading around damaged units ended so, and then the lines were printed.
+fn told_around(
+    ended: Result<Survey, RunFault>,
+    printed: Result<Found, WriteFault>,
+) -> Result<FoundAround, RunFault>
+    ensures { result ≡ told_around ended printed }
+{
+    let found = printed?;
+    let survey = ended?;
+    Ok(FoundAround {
+        found,
+        damaged: survey.damaged,
+    })
 }
 
 /// A locator for the places of what is asked.

@@ -4,6 +4,7 @@
 mod answering;
 mod json_line;
 mod kept;
+pub mod laws;
 mod locating;
 mod path_text;
 mod printing;
@@ -11,8 +12,8 @@ mod question;
 mod style;
 mod texts;
 
-pub use answering::addr;
+pub use answering::{addr, addr_around};
 pub use dl_dirs::CompilationDirectories;
 pub use dl_look::Asked;
-pub use question::{Found, Question};
+pub use question::{Found, FoundAround, Question};
 pub use style::{Form, Style};

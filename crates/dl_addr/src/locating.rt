@@ -13,7 +13,7 @@ use dl_look::{CodeRanges, Finders, LiveRows, NoMemory, Place};
 use dl_path::{beside_table, is_whole_path};
 use dl_print::StringSections;
 use dl_rows::{Flow, Row};
-use dl_run::{RunFault, Visitor};
+use dl_run::{AroundDamage, Damage, RunFault, Visitor};
 use std::alloc::Global;
 use std::io::Write;
 
@@ -76,6 +76,13 @@ impl<W: Write> Visitor<W> for Locator<'_, '_, '_> {
 
     fn flush(&mut self, _output: &mut W) -> Result<(), RunFault> {
         Ok(())
+    }
+}
+
+impl<W: Write> AroundDamage<W> for Locator<'_, '_, '_> {
+    fn damaged(&mut self, _damage: Damage) {
+        self.finders.forget_unit();
+        self.live = LiveRows::new();
     }
 }
 

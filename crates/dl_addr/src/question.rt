@@ -3,6 +3,7 @@
 use crate::style::Style;
 use dl_dirs::CompilationDirectories;
 use dl_look::{Asked, CodeRanges};
+use dl_run::DamagedUnits;
 
 /// What is asked of a section.
 #[derive(Clone, Copy)]
@@ -25,4 +26,11 @@ pub struct Question<'a> {
 pub enum Found {
     All,
     NotAll,
+}
+
+/// What was answered of a section of which units may be damaged.
+#[derive(Clone, Copy, Debug, PartialEq, Eq)]
+pub struct FoundAround {
+    pub found: Found,
+    pub damaged: Option<DamagedUnits>,
 }

@@ -104,6 +104,10 @@ with_to_5 a =
     with_rule (with_rule (with_rule (with_rule a (switch_rule (codes "to-5"))) (wanting_rule (codes "older")))
     (wanting_rule (codes "address-size"))) (wanting_rule (codes "comp-dir"))
 
+-- whether units after a damaged one are read
+abbrev pub with_keep_going : App → App
+with_keep_going a = with_rule a (switch_rule (codes "keep-going"))
+
 -- where the section comes from, in its order
 abbrev pub with_input : App → App
 with_input a = with_rule (with_rule a big_rule) file_rule
@@ -135,13 +139,14 @@ with_addresses a =
 abbrev pub addr_app : App
 addr_app = with_addresses (new_app (codes "addr"))
 
--- `dump [--older SIZE] [--address-size SIZE] [--version-5] [--big] [--line-str PATH] [--str PATH] [FILE]`
+-- `dump [--keep-going] [--older SIZE] [--address-size SIZE] [--version-5] [--big] [--line-str PATH] [--str PATH]
+-- [FILE]`
 abbrev pub dump_app : App
-dump_app = with_strings (with_units (new_app (codes "dump")))
+dump_app = with_strings (with_units (with_keep_going (new_app (codes "dump"))))
 
--- `check [--older SIZE] [--address-size SIZE] [--version-5] [--big] [FILE]`
+-- `check [--keep-going] [--older SIZE] [--address-size SIZE] [--version-5] [--big] [FILE]`
 abbrev pub check_app : App
-check_app = with_input (with_units (new_app (codes "check")))
+check_app = with_input (with_units (with_keep_going (new_app (codes "check"))))
 
 -- `find ADDRESS [--op N] [-j NAME] [--older SIZE] [--address-size SIZE] [--version-5] [--big] [--line-str PATH]
 -- [--str PATH] [FILE]`

@@ -34,8 +34,9 @@ pub record AddrTexts : Type 0 where
 
 -- a job, by the texts of its words
 pub data Request : Type 0 where
-  dump : (file : Option Text) (big : Bool) (units : UnitTexts) (line_str strings : Option Text) → Request
-  check : (file : Option Text) (big : Bool) (units : UnitTexts) → Request
+  dump : (file : Option Text) (big : Bool) (units : UnitTexts) (line_str strings : Option Text)
+      (keep_going : Bool) → Request
+  check : (file : Option Text) (big : Bool) (units : UnitTexts) (keep_going : Bool) → Request
   find : (file : Option Text) (big : Bool) (units : UnitTexts) (address : Option Text) (op : ℕ)
       (section line_str strings : Option Text) → Request
   copy : (file : Option Text) (big : Bool) (units : UnitTexts) (to_5 : Bool) (comp_dir : Option Text) → Request
@@ -67,10 +68,11 @@ addr_words_made w = record {
 }
 
 abbrev pub request_made : Job → Request
-request_made (Dump file big units line_str strings) =
+request_made (Dump file big units line_str strings keep_going) =
     dump (option_map (λ s. s.now) file) big (unit_words_made units) (option_map (λ s. s.now) line_str)
-    (option_map (λ s. s.now) strings)
-request_made (Check file big units) = check (option_map (λ s. s.now) file) big (unit_words_made units)
+    (option_map (λ s. s.now) strings) keep_going
+request_made (Check file big units keep_going) =
+    check (option_map (λ s. s.now) file) big (unit_words_made units) keep_going
 request_made (Find file big units address op section line_str strings) =
     find (option_map (λ s. s.now) file) big (unit_words_made units) (option_map (λ s. s.now) address) op
     (option_map (λ s. s.now) section) (option_map (λ s. s.now) line_str) (option_map (λ s. s.now) strings)

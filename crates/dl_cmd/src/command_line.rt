@@ -7,7 +7,7 @@ ghost use Rattle.dl_cmd.specs.CommandLine.{Wants, json_rule, section_of_file_rul
 ghost use Rattle.dl_cmd.specs.CommandLine.{switch_rule, letter_rule, addr_app, with_addresses, with_input};
 ghost use Rattle.dl_cmd.specs.CommandLine.{with_printing, with_settings, with_strings, dump_app, check_app, find_app, copy_app};
 ghost use Rattle.dl_cmd.specs.CommandLine.{value_rule, version_5_rule, wanting_rule, with_to_5, with_units, with_units_of_addr};
-ghost use Rattle.dl_cmd.specs.CommandLine.{command_line, top_app};
+ghost use Rattle.dl_cmd.specs.CommandLine.{command_line, top_app, with_keep_going};
 
 use clap::{Arg, ArgAction, Command};
 use std::alloc::{AllocError, Global};
@@ -361,6 +361,21 @@ fn size_of_copied<'a>(alloc: Global) -> Result<Arg<'a>, AllocError>
     wanting(address_size_of_file(alloc)?, "to-5")
 }
 
+/// Whether units after a damaged one are read.
+fn add_keep_going<'a>(
+    alloc: Global,
+    command: Result<Command<'a>, AllocError>,
+) -> Result<Command<'a>, AllocError>
+    ensures { (a : App) → IfOk command.entry (IsApp a) → IfOk result (IsApp (with_keep_going a)) }
+{
+    let keep_going = switch(
+        alloc,
+        "keep-going",
+        "After a damaged unit go on with the next one",
+    );
+    with_arg(command, keep_going)
+}
+
 fn add_input<'a>(
     alloc: Global,
     command: Result<Command<'a>, AllocError>,
@@ -391,7 +406,8 @@ fn dump<'a>(alloc: Global) -> Result<Command<'a>, AllocError>
         .after_help(
             "Examples:\n  dwline dump program\n  dwline dump --line-str debug_line_str < debug_line",
         );
-    add_strings(alloc, add_units(alloc, Ok(command)))
+    let command = add_keep_going(alloc, Ok(command));
+    add_strings(alloc, add_units(alloc, command))
 }
 
 fn check<'a>(alloc: Global) -> Result<Command<'a>, AllocError>
@@ -401,7 +417,8 @@ fn check<'a>(alloc: Global) -> Result<Command<'a>, AllocError>
         .before_help(WITHOUT_FILE)
         .about("Read all units, and print how many units, sequences and rows there are")
         .after_help("Examples:\n  dwline check program\n  dwline check --big < debug_line");
-    add_input(alloc, add_units(alloc, Ok(command)))
+    let command = add_keep_going(alloc, Ok(command));
+    add_input(alloc, add_units(alloc, command))
 }
 
 fn find<'a>(alloc: Global) -> Result<Command<'a>, AllocError>

@@ -29,12 +29,16 @@ pub enum Job<'a> {
         line_str: Option<&'a str>,
         /// The path of the section `.debug_str`.
         strings: Option<&'a str>,
+        /// After a unit that is damaged the next one is read.
+        keep_going: bool,
     },
     /// Count units, sequences and rows.
     Check {
         file: Option<&'a str>,
         big: bool,
         units: UnitWords<'a>,
+        /// After a unit that is damaged the next one is read.
+        keep_going: bool,
     },
     /// Look up an address.
     Find {

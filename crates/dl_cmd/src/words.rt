@@ -114,11 +114,13 @@ fn job_of<'a>(
             units: unit_words(matches),
             line_str: text(matches, "line-str"),
             strings: text(matches, "str"),
+            keep_going: flag(matches, "keep-going"),
         },
         "check" => Job::Check {
             file: text(matches, "file"),
             big: flag(matches, "big"),
             units: unit_words(matches),
+            keep_going: flag(matches, "keep-going"),
         },
         "find" => Job::Find {
             file: text(matches, "file"),

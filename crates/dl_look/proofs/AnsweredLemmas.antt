@@ -1,5 +1,5 @@
 -- What finders answer, and which answers are new.
-use Rattle.std.proofs.Common.{◌≡◌, ℕ, ◌+◌, ◌-◌, ◌<◌, ◌≤◌, Bool, List, [], ◌∷◌, ◌++◌, length, take, drop, get_or, Option}
+use Rattle.std.proofs.Common.{◌≡◌, ℕ, ◌+◌, ◌-◌, ◌<◌, ◌≤◌, Bool, List, [], ◌∷◌, ◌++◌, length, take, drop, get_or}
 use Rattle.std.proofs.Common.{Some, None, arith, refl, sym, ap, ap₂, subst, ◌∙◌, ⊎_elim, length-take, length-drop}
 use Rattle.std.specs.Prelude.{if◌then◌else◌, nat_lt, slice_get}
 use Rattle.std.specs.Option.{option_and_then, option_or}
@@ -18,15 +18,7 @@ use Rattle.dl_look.specs.Ledgers.{no_answer, answered_at, entry_at, answer_upto}
 use Rattle.dl_look.specs.Slots.{no_place, slot_place, slot_number}
 use Rattle.dl_look.specs.Units.{answer_of_units, FirstAnswer, AreFirstAnswers}
 use Rattle.dl_look.proofs.FindersLemmas.{answer_of_units-push}
-
-entry_within : (entries : List (Option ℕ)) (i e : ℕ) → get_or entries i None ≡ Some e → i < length entries
-entry_within entries i e h =
-    ⊎_elim (λ lt. lt) (λ le. absurd (let past = get_or_past entries i None le in cc)) (cases_lt i (length entries))
-
-upto_entry : (ledger : Ledger) (limit i e : ℕ) → entry_at ledger i ≡ Some e
-    → answer_upto limit ledger i ≡ (if nat_lt e limit then Some (answered_at ledger e).row else None)
-upto_entry ledger limit i e h =
-    ap (option_and_then (λ e. if nat_lt e limit then Some (answered_at ledger e).row else None)) h
+use Rattle.dl_look.proofs.LedgerLemmas.{entry_within, upto_entry}
 
 -- an answer among the first `limit` has an entry there
 record Entry (ledger : Ledger) (limit i : ℕ) (r : Row) : Type 0 where

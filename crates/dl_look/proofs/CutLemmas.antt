@@ -11,6 +11,7 @@ use Rattle.dl_look.specs.declared.place.Place.{Place}
 use Rattle.dl_look.specs.declared.probed.Span.{Span}
 use Rattle.dl_look.specs.declared.slots.Slot.{Slot}
 use Rattle.dl_look.specs.declared.cuts.Cut.{Cut}
+use Rattle.dl_look.specs.declared.links.Links.{Links}
 use Rattle.dl_look.specs.Answer.{is_below, is_at_most}
 use Rattle.dl_look.specs.Cuts.{covers_span, first_from, ends_of_span, no_cut, no_span, cut_place, AreCuts}
 use Rattle.dl_look.specs.Links.{IsLinked, is_open}
@@ -34,26 +35,29 @@ none-true None h = refl
 none-true (Some e) h = cc
 
 -- the open slots from low on up to before at, and before high, have the sequence
-pub record Covered (old now : List (Option ℕ)) (next : List ℕ) (low high at sequence : ℕ) : Type 0 where
-  pub linked : IsLinked next
-  pub links : length next ≡ length old + 1
+pub record Covered (old now : List (Option ℕ)) (links : Links) (low high at sequence : ℕ) : Type 0 where
+  pub linked : IsLinked links
+  pub slots : length links.next.items ≡ length old + 1
   pub count : length now ≡ length old
   pub within : at ≤ length old
   pub ahead : low ≤ at
-  pub «open» : is_open next at ≡ true
-  pub opens : (j : ℕ) → j < length old → is_open next j ≡ is_none (get_or now j None)
-  pub closed : (j : ℕ) → low ≤ j → j < at → is_open next j ≡ false
+  pub «open» : is_open links.next.items at ≡ true
+  pub opens : (j : ℕ) → j < length old → is_open links.next.items j ≡ is_none (get_or now j None)
+  pub closed : (j : ℕ) → low ≤ j → j < at → is_open links.next.items j ≡ false
   pub given : (j : ℕ) → j < length old
       → get_or now j None ≡ option_or (get_or old j None) (if nat_le low j && nat_lt j (min at high) then Some sequence
       else None)
 
-module _ (old now : List (Option ℕ)) (next mid further : List ℕ) (low high at at' sequence : ℕ)
-    (c : Covered old now next low high at sequence) (lt : at < high) (to : high ≤ length old)
-    (count : length mid ≡ length next) (shut : is_open mid at ≡ false)
-    (others : (j : ℕ) → j < length next → j ≢ at → is_open mid j ≡ is_open next j) (linked : IsLinked further)
-    (count' : length further ≡ length mid) (stay : (j : ℕ) → j < length mid → is_open further j ≡ is_open mid j)
-    (ahead : at + 1 ≤ at') (within : at' < length mid) (opened : is_open further at' ≡ true)
-    (closed : (j : ℕ) → at + 1 ≤ j → j < at' → is_open further j ≡ false) where
+module _ (old now : List (Option ℕ)) (links mid further : Links) (low high at at' sequence : ℕ)
+    (c : Covered old now links low high at sequence) (lt : at < high) (to : high ≤ length old)
+    (count : length mid.next.items ≡ length links.next.items) (shut : is_open mid.next.items at ≡ false)
+    (others : (j : ℕ) → j < length links.next.items → j ≢ at
+    → is_open mid.next.items j ≡ is_open links.next.items j)
+    (linked : IsLinked further)
+    (count' : length further.next.items ≡ length mid.next.items)
+    (stay : (j : ℕ) → j < length mid.next.items → is_open further.next.items j ≡ is_open mid.next.items j)
+    (ahead : at + 1 ≤ at') (within : at' < length mid.next.items) (opened : is_open further.next.items at' ≡ true)
+    (closed : (j : ℕ) → at + 1 ≤ j → j < at' → is_open further.next.items j ≡ false) where
   abbrev new : List (Option ℕ)
   new = set now at (Some sequence)
 
@@ -77,12 +81,12 @@ module _ (old now : List (Option ℕ)) (next mid further : List ℕ) (low high a
       (outside low high at at (omega arith)))
       ∙ none-true (get_or now at None) (sym (c.opens at (omega arith)) ∙ c.open)
 
-  new_opens : (j : ℕ) → j < length old → is_open further j ≡ is_none (get_or new j None)
+  new_opens : (j : ℕ) → j < length old → is_open further.next.items j ≡ is_none (get_or new j None)
   new_opens j less =
-      stay j (omega (arith, c.links))
+      stay j (omega (arith, c.slots))
       ∙ ⊎_elim
-      (λ is. ap (is_open mid) is ∙ shut ∙ sym (ap is_none (ap (λ k. get_or new k None) is ∙ new_at)))
-      (λ ne. others j (omega (arith, c.links)) ne ∙ c.opens j less ∙ sym (ap is_none (new_other j ne)))
+      (λ is. ap (is_open mid.next.items) is ∙ shut ∙ sym (ap is_none (ap (λ k. get_or new k None) is ∙ new_at)))
+      (λ ne. others j (omega (arith, c.slots)) ne ∙ c.opens j less ∙ sym (ap is_none (new_other j ne)))
       (cases_eq j at)
 
   alike : (j : ℕ) → j ≢ at → (j < at) ⊎ (at' ≤ j) → picked at j ≡ picked at' j
@@ -126,13 +130,13 @@ module _ (old now : List (Option ℕ)) (next mid further : List ℕ) (low high a
       (λ ne. new_other j ne ∙ c.given j less ∙ gives_other j less ne)
       (cases_eq j at)
 
-  shuts : (j : ℕ) → low ≤ j → j < at' → is_open further j ≡ false
+  shuts : (j : ℕ) → low ≤ j → j < at' → is_open further.next.items j ≡ false
   shuts j from under =
       ⊎_elim
-      (λ earlier. stay j (omega (arith, c.links)) ∙ others j (omega (arith, c.links)) (omega arith)
+      (λ earlier. stay j (omega (arith, c.slots)) ∙ others j (omega (arith, c.slots)) (omega arith)
       ∙ c.closed j from earlier)
       (λ tail. ⊎_elim
-      (λ is. stay j (omega (arith, c.links)) ∙ ap (is_open mid) is ∙ shut)
+      (λ is. stay j (omega (arith, c.slots)) ∙ ap (is_open mid.next.items) is ∙ shut)
       (λ ne. closed j (omega arith) under)
       (cases_eq j at))
       (cases_lt j at)
@@ -141,9 +145,9 @@ module _ (old now : List (Option ℕ)) (next mid further : List ℕ) (low high a
   covered_more =
       record {
         linked = linked;
-        links = count' ∙ count ∙ c.links;
+        slots = count' ∙ count ∙ c.slots;
         count = length-set now at (Some sequence) ∙ c.count;
-        within = omega (arith, c.links);
+        within = omega (arith, c.slots);
         ahead = omega (arith, c.ahead);
         «open» = opened;
         opens = new_opens;

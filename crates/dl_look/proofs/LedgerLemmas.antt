@@ -5,7 +5,7 @@ use Rattle.std.proofs.Common.{ap₂, ◌∙◌, ◌⊎◌, inl, inr, ⊎_elim, l
 use Rattle.std.specs.Prelude.{if◌then◌else◌, is_none, nat_le, nat_lt}
 use Rattle.std.specs.Option.{option_and_then, option_or}
 use Rattle.std.proofs.lemmas.Bool.{and_from, and_left, and_right, cases_eq, cases_lt, le-leb, le-ltb, lt-leb, lt-ltb}
-use Rattle.std.proofs.lemmas.List.{length_push, get_or_push, get_or_append_left}
+use Rattle.std.proofs.lemmas.List.{length_push, get_or_push, get_or_append_left, get_or_past}
 use Rattle.dl_rows.specs.declared.row.Row.{Row}
 use Rattle.dl_look.specs.declared.slots.Slot.{Slot}
 use Rattle.dl_look.specs.declared.ledger.Ledger.{Ledger}
@@ -13,7 +13,7 @@ use Rattle.dl_look.specs.declared.links.Links.{Links}
 use Rattle.dl_look.specs.declared.ledger.Answered.{Answered}
 use Rattle.dl_look.specs.Links.{IsLinked, is_open}
 use Rattle.dl_look.specs.Slots.{slot_number, IsNumbered}
-use Rattle.dl_look.specs.Ledgers.{no_answer, answered_at, entry_at, answer_upto, unanswered, IsSound}
+use Rattle.dl_look.specs.Ledgers.{no_answer, answered_at, answered_slot, entry_at, answer_upto, unanswered, IsSound}
 
 pub unanswered-replicate : (n : ℕ) → unanswered (replicate n None) ≡ n
 unanswered-replicate zero = refl
@@ -43,26 +43,43 @@ unanswered_one : (entries : List (Option ℕ)) (i : ℕ) → i < length entries 
     → 0 < unanswered entries
 unanswered_one entries i lt none = omega (arith, unanswered-set entries i 0 lt none)
 
+pub entry_within : (entries : List (Option ℕ)) (i e : ℕ) → get_or entries i None ≡ Some e → i < length entries
+entry_within entries i e h =
+    ⊎_elim (λ lt. lt) (λ le. absurd (let past = get_or_past entries i None le in cc)) (cases_lt i (length entries))
+
 -- where a slot is open, not all places have an answer
-pub one_left : (slots : List Slot) (ledger : Ledger) (at : ℕ) → IsNumbered slots → IsSound slots ledger
-    → at < length slots → is_open ledger.links.next.items at ≡ true → length ledger.log.items < vec_capacity ledger.log
-one_left slots ledger at numbered sound lt opened =
+left_one : (slots : List Slot) (ledger : Ledger) (at : ℕ) → IsNumbered slots → IsSound slots ledger
+    → at < length slots → is_open ledger.links.next.items at ≡ true → length ledger.log.items < length slots
+left_one slots ledger at numbered sound lt opened =
     let none = is_none-true (entry_at ledger (slot_number slots at)) (sym (sound.open at lt) ∙ opened) in
     let left =
     unanswered_one ledger.entries.items (slot_number slots at) (omega (arith, numbered.within at lt, sound.count))
     none in
-    omega (arith, sound.room, sound.capacity)
+    omega (arith, sound.room)
+
+pub one_left : (slots : List Slot) (ledger : Ledger) (at : ℕ) → IsNumbered slots → IsSound slots ledger
+    → at < length slots → is_open ledger.links.next.items at ≡ true → length ledger.log.items < vec_capacity ledger.log
+one_left slots ledger at numbered sound lt opened =
+    omega (arith, left_one slots ledger at numbered sound lt opened, sound.capacity)
+
+pub slot_left : (slots : List Slot) (ledger : Ledger) (at : ℕ) → IsNumbered slots → IsSound slots ledger
+    → at < length slots → is_open ledger.links.next.items at ≡ true
+    → length ledger.log_slots.items < vec_capacity ledger.log_slots
+slot_left slots ledger at numbered sound lt opened =
+    omega (arith, left_one slots ledger at numbered sound lt opened, sound.slots_capacity, sound.log_slots)
 
 -- the slot at gets the row as its answer
 module _ (slots : List Slot) (old new : Ledger) (at : ℕ) (row : Row) (numbered : IsNumbered slots)
     (sound : IsSound slots old) (lt : at < length slots) (opened : is_open old.links.next.items at ≡ true)
-    (linked : IsLinked new.links.next.items) (count : length new.links.next.items ≡ length old.links.next.items)
+    (linked : IsLinked new.links) (count : length new.links.next.items ≡ length old.links.next.items)
     (closed : is_open new.links.next.items at ≡ false)
     (others : (j : ℕ) → j < length old.links.next.items → j ≢ at
     → is_open new.links.next.items j ≡ is_open old.links.next.items j)
     (entries : new.entries.items ≡ set old.entries.items (slot_number slots at) (Some (length old.log.items)))
     (log : new.log.items ≡ old.log.items ++ record { number = slot_number slots at; row = row } ∷ [])
-    (capacity : vec_capacity new.log ≡ vec_capacity old.log) where
+    (capacity : vec_capacity new.log ≡ vec_capacity old.log)
+    (log_slots : new.log_slots.items ≡ old.log_slots.items ++ at ∷ [])
+    (slots_capacity : vec_capacity new.log_slots ≡ vec_capacity old.log_slots) where
   abbrev number : ℕ
   number = slot_number slots at
 
@@ -94,6 +111,14 @@ module _ (slots : List Slot) (old new : Ledger) (at : ℕ) (row : Row) (numbered
   answered_other : (e : ℕ) → e < entry → answered_at new e ≡ answered_at old e
   answered_other e less =
       ap (λ l. get_or l e no_answer) log ∙ get_or_append_left old.log.items (answered ∷ []) no_answer e less
+
+  slot_new : answered_slot new entry ≡ at
+  slot_new = ap (λ l. get_or l entry 0) log_slots ∙ get_or_push old.log_slots.items at 0 entry sound.log_slots
+
+  slot_other : (e : ℕ) → e < entry → answered_slot new e ≡ answered_slot old e
+  slot_other e less =
+      ap (λ l. get_or l e 0) log_slots
+      ∙ get_or_append_left old.log_slots.items (at ∷ []) 0 e (omega (arith, sound.log_slots))
 
   opens : (j : ℕ) → j < length slots → is_open new.links.next.items j ≡ is_none (entry_at new (slot_number slots j))
   opens j less =
@@ -128,6 +153,24 @@ module _ (slots : List Slot) (old new : Ledger) (at : ℕ) (row : Row) (numbered
       ∙ was)
       (cases_eq e entry)
 
+  slots_within : (e : ℕ) → e < length new.log.items → answered_slot new e < length slots
+  slots_within e less =
+      ⊎_elim
+      (λ is. omega (arith, ap (answered_slot new) is, slot_new))
+      (λ ne. omega (arith, longer, slot_other e (omega (arith, longer)), sound.within e (omega (arith, longer))))
+      (cases_eq e entry)
+
+  slots_logged : (e : ℕ) → e < length new.log.items
+      → slot_number slots (answered_slot new e) ≡ (answered_at new e).number
+  slots_logged e less =
+      ⊎_elim
+      (λ is. ap (slot_number slots) (ap (answered_slot new) is ∙ slot_new)
+      ∙ sym (ap (λ k. (answered_at new k).number) is ∙ ap (λ (a : Answered). a.number) answered_new))
+      (λ ne. let before : e < entry = omega (arith, longer) in
+      ap (slot_number slots) (slot_other e before) ∙ sound.slot e before
+      ∙ sym (ap (λ (a : Answered). a.number) (answered_other e before)))
+      (cases_eq e entry)
+
   pub one_more : IsSound slots new
   one_more =
       record {
@@ -145,6 +188,10 @@ module _ (slots : List Slot) (old new : Ledger) (at : ℕ) (row : Row) (numbered
           sound.room,
         );
         capacity = omega (arith, sound.capacity);
+        log_slots = omega (arith, longer, ap length log_slots, length_push old.log_slots.items at, sound.log_slots);
+        within = slots_within;
+        slot = slots_logged;
+        slots_capacity = omega (arith, sound.slots_capacity);
       }
 
   pub one_given : answer_upto (length new.log.items) new number ≡ Some row
@@ -168,6 +215,7 @@ pub record Given (slots : List Slot) (old now : Ledger) (low high at : ℕ) (row
       && nat_lt j (min at high) then Some row else None)
   pub before : (limit i : ℕ) → limit ≤ length old.log.items → answer_upto limit now i ≡ answer_upto limit old i
   pub grown : length old.log.items ≤ length now.log.items
+  pub sealed : now.links.sealed.items ≡ old.links.sealed.items
 
 option_or-some : (o x : Option Row) → is_none o ≡ false → option_or o x ≡ o
 option_or-some None x h = cc
@@ -188,7 +236,12 @@ outside low high at j a = and_right (nat_le low j) (nat_lt j (min at high)) (le-
 pub below : (low high at j : ℕ) → j < low → (nat_le low j && nat_lt j (min at high)) ≡ false
 below low high at j a = and_left (nat_le low j) (nat_lt j (min at high)) (lt-leb low j a)
 
-answer_none : (ledger : Ledger) (limit i : ℕ) → is_none (entry_at ledger i) ≡ true → answer_upto limit ledger i ≡ None
+pub upto_entry : (ledger : Ledger) (limit i e : ℕ) → entry_at ledger i ≡ Some e
+    → answer_upto limit ledger i ≡ (if nat_lt e limit then Some (answered_at ledger e).row else None)
+upto_entry ledger limit i e h =
+    ap (option_and_then (λ e. if nat_lt e limit then Some (answered_at ledger e).row else None)) h
+
+pub answer_none : (ledger : Ledger) (limit i : ℕ) → is_none (entry_at ledger i) ≡ true → answer_upto limit ledger i ≡ None
 answer_none ledger limit i h =
     ap (option_and_then (λ e. if nat_lt e limit then Some (answered_at ledger e).row else None))
     (is_none-true (entry_at ledger i) h)
@@ -215,16 +268,18 @@ module _ (slots : List Slot) (old now mid : Ledger) (low high at further : ℕ) 
     → answer_upto (length mid.log.items) mid i ≡ answer_upto (length now.log.items) now i)
     (before : (limit i : ℕ) → limit ≤ length now.log.items → answer_upto limit mid i ≡ answer_upto limit now i)
     (grown : length mid.log.items ≡ length now.log.items + 1)
+    (seals : mid.links.sealed.items ≡ now.links.sealed.items)
     (links : Links)
-    (linked : IsLinked links.next.items)
+    (linked : IsLinked links)
     (count : length links.next.items ≡ length mid.links.next.items)
     (stay : (j : ℕ) → j < length mid.links.next.items → is_open links.next.items j ≡ is_open mid.links.next.items j)
     (ahead : at + 1 ≤ further)
     (within : further < length mid.links.next.items)
     (opened : is_open links.next.items further ≡ true)
-    (closed : (j : ℕ) → at + 1 ≤ j → j < further → is_open links.next.items j ≡ false) where
+    (closed : (j : ℕ) → at + 1 ≤ j → j < further → is_open links.next.items j ≡ false)
+    (seal : links.sealed.items ≡ mid.links.sealed.items) where
   abbrev next : Ledger
-  next = record { links = links; entries = mid.entries; log = mid.log }
+  next = record { links = links; entries = mid.entries; log = mid.log; log_slots = mid.log_slots }
 
   abbrev answer_before : ℕ → Option Row
   answer_before j = answer_upto (length old.log.items) old (slot_number slots j)
@@ -243,6 +298,10 @@ module _ (slots : List Slot) (old now mid : Ledger) (low high at further : ℕ) 
         kept = sound.kept;
         room = sound.room;
         capacity = sound.capacity;
+        log_slots = sound.log_slots;
+        within = sound.within;
+        slot = sound.slot;
+        slots_capacity = sound.slots_capacity;
       }
 
   at_within : at < length slots
@@ -331,4 +390,5 @@ module _ (slots : List Slot) (old now mid : Ledger) (low high at further : ℕ) 
         given = gives;
         before = λ limit i le. before limit i (omega (arith, g.grown)) ∙ g.before limit i le;
         grown = omega (arith, g.grown);
+        sealed = seal ∙ seals ∙ g.sealed;
       }

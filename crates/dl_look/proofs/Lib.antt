@@ -4,8 +4,10 @@ pub mod CutAnswers
 pub mod CutLemmas
 pub mod FinderLemmas
 pub mod FindersLemmas
+pub mod ForgetLemmas
 pub mod Halving
 pub mod LastUpto
+pub mod LinksLemmas
 pub mod LiveLemmas
 pub mod MoreRows
 pub mod LedgerLemmas

@@ -90,13 +90,13 @@ fn cover(
     high: usize,
     sequence: usize,
 )
-    requires linked { IsLinked links.old.next.items }
+    requires linked { IsLinked links.old }
     requires count { length links.old.next.items ≡ length sequences.old.items + 1 }
     requires opens { (j : ℕ) → j < length sequences.old.items
         → is_open links.old.next.items j ≡ is_none (slice_index_or sequences.old.items j None) }
     requires from { low ≤ length sequences.old.items }
     requires to { high ≤ length sequences.old.items }
-    ensures linked { IsLinked links.new.next.items }
+    ensures linked { IsLinked links.new }
     ensures links { length links.new.next.items ≡ length links.old.next.items }
     ensures count { length sequences.new.items ≡ length sequences.old.items }
     ensures opens { (j : ℕ) → j < length sequences.old.items

@@ -3,7 +3,7 @@
 ghost use Rattle.std.specs.Prelude.{◌≡◌, ℕ, ◌<◌, ◌≤◌, true, length, vec_capacity};
 ghost use Rattle.std.proofs.Props.{props};
 ghost use Rattle.dl_look.specs.Answer.{is_below};
-ghost use Rattle.dl_look.specs.Ledgers.{IsSound};
+ghost use Rattle.dl_look.specs.Ledgers.{IsSound, AreSealed};
 ghost use Rattle.dl_look.specs.SequenceState.{last_of, end_of, most_stretches};
 ghost use Rattle.dl_look.specs.Slots.{slot_place, IsNumbered, IsRising};
 ghost use Rattle.dl_look.specs.Trails.{StartsWithin};
@@ -20,11 +20,12 @@ use std::alloc::Global;
 /// The look-up of many places in the rows of units that come one after the other.
 ///
 /// Each row of a unit goes to `row`. Once the unit is whole `end_unit` makes its rows count, and `answered`
-/// tells which places it is the first to answer; a unit that turns out to be damaged isn't ended.
+/// tells which places it is the first to answer; if it turns out to be damaged, `forget_unit` leaves it out.
 ///
 /// A row takes constant time, and a binary search of the places where it passes over some. The end row of
 /// a rising sequence takes besides what these searches found, and each place that it answers, a little
-/// more than constant time. `build` takes 176 bytes for each place.
+/// more than constant time. `end_unit` and `forget_unit` take constant time for each place that the rows of
+/// the unit are the first to answer. `build` takes 185 bytes for each place.
 #[derive(Drop)]
 pub struct Finders {
     /// The places in order.
@@ -41,6 +42,7 @@ pub struct Finders {
     ghost rising: { IsRising slots.items },
     ghost numbered: { IsNumbered slots.items },
     ghost sound: { IsSound slots.items ledger },
+    ghost sealed: { AreSealed slots.items whole ledger },
     ghost capacity: { length slots.items ≤ vec_capacity trail },
     ghost starts: { StartsWithin (length slots.items) trail.items },
     ghost room: { length trail.items ≤ most_stretches (length slots.items) state },
@@ -159,8 +161,19 @@ impl Finders {
         ensures { (places : List Place) (units : List (List Row)) (rows : List Row)
             → Stand self.old places units rows → Stand self.new places (units ++ rows ∷ []) [] }
     {
+        self.ledger.seal(self.whole);
         self.before = self.whole;
         self.whole = self.ledger.log().len();
+        self.state = State::Start;
+    }
+
+    /// The current unit turns out to be damaged: its rows don't count, and the next row is the first one of
+    /// the next unit.
+    pub fn forget_unit(&mut self)
+        ensures { (places : List Place) (units : List (List Row)) (rows : List Row)
+            → Stand self.old places units rows → Stand self.new places units [] }
+    {
+        self.ledger.forget(self.whole);
         self.state = State::Start;
     }
 

@@ -1,6 +1,7 @@
 //! The answers of places, in the order in which they come.
 
-ghost use Rattle.std.specs.Prelude.{◌≡◌, IfOk, replicate, None};
+ghost use Rattle.std.specs.Prelude.{◌≡◌, ℕ, ◌+◌, ◌<◌, ◌≤◌, IfOk, length, replicate, slice_index_or, Some, None};
+ghost use Rattle.dl_look.specs.Ledgers.{no_answer, unanswered};
 
 use crate::NoMemory;
 use crate::links::Links;
@@ -23,30 +24,38 @@ pub struct Ledger {
     links: Links,
     entries: Vec<Option<usize>>,
     log: Vec<Answered>,
+    /// The slot of each answer.
+    log_slots: Vec<usize>,
 }
 
 impl Ledger {
     ghost use Rattle.std.specs.Prelude.{◌≡◌, ℕ, ◌+◌, ◌<◌, ◌≤◌, ◌≢◌, ◌&&◌, if◌then◌else◌, IfOk, length, true, false, []};
-    ghost use Rattle.std.specs.Prelude.{Some, None, nat_le, nat_lt};
+    ghost use Rattle.std.specs.Prelude.{Some, None, nat_le, nat_lt, List, drop};
     ghost use Rattle.std.specs.Option.{option_or};
-    ghost use Rattle.dl_look.specs.Links.{is_open};
+    ghost use Rattle.dl_look.specs.Links.{IsLinked, AreClosed, is_open, is_sealed};
     ghost use Rattle.dl_look.specs.Slots.{IsNumbered, slot_number};
-    ghost use Rattle.dl_look.specs.Ledgers.{IsSound, answer_upto, entry_at};
+    ghost use Rattle.dl_look.specs.Ledgers.{IsSound, AreSealed, answer_upto, answered_at, entry_at};
+    ghost use Rattle.dl_look.specs.declared.slots.Slot.{Slot};
 
     /// No answer yet.
     pub fn build(alloc: Global, slots: &[Slot]) -> Result<Ledger, NoMemory>
         ensures sound { IfOk result (λ ledger. IsSound slots.now ledger) }
         ensures none { IfOk result (λ ledger. (i : ℕ) → entry_at ledger i ≡ None) }
         ensures empty { IfOk result (λ ledger. ledger.log.items ≡ []) }
+        ensures unsealed { IfOk result (λ ledger. (j : ℕ) → is_sealed ledger.links.sealed.items j ≡ false) }
     {
         let links = Links::build(alloc, slots)?;
         let Ok(log) = Vec::with_capacity(alloc, slots.len()) else {
+            return Err(NoMemory);
+        };
+        let Ok(log_slots) = Vec::with_capacity(alloc, slots.len()) else {
             return Err(NoMemory);
         };
         Ok(Ledger {
             links,
             entries: no_entries(alloc, slots.len())?,
             log,
+            log_slots,
         })
     }
 
@@ -87,6 +96,7 @@ impl Ledger {
         ensures before { (limit i : ℕ) → limit ≤ length self.old.log.items
             → answer_upto limit self.new i ≡ answer_upto limit self.old i }
         ensures grown { length self.old.log.items ≤ length self.new.log.items }
+        ensures sealed { self.new.links.sealed.items ≡ self.old.links.sealed.items }
     {
         let mut at = self.links.first_open(low);
         while at < high {
@@ -111,11 +121,50 @@ impl Ledger {
         ensures before { (limit i : ℕ) → limit ≤ length self.old.log.items
             → answer_upto limit self.new i ≡ answer_upto limit self.old i }
         ensures grown { length self.new.log.items ≡ length self.old.log.items + 1 }
+        ensures sealed { self.new.links.sealed.items ≡ self.old.links.sealed.items }
     {
         let number = slots[at].number;
         self.entries[number] = Some(self.log.len());
         self.log.push_reserved(Answered { number, row: *row });
+        self.log_slots.push_reserved(at);
         self.links.close(at);
+    }
+
+    /// All answers are there to stay, as the first `whole` were before.
+    pub fn seal(&mut self, whole: usize)
+        requires linked { IsLinked self.old.links }
+        requires within { whole ≤ length self.old.log_slots.items }
+        requires closed { AreClosed self.old.links (drop whole self.old.log_slots.items) }
+        ensures sound { (slots : List Slot) → IsSound slots self.old → IsSound slots self.new }
+        ensures sealed { (slots : List Slot) → IsSound slots self.old
+            → AreSealed slots (length self.new.log.items) self.new }
+        ensures answers { (limit i : ℕ) → answer_upto limit self.new i ≡ answer_upto limit self.old i }
+        ensures log { self.new.log.items ≡ self.old.log.items }
+    {
+        self.links.seal(&self.log_slots[whole..]);
+    }
+
+    /// Takes back the answers but for the first `whole`.
+    pub fn forget(&mut self, whole: usize)
+        requires linked { IsLinked self.old.links }
+        requires within { whole ≤ length self.old.log.items }
+        requires closed { AreClosed self.old.links (drop whole self.old.log_slots.items) }
+        requires slots { length self.old.log_slots.items ≡ length self.old.log.items }
+        requires logged { (i e : ℕ) → entry_at self.old i ≡ Some e
+            → (e < length self.old.log.items) × ((answered_at self.old e).number ≡ i) }
+        requires kept { (e : ℕ) → e < length self.old.log.items
+            → entry_at self.old (answered_at self.old e).number ≡ Some e }
+        ensures sound { (slots : List Slot) → IsNumbered slots → AreSealed slots whole self.old
+            → IsSound slots self.old → IsSound slots self.new }
+        ensures sealed { self.new.links.sealed.items ≡ self.old.links.sealed.items }
+        ensures before { (limit i : ℕ) → limit ≤ whole
+            → answer_upto limit self.new i ≡ answer_upto limit self.old i }
+        ensures count { length self.new.log.items ≡ whole }
+    {
+        self.links.reopen(&self.log_slots[whole..]);
+        clear_entries(&mut self.entries, self.log.as_slice(), whole);
+        self.log.truncate(whole);
+        self.log_slots.truncate(whole);
     }
 }
 
@@ -130,4 +179,23 @@ pub(crate) fn no_entries(alloc: Global, count: usize) -> Result<Vec<Option<usize
         entries.push_reserved(None);
     }
     Ok(entries)
+}
+
+/// The places whose answers come after the first `whole` have no entry any more.
+fn clear_entries(entries: &mut Vec<Option<usize>>, log: &[Answered], whole: usize)
+    requires within { whole ≤ length log.now }
+    requires logged { (i e : ℕ) → slice_index_or entries.old.items i None ≡ Some e
+        → (e < length log.now) × ((slice_index_or log.now e no_answer).number ≡ i) }
+    requires kept { (e : ℕ) → e < length log.now
+        → slice_index_or entries.old.items (slice_index_or log.now e no_answer).number None ≡ Some e }
+    ensures count { length entries.new.items ≡ length entries.old.items }
+    ensures left { (i e : ℕ) → slice_index_or entries.new.items i None ≡ Some e
+        → (slice_index_or entries.old.items i None ≡ Some e) × (e < whole) }
+    ensures stays { (i e : ℕ) → slice_index_or entries.old.items i None ≡ Some e → e < whole
+        → slice_index_or entries.new.items i None ≡ Some e }
+    ensures room { whole + unanswered entries.new.items ≡ length log.now + unanswered entries.old.items }
+{
+    for answered in &log[whole..] {
+        entries[answered.number] = None;
+    }
 }

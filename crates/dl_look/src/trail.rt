@@ -61,6 +61,7 @@ pub fn settle(trail: &[Stretch], end: usize, slots: &[Slot], ledger: &mut Ledger
     ensures before { (limit i : ℕ) → limit ≤ length ledger.old.log.items
         → answer_upto limit ledger.new i ≡ answer_upto limit ledger.old i }
     ensures grown { length ledger.old.log.items ≤ length ledger.new.log.items }
+    ensures sealed { ledger.new.links.sealed.items ≡ ledger.old.links.sealed.items }
 {
     for (i, stretch) in trail.iter().enumerate() {
         let high = if i + 1 < trail.len() {

@@ -56,6 +56,10 @@ module _ (start now : Option (List ℕ)) (text more : List ℕ) where
     rest = drop-append-le out text more h.first.within ∙ ap (λ l. l ++ more) h.rest;
   }
 
+  pub HasPrinted-held : (old new : Printed) → HasPrinted start now text old → new.pending ≡ old.pending ++ more
+      → new.out ≡ old.out → HasPrinted start now (text ++ more) new
+  HasPrinted-held old new h pending out = rw (pending, out) (HasPrinted-more old.out old.pending h)
+
   pub TellsOut-more : (f : WriteFault) → TellsOut start now text f → TellsOut start now (text ++ more) f
   TellsOut-more f t = (let below = t.0 in omega (arith, length-append text more), HasOut-more f.out t.1)
 

@@ -65,11 +65,19 @@ open_line = line (codes "open")
 abbrev pub missing_line : ℕ → List ℕ
 missing_line file = line (codes "file " ++ decimal file ++ codes " missing")
 
-abbrev pub summary_line : Summary → List ℕ
-summary_line s =
-    line (codes "units " ++ decimal s.units ++ codes " skipped " ++ decimal s.skipped ++ codes " sequences "
+-- how many units, sequences and rows there are
+abbrev pub counts_text : Summary → List ℕ
+counts_text s =
+    codes "units " ++ decimal s.units ++ codes " skipped " ++ decimal s.skipped ++ codes " sequences "
     ++ decimal s.sequences
-    ++ codes " rows " ++ decimal s.rows)
+    ++ codes " rows " ++ decimal s.rows
+
+abbrev pub summary_line : Summary → List ℕ
+summary_line s = line (counts_text s)
+
+-- with how many units are damaged
+abbrev pub survey_line : Summary → (damaged : ℕ) → List ℕ
+survey_line s damaged = line (counts_text s ++ codes " damaged " ++ decimal damaged)
 
 -- ---- what is said of a section at fault
 

@@ -12,7 +12,7 @@ use Rattle.dl_head.specs.declared.reader.HeadStep.{HeadStep}
 use Rattle.dl_head.specs.declared.reader.HeadStep.TheVariants as answer
 use Rattle.dl_head.specs.Cells.{cells}
 use Rattle.dl_field.specs.HeaderData.{HeaderData}
-use Rattle.dl_head.specs.Header.{IsHeader, foreign_in, header_in}
+use Rattle.dl_head.specs.Header.{IsHeader, foreign_in, header_in, unit_len}
 use Rattle.dl_head.specs.Refusal.{HeaderRefused}
 use Rattle.dl_head.specs.Reading.{Answers, Gives}
 use Rattle.dl_head.specs.Runs.{so_far, Took, Offered}
@@ -227,10 +227,11 @@ module _ {dialect : Dialect} {old new : HeadReader} {b piece : List ℕ} {used :
         }
 
     pub stopped_head : (stop : HeaderStop) → stop.fault ≡ f → stop.taken ≡ length w
-        → stop.cells ≡ min (cells dialect w) (2 ^ 64 - 1) → StoppedInHeader dialect stop w
-    stopped_head stop fault taken held = record {
+        → stop.unit_len ≡ unit_len dialect w → stop.cells ≡ min (cells dialect w) (2 ^ 64 - 1) → StoppedInHeader dialect stop w
+    stopped_head stop fault taken len held = record {
       refused = rw fault fails_head.refused;
       taken = taken;
+      len = len;
       in_unit = in_unit;
       incomplete = incomplete_at no_header_here;
       cells = held;

@@ -68,7 +68,7 @@ module _ (dialect : Dialect) (b : List ℕ) where
   within_here (state.StoppedInHeader stop) s = s.in_unit
   within_here (state.Foreign bytes) s = counts_within s.1.counts
   within_here (state.AfterHeader h (body.InProgram t)) s = counts_within s.counts
-  within_here (state.AfterHeader h (body.Stopped stop)) s = s.in_unit
+  within_here (state.AfterHeader h (body.Stopped stop)) s = counts_within s.counts
 
 -- the cells that a reader of the header holds
 pub cells_at : (dialect : Dialect) (head : HeadReader) (b : List ℕ) (n : ℕ) → head.dialect ≡ dialect

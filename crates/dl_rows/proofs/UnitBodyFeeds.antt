@@ -206,14 +206,13 @@ fails_with : {dialect : Dialect} {h : HeaderData} {t new : UnitBody} {b piece u 
 fails_with {dialect} {h} {t} {new} {b} {piece} {u} {used} is rows taken counted grown is_open answer_is refused =
     let counts = counts_on u is.counts taken.few counted in
     let stops : Stops dialect new (b ++ u) = record {
-      taken = counts.taken;
-      in_unit = counts_within counts;
+      counts = counts;
       in_sequence = rw (rows_at (later is.at u)) is_open;
     } in (
       used,
       record {
         within = taken.within;
-        in_unit = rw taken.is stops.in_unit;
+        in_unit = rw taken.is (counts_within counts);
         refused = rw (taken.is, answer_is) refused;
         no_event = rw taken.is (events_more is.at u rows grown);
       },
@@ -290,7 +289,7 @@ module _ {S : Type 0} {story : Story S} {dialect : Dialect} {h : HeaderData} {b 
 
   -- the first answer of a fault
   pub tells_fault : {old new : UnitBody} {fault : Fault} {stop : BodyStop} → InProgram dialect h old b
-      → stop ≡ record { fault = fault; taken = new.bytes.taken; in_sequence = new.program.in_sequence }
+      → stop ≡ record { fault = fault; bytes = new.bytes; in_sequence = new.program.in_sequence }
       → ProgramTells story dialect h b piece before (Err fault) new sink
       → BodyTells story dialect h b piece before (Err fault) (body.Stopped stop) sink
   tells_fault is made t = rw made (record {
@@ -300,8 +299,7 @@ module _ {S : Type 0} {story : Story S} {dialect : Dialect} {h : HeaderData} {b 
       t.fed.1,
       record {
         refused = t.fed.1.refused;
-        taken = t.fed.2.taken;
-        in_unit = t.fed.2.in_unit;
+        counts = t.fed.2.counts;
         in_sequence = t.fed.2.in_sequence;
         at = later is.at (take t.fed.0 piece);
       },
@@ -316,7 +314,7 @@ module _ {S : Type 0} {story : Story S} {dialect : Dialect} {h : HeaderData} {b 
     rows = [];
     fed = (
       0,
-      rw (append-nil (events dialect b)) (fails_again dialect b piece stop.fault is.in_unit is.refused),
+      rw (append-nil (events dialect b)) (fails_again dialect b piece stop.fault (counts_within is.counts) is.refused),
       rw append-nil is,
     );
     sink = rw append-nil hears;

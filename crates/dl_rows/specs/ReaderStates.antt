@@ -30,6 +30,7 @@ pub record InHeader (dialect : Dialect) (head : HeadReader) (b : List ℕ) : Typ
 pub record StoppedInHeader (dialect : Dialect) (stop : HeaderStop) (b : List ℕ) : Type 0 where
   pub refused : Refused dialect b stop.fault.offset stop.fault.kind
   pub taken : stop.taken ≡ length b
+  pub len : stop.unit_len ≡ unit_len dialect b
   pub in_unit : WithinUnit dialect b
   pub incomplete : header_in dialect b ≡ None
   pub cells : stop.cells ≡ min (cells dialect b) (2 ^ 64 - 1)

@@ -63,6 +63,8 @@ struct HeaderStop {
     fault: Fault,
     /// How many bytes of the unit were taken.
     taken: u64,
+    /// How many it has, where its initial length is good.
+    unit_len: Option<u64>,
     /// The cells of these bytes; 2^64 - 1 where there are more.
     cells: u64,
 }
@@ -193,6 +195,19 @@ impl Reader {
         }
     }
 
+    /// How many bytes the unit has, its initial length included: what that says, once it is read. None where it isn't
+    /// good. After a fault it is still known. Section 7.4.
+    pub fn unit_len(&self) -> Option<u64>
+        ensures { (b : List ℕ) → StandsFor self.now b → result ≡ unit_len self.now.dialect b }
+    {
+        match &self.state {
+            State::InHeader(head) => head.unit_len(),
+            State::StoppedInHeader(stop) => stop.unit_len,
+            State::Foreign(bytes) => Some(bytes.unit_len()),
+            State::AfterHeader(_, body) => Some(body.unit_len()),
+        }
+    }
+
     /// How many pairs, values, and bytes of texts and blocks the header holds; 2^64 - 1 where there
     /// are more.
     pub fn cells(&self) -> u64
@@ -259,6 +274,7 @@ impl Reader {
                 self.state = State::StoppedInHeader(HeaderStop {
                     fault,
                     taken: head.taken(),
+                    unit_len: head.unit_len(),
                     cells: head.cells(),
                 });
                 return Err(fault);

@@ -1,8 +1,9 @@
 //! A unit after its header, or after a version that isn't 5. Section 6.2.4.
 
-ghost use Rattle.std.specs.Prelude.{◌≡◌, ◌≢◌, ◌≤◌, ◌+◌, ◌-◌, ◌^◌, ◌⊎◌, ℕ, List, Ok, Err, length, min, take, IfOk};
+ghost use Rattle.std.specs.Prelude.{◌≡◌, ◌≢◌, ◌≤◌, ◌+◌, ◌-◌, ◌^◌, ◌⊎◌, ℕ, List, Ok, Err, Some, length, min, take, IfOk};
 ghost use Rattle.dl_field.specs.Usable.{IsUsable};
 ghost use Rattle.dl_field.specs.HeaderData.{HeaderData};
+ghost use Rattle.dl_head.specs.Header.{unit_len};
 ghost use Rattle.dl_rows.specs.Reading.{IsPause};
 
 use crate::program::{Program, ProgramStep};
@@ -28,8 +29,7 @@ pub struct UnitBody {
 #[derive(Clone, Copy)]
 pub struct BodyStop {
     pub fault: Fault,
-    /// How many bytes of the unit were taken.
-    pub taken: u64,
+    pub bytes: UnitBytes,
     pub in_sequence: bool,
 }
 
@@ -42,7 +42,7 @@ pub enum BodyState {
 
 impl UnitBytes {
     ghost use Rattle.dl_rows.specs.Reading.{Feeds};
-    ghost use Rattle.dl_rows.specs.UnitBodies.{InForeign, paused};
+    ghost use Rattle.dl_rows.specs.UnitBodies.{Counts, InForeign, paused};
     ghost use Rattle.dl_rows.specs.declared.reader.Finish.TheVariants as finish;
     ghost use Rattle.dl_table.specs.declared.fault.FaultKind.TheVariants as kind;
 
@@ -86,6 +86,13 @@ impl UnitBytes {
         let ends = is_whole && (used == 0 || used < piece.len());
         let event = if ends { Event::End } else { Event::More };
         Fed { used, event }
+    }
+
+    /// How many bytes the unit has.
+    pub fn unit_len(&self) -> u64
+        ensures { (dialect : Dialect) (b : List ℕ) → Counts dialect self.now b → unit_len dialect b ≡ Some result }
+    {
+        self.taken.saturating_add(self.left)
     }
 
     fn count(&mut self, used: usize)
@@ -146,14 +153,14 @@ impl UnitBody {
     fn stop(&self, fault: Fault) -> BodyStop
         ensures { result ≡ record {
           fault = fault;
-          taken = self.now.bytes.taken;
+          bytes = self.now.bytes;
           in_sequence =
               self.now.program.in_sequence;
         } }
     {
         BodyStop {
             fault,
-            taken: self.bytes.taken,
+            bytes: self.bytes,
             in_sequence: self.program.in_sequence(),
         }
     }
@@ -218,7 +225,18 @@ impl BodyState {
     {
         match self {
             BodyState::InProgram(body) => body.bytes.taken,
-            BodyState::Stopped(stop) => stop.taken,
+            BodyState::Stopped(stop) => stop.bytes.taken,
+        }
+    }
+
+    /// How many bytes the unit has.
+    pub fn unit_len(&self) -> u64
+        ensures { (dialect : Dialect) (h : HeaderData) (b : List ℕ) → BodyStands dialect h self.now b
+            → unit_len dialect b ≡ Some result }
+    {
+        match self {
+            BodyState::InProgram(body) => body.bytes.unit_len(),
+            BodyState::Stopped(stop) => stop.bytes.unit_len(),
         }
     }
 

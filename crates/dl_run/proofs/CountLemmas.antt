@@ -5,6 +5,7 @@ use Rattle.dl_run.proofs.Names.{false, Fed, FeedsAfter, is_foreign, length, leng
 use Rattle.dl_run.proofs.Names.{refl, Row, row_told, rows_told, SectionUnits, sym, take, told, true, UnitsAre, ℕ}
 use Rattle.dl_run.proofs.Names.event
 use Rattle.dl_rows.specs.ReaderStands.{StandsFor}
+use Rattle.dl_run.specs.UnitsRead.{Before}
 use Rattle.dl_run.proofs.EventLemmas.{rows_told-append, rows_told-rows, none_told, no_version}
 use Rattle.dl_run.proofs.ToldLemmas.{ends-append}
 use Rattle.dl_run.proofs.SectionLemmas.{few_told}
@@ -32,8 +33,8 @@ module _ (u : SectionUnits) where
   same_but (event.Foreign version) = refl
   same_but e = refl
 
-module _ (dialect : Dialect) (u : SectionUnits) (t piece : List ℕ) (units : List (List ℕ)) (b : List ℕ)
-    (are : UnitsAre dialect u t units b) (v : SectionUnits) (own : v.reader.dialect ≡ dialect)
+module _ (dialect : Dialect) (past : Before dialect) (u : SectionUnits) (t piece : List ℕ) (units : List (List ℕ))
+    (b : List ℕ) (are : UnitsAre past u t units b) (v : SectionUnits) (own : v.reader.dialect ≡ dialect)
     (short : length t + length piece < 2 ^ 64) where
   -- the reader took bytes and told rows, and then an event that is none; v: with the rows' counts
   pub more_read : (rows : List Row) (fed : Fed) → v ≡ record u {
@@ -43,7 +44,7 @@ module _ (dialect : Dialect) (u : SectionUnits) (t piece : List ℕ) (units : Li
         v.rows;
   } → Counted u.rows u.sequences v.rows v.sequences rows → row_told fed.event ≡ []
       → FeedsAfter StandsFor dialect (events dialect b ++ map event.Row rows) b piece fed v.reader
-      → UnitsAre dialect (counted fed.event v) (t ++ take fed.used piece) units (b ++ take fed.used piece)
+      → UnitsAre past (counted fed.event v) (t ++ take fed.used piece) units (b ++ take fed.used piece)
   more_read rows fed same counts none f =
       let x = take fed.used piece in
       let c = b ++ x in

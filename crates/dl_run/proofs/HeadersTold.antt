@@ -1,8 +1,10 @@
 -- The header that visits tell of the current unit.
-use Rattle.dl_run.proofs.Names.{◌++◌, ◌+◌, ◌∙◌, ◌∷◌, ◌≡◌, ◌⊎◌, [], Bool, concat, Dialect, end_visits, ends_open}
+use Rattle.dl_run.proofs.Names.{◌++◌, ◌+◌, ◌∙◌, ◌∷◌, ◌≡◌, ◌⊎◌, [], Bool, Dialect, end_visits, ends_open}
 use Rattle.dl_run.proofs.Names.{false, foreign_no_header, header_of, header_told, HeaderData, inl, inr, length, List}
-use Rattle.dl_run.proofs.Names.{map, None, of_end, of_header, of_row, open_visit, Option, refl, Row, section_visits}
+use Rattle.dl_run.proofs.Names.{map, None, of_end, of_header, of_row, open_visit, Option, refl, Row}
 use Rattle.dl_run.proofs.Names.{Some, true, unit_rows, unit_visits, units_visits, Visit, visits, ℕ}
+use Rattle.dl_run.specs.Section.{of_damage}
+use Rattle.dl_run.specs.UnitsRead.{Before, end_of, visits_since}
 use Rattle.dl_run.proofs.CopyingVisits.{Foreign, Own, Neither, one_of, foreign_visits, own_visits, no_visits}
 use Rattle.dl_run.proofs.CopyingVisits.{header_is}
 
@@ -12,6 +14,7 @@ pub header_told-append : (h : Option HeaderData) (a b : List Visit)
 header_told-append h [] b = refl
 header_told-append h (of_header n g ∷ a) b = header_told-append (Some g) a b
 header_told-append h (of_end g ∷ a) b = header_told-append None a b
+header_told-append h (of_damage n kind ∷ a) b = header_told-append None a b
 header_told-append h (v ∷ a) b = header_told-append h a b
 
 of_open_none : (h : Option HeaderData) (is_open : Bool) → header_told h (open_visit is_open) ≡ h
@@ -30,7 +33,7 @@ rows_tell_none h (r ∷ rows) = rows_tell_none h rows
 
 module _ (dialect : Dialect) where
   -- at the end of a unit none is told
-  none_at_end : (n : ℕ) (u : List ℕ) → header_told None (unit_visits dialect n u) ≡ None
+  pub none_at_end : (n : ℕ) (u : List ℕ) → header_told None (unit_visits dialect n u) ≡ None
   none_at_end n u =
       header_told-append None (visits dialect n u) (end_visits dialect u)
       ∙ header_told-append (header_told None (visits dialect n u)) (open_visit (ends_open (unit_rows dialect u)))
@@ -53,9 +56,14 @@ module _ (dialect : Dialect) where
   by_kind n b (inr (inr none)) = rw (no_visits dialect n b none, none.1) refl
 
   -- that of the bytes after the units
-  pub header_of_section : (units : List (List ℕ)) (b : List ℕ)
-      → header_told None (section_visits dialect units b) ≡ header_of dialect b
-  header_of_section units b =
-      let n = length (concat units) in
-      rw (header_told-append None (units_visits dialect 0 units) (visits dialect n b), none_of_units 0 units)
-      (by_kind n b (one_of dialect n b))
+  pub header_since : (past : Before dialect) (units : List (List ℕ)) (b : List ℕ)
+      → header_told None (visits_since past units b) ≡ header_of dialect b
+  header_since past units b =
+      let n = end_of past units in
+      let told = units_visits dialect (length past.bytes) units in
+      rw (
+        header_told-append None past.visits (told ++ visits dialect n b),
+        past.closed,
+        header_told-append None told (visits dialect n b),
+        none_of_units (length past.bytes) units,
+      ) (by_kind n b (one_of dialect n b))

@@ -3,7 +3,15 @@ pub mod OutLemmas
 pub mod EventLemmas
 pub mod Fronts
 pub mod SectionLemmas
+pub mod BlockLemmas
+pub mod DamageLemmas
+pub mod AroundLemmas
+pub mod AroundSteps
+pub mod DamagedRuns
+pub mod AroundReads
+pub mod AroundPieces
 pub mod SectionCuts
+pub mod AroundLaws
 pub mod VisitsGrowth
 pub mod OneAnswers
 pub mod SectionGrowth

@@ -16,13 +16,14 @@ use Rattle.dl_print.specs.declared.summary.Summary.{Summary}
 use Rattle.dl_run.specs.Section.{HasUnits, HasBegun, NoUnitBegins, EndsAs, section_visits}
 use Rattle.dl_run.specs.Visiting.{Story, VisitorStops, Settled, Ran}
 use Rattle.dl_run.specs.UnitsRead.{UnitsAre, ReaderStops, Worked, Finishes}
+use Rattle.dl_run.proofs.SectionLemmas.{nothing_before}
 
 -- the visitor was told of t
 pub record ToldOf {S : Type 0} (story : Story S) (dialect : Dialect) (t : List ℕ) (first new : S)
     (start now : Option (List ℕ)) (u : SectionUnits) : Type 0 where
   pub units : List (List ℕ)
   pub b : List ℕ
-  pub are : UnitsAre dialect u t units b
+  pub are : UnitsAre (nothing_before dialect) u t units b
   pub none : NoUnitBegins dialect b
   pub sound : Sound dialect b
   pub settled : Settled story first start now (section_visits dialect units b) (story.tells first new start now)
@@ -74,8 +75,8 @@ module _ {S : Type 0} (story : Story S) (dialect : Dialect) (limit : ℕ) (old i
     whole_within = take_all limit so.t (omega (arith, so.within))
 
     ended : IsAtEnd input2 → ToldOf story dialect so.t first new start now u → (result : Result Summary RunFault)
-        → ((units : List (List ℕ)) (b : List ℕ) → UnitsAre dialect u so.t units b → NoUnitBegins dialect b
-        → Sound dialect b → Finishes dialect so.t units b result)
+        → ((units : List (List ℕ)) (b : List ℕ) → UnitsAre (nothing_before dialect) u so.t units b → NoUnitBegins dialect b
+        → Sound dialect b → Finishes (nothing_before dialect) so.t units b result)
         → Ran story dialect limit so.t input2 first new start now result
     ended at_end told (Ok summary) finish =
         let f = finish told.units told.b told.are told.none told.sound in
@@ -110,8 +111,8 @@ module _ {S : Type 0} (story : Story S) (dialect : Dialect) (limit : ℕ) (old i
         )
 
     pub at_end : piece ≡ [] → IsAtEnd input2 → (result : Result Summary RunFault)
-        → ((units : List (List ℕ)) (b : List ℕ) → UnitsAre dialect u so.t units b → NoUnitBegins dialect b
-        → Sound dialect b → Finishes dialect so.t units b result)
+        → ((units : List (List ℕ)) (b : List ℕ) → UnitsAre (nothing_before dialect) u so.t units b → NoUnitBegins dialect b
+        → Sound dialect b → Finishes (nothing_before dialect) so.t units b result)
         → Owed input2 new now result
     at_end none over result finish =
         (so.t, nothing_read none, λ tells out. ended over (so.told tells out) result finish)
@@ -133,7 +134,7 @@ module _ {S : Type 0} (story : Story S) (dialect : Dialect) (limit : ℕ) (old i
       Stop f =
           (units : List (List ℕ)) × (b : List ℕ) × (back : List ℕ)
           × HasBegun dialect (so.t ++ take left piece) units b back
-          × ((ReaderStops dialect units b back f
+          × ((ReaderStops (nothing_before dialect) u2 units b back f
           × Settled story first start now2 (section_visits dialect units b) (story.tells first new2 start now2))
           ⊎ (Sound dialect b × VisitorStops story first new2 start now2 (section_visits dialect units b) f))
 
@@ -146,14 +147,14 @@ module _ {S : Type 0} (story : Story S) (dialect : Dialect) (limit : ℕ) (old i
 
       stopping : (f : RunFault)
           → ((units : List (List ℕ)) (b back : List ℕ) → HasBegun dialect (take limit (so.t ++ piece)) units b back
-          → ReaderStops dialect units b back f
+          → ReaderStops (nothing_before dialect) u2 units b back f
           → EndsAs dialect limit (so.t ++ piece) input2 units b back (Err f)) → Stop f → Stopping f
       stopping f ends (units, b, back, has, inl (stops, settled)) =
           (units, b, back, inl (ends units b back (begun_cut units b back has) stops, settled))
       stopping f ends (units, b, back, has, inr (sound, stops)) =
           (units, b, back, inr (begun_cut units b back has, sound, stops))
 
-      stopped : (f : RunFault) → Worked story dialect (so.t ++ take left piece) first new2 start now2 u2 (Err f)
+      stopped : (f : RunFault) → Worked story (nothing_before dialect) (so.t ++ take left piece) first new2 start now2 u2 (Err f)
           → Ran story dialect limit (so.t ++ piece) input2 first new2 start now2 (Err f)
       stopped (fault.Write out) (units, b, back, has, writes) = (units, b, back, begun_cut units b back has, writes)
       stopped (fault.Damage offset kind) w =
@@ -173,7 +174,7 @@ module _ {S : Type 0} (story : Story S) (dialect : Dialect) (limit : ℕ) (old i
       abbrev pub Works : List ℕ → Result Flow RunFault → Type 0
       Works known answer =
           ToldOf story dialect so.t first new start now u
-          → Worked story dialect (so.t ++ known) first new2 start now2 u2 answer
+          → Worked story (nothing_before dialect) (so.t ++ known) first new2 start now2 u2 answer
 
       works_cut : (known : List ℕ) (answer : Result Flow RunFault) → known ≡ take left piece → Works known answer
           → Works (take left piece) answer
@@ -190,7 +191,7 @@ module _ {S : Type 0} (story : Story S) (dialect : Dialect) (limit : ℕ) (old i
         so.t ++ piece,
         all_read,
         λ tells out.
-            let done = subst (λ (m : Flow). Worked story dialect (so.t ++ take left piece) first new2 start now2 u2
+            let done = subst (λ (m : Flow). Worked story (nothing_before dialect) (so.t ++ take left piece) first new2 start now2 u2
             (Ok m))
             nothing (works_cut known (Ok n) is w (so.told tells out)) in
             inr (done.0, done.1, has_cut done.0 done.1 done.2, done.3, done.5),
@@ -202,7 +203,7 @@ module _ {S : Type 0} (story : Story S) (dialect : Dialect) (limit : ℕ) (old i
         so.t ++ piece,
         all_read,
         λ tells out.
-            let r = subst (λ (m : Flow). Worked story dialect (so.t ++ take left piece) first new2 start now2 u2 (Ok m))
+            let r = subst (λ (m : Flow). Worked story (nothing_before dialect) (so.t ++ take left piece) first new2 start now2 u2 (Ok m))
             unit (works_cut known (Ok n) is w (so.told tells out)) in (
               r.0,
               r.1,
@@ -227,12 +228,12 @@ module _ {S : Type 0} (story : Story S) (dialect : Dialect) (limit : ℕ) (old i
         read = all_read;
         within = omega (arith, fits, so.within, length-append so.t piece);
         told = λ tells out.
-            let r = subst (λ (m : Flow). Worked story dialect (so.t ++ take left piece) first new2 start now2 u2 (Ok m))
+            let r = subst (λ (m : Flow). Worked story (nothing_before dialect) (so.t ++ take left piece) first new2 start now2 u2 (Ok m))
             unit (works_cut known (Ok n) is w (so.told tells out)) in
             record {
               units = r.0;
               b = r.1;
-              are = subst (λ (l : List ℕ). UnitsAre dialect u2 (so.t ++ l) r.0 r.1) (take_all left piece fits) r.2;
+              are = subst (λ (l : List ℕ). UnitsAre (nothing_before dialect) u2 (so.t ++ l) r.0 r.1) (take_all left piece fits) r.2;
               none = r.3;
               sound = r.4;
               settled = r.5;

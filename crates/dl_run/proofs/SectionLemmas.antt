@@ -7,6 +7,7 @@ use Rattle.dl_run.proofs.Names.{IsUnit, length, length-append, length_of_unit, L
 use Rattle.dl_run.proofs.Names.{NoUnitBegins, Option, refl, Refused, Row, row_for_program_byte, rows_told}
 use Rattle.dl_run.proofs.Names.{section_visits, Some, Sound, sum_by-append, sum_by-cons, summary_of, sym}
 use Rattle.dl_run.proofs.Names.{unit_is_not_refused, unit_len, unit_len_on, unit_rows, units_visits, ℕ}
+use Rattle.dl_run.specs.UnitsRead.{Before, end_of, visits_since}
 use Rattle.dl_run.proofs.EventLemmas.{rows_of_events}
 use Rattle.dl_run.proofs.Fronts.{all_front, all_middle, none_is_some}
 
@@ -57,6 +58,17 @@ pub section_visits-push : (dialect : Dialect) (units : List (List ℕ)) (b : Lis
     → section_visits dialect (units ++ b ∷ []) [] ≡ section_visits dialect units b ++ end_visits dialect b
 section_visits-push dialect units b =
     rw (append-nil, units_visits-append dialect 0 units (b ∷ []) (length (concat units)) (omega arith), append-nil)
+    (simp append_assoc)
+
+pub visits_since-push : {dialect : Dialect} (past : Before dialect) (units : List (List ℕ)) (b : List ℕ)
+    → visits_since past (units ++ b ∷ []) [] ≡ visits_since past units b ++ end_visits dialect b
+visits_since-push {dialect} past units b =
+    rw (
+      append-nil,
+      units_visits-append dialect (length past.bytes) units (b ∷ []) (end_of past units)
+          (length-append past.bytes (concat units)),
+      append-nil,
+    )
     (simp append_assoc)
 
 pub summary-push : (dialect : Dialect) (units : List (List ℕ)) (b : List ℕ)
@@ -159,6 +171,11 @@ few_of_all dialect (u ∷ units) =
     )
 
 -- ---- no bytes
+
+-- at the beginning of a section
+abbrev pub nothing_before : (dialect : Dialect) → Before dialect
+nothing_before dialect =
+    record { bytes = []; units = []; visits = []; each = tt {0}; fits = omega arith; closed = refl }
 
 pub none_begins : (dialect : Dialect) → NoUnitBegins dialect []
 none_begins dialect =

@@ -23,8 +23,9 @@ use Rattle.dl_run.specs.declared.in_memory.Telling.{Telling}
 use Rattle.dl_run.specs.declared.section.SectionUnits.{SectionUnits}
 use Rattle.dl_run.specs.InMemory.{Hears, ReadsSection, UnitStory, as_fault, read_of, units_told}
 use Rattle.dl_run.specs.Section.{EndsAs, HasBegun, HasUnits, NoUnitBegins, Visit, of_end, section_visits, summary_of}
-use Rattle.dl_run.specs.Telling.{Heard, IsDone, PassedOn, PassesOn, Tells, heard_after, nothing_heard, telling_story, with_visit}
+use Rattle.dl_run.specs.Telling.{Heard, PassedOn, PassesOn, Tells, heard_after, nothing_heard, telling_story, with_visit}
 use Rattle.dl_run.specs.UnitsRead.{Finishes, UnitsAre, Worked}
+use Rattle.dl_run.proofs.SectionLemmas.{nothing_before}
 use Rattle.dl_run.specs.Visiting.{GoesOn, Settled, VisitorStops}
 use Rattle.dl_run.proofs.TellingLemmas.{heard_after-append, section_heard}
 
@@ -80,16 +81,16 @@ module _ {U : Type 0} (story : UnitStory U) (dialect : Dialect) (s : List ℕ) (
   -- what the end of the bytes comes to
   abbrev Ends : Result Summary RunFault → Type 0
   Ends result =
-      (units : List (List ℕ)) (b : List ℕ) → UnitsAre dialect u s units b → NoUnitBegins dialect b → Sound dialect b
-      → Finishes dialect s units b result
+      (units : List (List ℕ)) (b : List ℕ) → UnitsAre (nothing_before dialect) u s units b → NoUnitBegins dialect b → Sound dialect b
+      → Finishes (nothing_before dialect) s units b result
 
   -- what the bytes came to, by the answer that is known
-  pub by_flow : {n m : Flow} → n ≡ m → Worked (telling_story story) dialect s first now start held u (Ok n)
-      → Worked (telling_story story) dialect s first now start held u (Ok m)
-  by_flow is w = subst (λ (f : Flow). Worked (telling_story story) dialect s first now start held u (Ok f)) is w
+  pub by_flow : {n m : Flow} → n ≡ m → Worked (telling_story story) (nothing_before dialect) s first now start held u (Ok n)
+      → Worked (telling_story story) (nothing_before dialect) s first now start held u (Ok m)
+  by_flow is w = subst (λ (f : Flow). Worked (telling_story story) (nothing_before dialect) s first now start held u (Ok f)) is w
 
   -- the bytes end with a unit
-  pub read_all : Worked (telling_story story) dialect s first now start held u (Ok flow.On) → (summary : Summary)
+  pub read_all : Worked (telling_story story) (nothing_before dialect) s first now start held u (Ok flow.On) → (summary : Summary)
       → Ends (Ok summary) → Reads (Ok (record { summary = summary; end = length s }))
   read_all (units, b, are, none, sound, settled) summary ends =
       let over = ends units b are none sound in
@@ -113,7 +114,7 @@ module _ {U : Type 0} (story : UnitStory U) (dialect : Dialect) (s : List ℕ) (
   all_taken = take_all (length s) s (omega arith)
 
   -- they end within one
-  pub cut_off : Worked (telling_story story) dialect s first now start held u (Ok flow.On) → (f : RunFault)
+  pub cut_off : Worked (telling_story story) (nothing_before dialect) s first now start held u (Ok flow.On) → (f : RunFault)
       → Ends (Err f) → (stop : SectionStop)
       → ((offset : ℕ) (kind : FaultKind) → f ≡ fault.Damage offset kind → as_fault stop ≡ f) → Reads (Err stop)
   cut_off (units, b, are, none, sound, settled) f ends stop is =
@@ -134,7 +135,7 @@ module _ {U : Type 0} (story : UnitStory U) (dialect : Dialect) (s : List ℕ) (
       }
 
   -- the sink wants nothing more
-  pub no_more : Worked (telling_story story) dialect s first now start held u (Ok flow.Stop)
+  pub no_more : Worked (telling_story story) (nothing_before dialect) s first now start held u (Ok flow.Stop)
       → Reads (Ok (record { summary = u.summary; end = u.offset }))
   no_more (units, back, has, summary, offset, settled) =
       let is = section_heard dialect (nothing_heard first) units [] refl refl has.each in record {
@@ -155,7 +156,7 @@ module _ {U : Type 0} (story : UnitStory U) (dialect : Dialect) (s : List ℕ) (
   pub stopped : (f : RunFault) (stop : SectionStop)
       → ((offset : ℕ) (kind : FaultKind) → f ≡ fault.Damage offset kind → as_fault stop ≡ f)
       → (f ≡ fault.NoMemory → as_fault stop ≡ f)
-      → Worked (telling_story story) dialect s first now start held u (Err f) → Reads (Err stop)
+      → Worked (telling_story story) (nothing_before dialect) s first now start held u (Err f) → Reads (Err stop)
   stopped (fault.Write out) stop damage want (units, b, back, has, (heard, more, whole, tells)) =
       absurd (let lt = tells.0 in omega (arith, lt))
   stopped (fault.Damage offset kind) stop damage want (units, b, back, has, inl (stops, settled)) = record {

@@ -1,9 +1,10 @@
 -- The reader of a section, after a unit.
 use Rattle.std.proofs.Common.{◌≡◌, ◌≢◌, inl, inr, Result, Ok, Err, ◌<◌, ℕ, ◌+◌, ◌^◌, Bool, not, false, List, [], ◌∷◌}
 use Rattle.std.proofs.Common.{◌++◌, length, Option, Some, None, arith, refl, sym, ap, ap₂, ◌∙◌, subst, append-nil}
-use Rattle.std.proofs.Common.{length-append}
+use Rattle.std.proofs.Common.{append_assoc, length-append}
+use Rattle.std.proofs.lemmas.List.Folds.{concat-append}
 use Rattle.std.specs.Prelude.{is_some, is_none, count_by, cond}
-use Rattle.std.specs.List.{concat}
+use Rattle.std.specs.List.{AllByRecursion, concat}
 use Rattle.dl_head.specs.declared.dialect.Dialect.{Dialect}
 use Rattle.std.specs.Option.{option_map}
 use Rattle.dl_head.specs.declared.fault.Fault.{Fault}
@@ -26,7 +27,7 @@ use Rattle.dl_run.specs.declared.section.SectionUnits.{SectionUnits}
 use Rattle.dl_print.specs.declared.summary.Summary.{Summary}
 use Rattle.dl_print.specs.Counts.{add, with_unit}
 use Rattle.dl_run.specs.Section.{HasUnits, NoUnitBegins, header_of, summary_of}
-use Rattle.dl_run.specs.UnitsRead.{UnitsAre}
+use Rattle.dl_run.specs.UnitsRead.{Before, CutsOff, UnitsAre, end_of}
 use Rattle.dl_run.proofs.EventLemmas.{rows_of_events, foreign_of_events}
 use Rattle.dl_run.proofs.SectionLemmas.{concat-push, has_push, summary-push, few_units, few_ends, few_of_all}
 
@@ -45,12 +46,19 @@ header_is r old None b same is stands =
     (subst (λ (q : Reader). header_in q.dialect b ≡ None) same
     (is b (subst (λ (q : Reader). StandsFor q b) (sym same) stands))))
 
+-- what is so of each of two lists is so of each of both
+pub all_both : {A : Type 0} (P : A → Type 0) (xs ys : List A) → AllByRecursion P xs → AllByRecursion P ys
+    → AllByRecursion P (xs ++ ys)
+all_both P [] ys a b = b
+all_both P (x ∷ xs) ys a b = (a.0, all_both P xs ys a.1 b)
+
 same_summary : {s t : Summary} → s.units ≡ t.units → s.skipped ≡ t.skipped → s.sequences ≡ t.sequences → s.rows ≡ t.rows
     → s ≡ t
 same_summary {s} {t} a b c d = rw (a, b, c, d) refl
 
-module _ (dialect : Dialect) (u : SectionUnits) (t : List ℕ) (units : List (List ℕ)) (b : List ℕ)
-    (are : UnitsAre dialect u t units b) (is : IsUnit dialect b) (short : length t < 2 ^ 64) where
+module _ (dialect : Dialect) (past : Before dialect) (u : SectionUnits) (t : List ℕ) (units : List (List ℕ)) (b : List ℕ)
+    (are : UnitsAre past u t units b) (is : IsUnit dialect b)
+    (short : length past.bytes + length t < 2 ^ 64) where
   own : Bool → ℕ
   own x = cond (not x) 1 0
 
@@ -71,20 +79,34 @@ module _ (dialect : Dialect) (u : SectionUnits) (t : List ℕ) (units : List (Li
   all : HasUnits dialect t (units ++ b ∷ []) []
   all = has_push dialect t units b are.has is
 
-  size : length (concat (units ++ b ∷ [])) < 2 ^ 64
+  abbrev all_whole : List (List ℕ)
+  all_whole = past.units ++ (units ++ b ∷ [])
+
+  size : length past.bytes + length (concat (units ++ b ∷ [])) < 2 ^ 64
   size = omega (arith, short, ap length all.whole, length-append (concat (units ++ b ∷ [])) [])
 
+  size_of_all : length (concat all_whole) < 2 ^ 64
+  size_of_all =
+      omega (
+        arith,
+        size,
+        past.fits,
+        ap length (concat-append past.units (units ++ b ∷ [])),
+        length-append (concat past.units) (concat (units ++ b ∷ [])),
+      )
+
   abbrev more : Summary
-  more = summary_of dialect (units ++ b ∷ [])
+  more = summary_of dialect all_whole
 
   pub summary_more : with_unit u.is_foreign u.sequences u.rows u.summary ≡ more
   summary_more =
-      let s = summary_of dialect units in
-      let pushed = summary-push dialect units b in
+      let s = summary_of dialect (past.units ++ units) in
+      let pushed = ap (summary_of dialect) (sym (append_assoc past.units units (b ∷ [])))
+      ∙ summary-push dialect (past.units ++ units) b in
       let of_unit = counts_of_unit (foreign_in dialect b) refl in
-      let few = few_units dialect (units ++ b ∷ []) all.each in
-      let ends = few_ends dialect (units ++ b ∷ []) in
-      let rows = few_of_all dialect (units ++ b ∷ []) in
+      let few = few_units dialect all_whole (all_both (IsUnit dialect) past.units (units ++ b ∷ []) past.each all.each) in
+      let ends = few_ends dialect all_whole in
+      let rows = few_of_all dialect all_whole in
       let units_are : more.units ≡ s.units + cond (not (is_some (foreign_in dialect b))) 1 0 =
       ap (λ (q : Summary). q.units) pushed ∙ ap (λ (n : ℕ). s.units + n) of_unit.0 in
       let skipped_are : more.skipped ≡ s.skipped + cond (is_some (foreign_in dialect b)) 1 0 =
@@ -97,29 +119,30 @@ module _ (dialect : Dialect) (u : SectionUnits) (t : List ℕ) (units : List (Li
       ∙ ap (λ (f : Bool). with_unit f u.sequences u.rows s) foreign_is
       ∙ ap₂ (λ (m n : ℕ). with_unit (is_some (foreign_in dialect b)) m n s) sequences_are rows_are
       ∙ same_summary
-      (exact s.units (cond (not (is_some (foreign_in dialect b))) 1 0) (omega (arith, few, size, units_are))
+      (exact s.units (cond (not (is_some (foreign_in dialect b))) 1 0) (omega (arith, few, size_of_all, units_are))
       ∙ sym units_are)
-      (exact s.skipped (cond (is_some (foreign_in dialect b)) 1 0) (omega (arith, few, size, skipped_are))
+      (exact s.skipped (cond (is_some (foreign_in dialect b)) 1 0) (omega (arith, few, size_of_all, skipped_are))
       ∙ sym skipped_are)
       (exact s.sequences (count_by (λ (r : Row). r.end_sequence) (unit_rows dialect b))
-      (omega (arith, ends, size, sequences_sum)) ∙ sym sequences_sum)
-      (exact s.rows (length (unit_rows dialect b)) (omega (arith, rows, size, rows_sum)) ∙ sym rows_sum)
+      (omega (arith, ends, size_of_all, sequences_sum)) ∙ sym sequences_sum)
+      (exact s.rows (length (unit_rows dialect b)) (omega (arith, rows, size_of_all, rows_sum)) ∙ sym rows_sum)
 
-  pub offset_more : add u.offset (length b) ≡ length (concat (units ++ b ∷ []))
+  pub offset_more : add u.offset (length b) ≡ end_of past (units ++ b ∷ [])
   offset_more =
-      exact u.offset (length b) (omega (
+      let sum : u.offset + length b ≡ end_of past (units ++ b ∷ []) = omega (
         arith,
         are.offset,
-        size,
         ap length (concat-push units b),
         length-append (concat units) b,
-      )) ∙ ap (λ (n : ℕ). n + length b) are.offset ∙ sym (length-append (concat units) b)
-      ∙ sym (ap length (concat-push units b))
+        length-append past.bytes (concat units),
+        length-append past.bytes (concat (units ++ b ∷ [])),
+      ) in
+      exact u.offset (length b) (omega (arith, sum, size, length-append past.bytes (concat (units ++ b ∷ [])))) ∙ sum
 
   -- after the unit
   pub left_after : (new : SectionUnits) → new.dialect ≡ dialect → StandsFor new.reader [] → new.reader.dialect ≡ dialect
       → new.offset ≡ add u.offset (length b) → new.is_foreign ≡ false → new.sequences ≡ 0 → new.rows ≡ 0
-      → new.summary ≡ with_unit u.is_foreign u.sequences u.rows u.summary → UnitsAre dialect new t (units ++ b ∷ []) []
+      → new.summary ≡ with_unit u.is_foreign u.sequences u.rows u.summary → UnitsAre past new t (units ++ b ∷ []) []
   left_after new own stands same offset foreign sequences rows summary = record {
     has = all;
     dialect_is = own;
@@ -134,8 +157,8 @@ module _ (dialect : Dialect) (u : SectionUnits) (t : List ℕ) (units : List (Li
 
 -- ---- where the bytes are over
 
-module _ (dialect : Dialect) (u : SectionUnits) (t : List ℕ) (units : List (List ℕ)) (b : List ℕ)
-    (are : UnitsAre dialect u t units b) (none : NoUnitBegins dialect b) (sound : Sound dialect b) where
+module _ (dialect : Dialect) (past : Before dialect) (u : SectionUnits) (t : List ℕ) (units : List (List ℕ)) (b : List ℕ)
+    (are : UnitsAre past u t units b) (none : NoUnitBegins dialect b) (sound : Sound dialect b) where
   finish_is : (result : Result Finish Fault)
       → ((c : List ℕ) → StandsFor u.reader c → FinishIs u.reader.dialect c result) → FinishIs dialect b result
   finish_is result is = subst (λ (d : Dialect). FinishIs d b result) are.reader_dialect (is b are.stands)
@@ -148,22 +171,40 @@ module _ (dialect : Dialect) (u : SectionUnits) (t : List ℕ) (units : List (Li
   cut_off f (inl refused) = absurd (sound b [] f.offset f.kind (sym (append-nil b)) refused)
   cut_off f (inr over) = (over.1, over.0)
 
-  pub ends_begun : (f : Fault) (g : RunFault)
-      → ((c : List ℕ) → StandsFor u.reader c → FinishIs u.reader.dialect c (Err f)) → length t < 2 ^ 64
-      → g ≡ fault.Damage (add u.offset f.offset) f.kind
-      → (b ≢ []) × (g ≡ fault.Damage (length t) Truncated)
-  ends_begun f g is short at =
+  -- where the bytes end within the unit
+  cut_place : (f : Fault) → ((c : List ℕ) → StandsFor u.reader c → FinishIs u.reader.dialect c (Err f))
+      → length past.bytes + length t < 2 ^ 64
+      → (b ≢ []) × (add u.offset f.offset ≡ length (past.bytes ++ t)) × (f.kind ≡ Truncated)
+  cut_place f is short =
       let over = cut_off f (finish_is (Err f) is) in
       let size = ap length are.has.whole ∙ length-append (concat units) b in
       let place : f.offset ≡ length b = ap (λ (q : Fault). q.offset) over.1 in
-      let sum : add u.offset f.offset ≡ length t =
-      exact u.offset f.offset (omega (arith, are.offset, place, size, short))
-      ∙ omega (arith, are.offset, place, size) in
-      (over.0, at ∙ ap₂ fault.Damage sum (ap (λ (q : Fault). q.kind) over.1))
+      let sum : u.offset + f.offset ≡ length (past.bytes ++ t) = omega (
+        arith,
+        are.offset,
+        place,
+        size,
+        length-append past.bytes (concat units),
+        length-append past.bytes t,
+      ) in
+      let sum = exact u.offset f.offset (omega (arith, sum, short, length-append past.bytes t)) ∙ sum in
+      (over.0, sum, ap (λ (q : Fault). q.kind) over.1)
+
+  pub ends_begun : (f : Fault) (g : RunFault)
+      → ((c : List ℕ) → StandsFor u.reader c → FinishIs u.reader.dialect c (Err f))
+      → length past.bytes + length t < 2 ^ 64 → g ≡ fault.Damage (add u.offset f.offset) f.kind
+      → (b ≢ []) × (g ≡ fault.Damage (length (past.bytes ++ t)) Truncated)
+  ends_begun f g is short at = let over = cut_place f is short in (over.0, at ∙ ap₂ fault.Damage over.1 over.2)
+
+  pub cuts_off : (f : Fault) (n : ℕ)
+      → ((c : List ℕ) → StandsFor u.reader c → FinishIs u.reader.dialect c (Err f))
+      → length past.bytes + length t < 2 ^ 64 → n ≡ add u.offset f.offset
+      → CutsOff past t b (Some (record { offset = n; kind = f.kind }))
+  cuts_off f n is short at = let over = cut_place f is short in (over.0, rw (at, over.1, over.2) refl)
 
 -- the current unit isn't over-read
-pub within_unit : (dialect : Dialect) (u : SectionUnits) (t : List ℕ) (units : List (List ℕ)) (b : List ℕ)
-    → UnitsAre dialect u t units b → WithinUnit dialect b
-within_unit dialect u t units b are =
+pub within_unit : {dialect : Dialect} (past : Before dialect) (u : SectionUnits) (t : List ℕ) (units : List (List ℕ))
+    (b : List ℕ) → UnitsAre past u t units b → WithinUnit dialect b
+within_unit past u t units b are =
     subst (λ (d : Dialect). WithinUnit d b) are.reader_dialect
     (within_here u.reader.dialect b u.reader.state are.stands)

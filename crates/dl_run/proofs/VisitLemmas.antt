@@ -2,6 +2,7 @@
 use Rattle.dl_run.proofs.Names.{◌++◌, ◌∷◌, ◌≡◌, [], append_assoc, Err, Flow, List, MatchResult, of_end, of_row, Ok}
 use Rattle.dl_run.proofs.Names.{Option, refl, Result, Row, RunFault, StopsIn, Story, Visit, visits, ℕ}
 use Rattle.dl_run.specs.RowsTold.{rows_after}
+use Rattle.dl_run.specs.Section.{of_damage}
 use Rattle.dl_run.specs.Visiting.{GoesOn}
 
 module _ {S : Type 0} (story : Story S) (first new : S) (start now : Option (List ℕ)) where
@@ -35,4 +36,5 @@ pub rows_after-append : (rows : List Row) (a b : List Visit)
 rows_after-append rows [] b = refl
 rows_after-append rows (of_row r ∷ a) b = rows_after-append (rows ++ r ∷ []) a b
 rows_after-append rows (of_end h ∷ a) b = rows_after-append [] a b
+rows_after-append rows (of_damage n kind ∷ a) b = rows_after-append [] a b
 rows_after-append rows (v ∷ a) b = rows_after-append rows a b

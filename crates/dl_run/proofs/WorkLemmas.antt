@@ -10,21 +10,21 @@ use Rattle.dl_rows.specs.declared.sink.Flow.{Flow}
 use Rattle.dl_rows.specs.declared.sink.Flow.TheVariants as flow
 use Rattle.dl_run.specs.declared.section.SectionUnits.{SectionUnits}
 use Rattle.dl_run.specs.RunOutput.{TellsOut}
-use Rattle.dl_run.specs.Section.{Visit, HasUnits, HasBegun, section_visits}
+use Rattle.dl_run.specs.Section.{Visit, HasUnits, HasBegun}
 use Rattle.dl_run.proofs.UnitsLemmas.{within_unit}
 use Rattle.dl_run.specs.Visiting.{Story, HasReason, GoesOn, Settled, VisitorStops}
-use Rattle.dl_run.specs.UnitsRead.{UnitsFed, ReaderStops, Worked, is_failed_write}
+use Rattle.dl_run.specs.UnitsRead.{Before, UnitsFed, ReaderStops, Worked, is_failed_write, visits_since}
 
 true_false : true ≡ false → ⊥
 true_false e = cc
 
-module _ {S : Type 0} (story : Story S) (dialect : Dialect) (s : List ℕ) (first mid new : S)
+module _ {S : Type 0} (story : Story S) (dialect : Dialect) (past : Before dialect) (s : List ℕ) (first mid new : S)
     (start before after : Option (List ℕ)) (u : SectionUnits) where
   -- a write failed while what some visits print went out
   lost : (units : List (List ℕ)) (b back : List ℕ) → HasBegun dialect s units b back → (heard more : List Visit)
-      → section_visits dialect units b ≡ heard ++ more
+      → visits_since past units b ≡ heard ++ more
       → (f : RunFault) → TellsOut start after (story.text first heard) f
-      → Worked story dialect s first new start after u (Err f)
+      → Worked story past s first new start after u (Err f)
   lost units b back has heard more is (fault.Write out) t = (units, b, back, has, (heard, more, is, t))
   lost units b back has heard more is (fault.Damage offset kind) t = absurd t
   lost units b back has heard more is fault.NoMemory t = absurd t
@@ -35,23 +35,23 @@ module _ {S : Type 0} (story : Story S) (dialect : Dialect) (s : List ℕ) (firs
   lost units b back has heard more is (fault.Emit unit f) t = absurd t
 
   lost_all : (units : List (List ℕ)) (b back : List ℕ) → HasBegun dialect s units b back → (f : RunFault)
-      → TellsOut start after (story.text first (section_visits dialect units b)) f
-      → Worked story dialect s first new start after u (Err f)
+      → TellsOut start after (story.text first (visits_since past units b)) f
+      → Worked story past s first new start after u (Err f)
   lost_all units b back has f t =
-      lost units b back has (section_visits dialect units b) [] (sym (append-nil (section_visits dialect units b))) f t
+      lost units b back has (visits_since past units b) [] (sym (append-nil (visits_since past units b))) f t
 
   -- why a piece isn't worked through
   abbrev Cause : RunFault → Type 0
   Cause f = (units : List (List ℕ)) × (b : List ℕ) × (back : List ℕ) × HasBegun dialect s units b back
-      × ((ReaderStops dialect units b back f × story.tells first mid start before (section_visits dialect units b))
-      ⊎ (Sound dialect b × (heard : List Visit) × (more : List Visit) × (section_visits dialect units b ≡ heard ++ more)
+      × ((ReaderStops past u units b back f × story.tells first mid start before (visits_since past units b))
+      ⊎ (Sound dialect b × (heard : List Visit) × (more : List Visit) × (visits_since past units b ≡ heard ++ more)
       × HasReason story first mid start before heard f))
 
   abbrev Stop : RunFault → Type 0
   Stop f = (units : List (List ℕ)) × (b : List ℕ) × (back : List ℕ) × HasBegun dialect s units b back
-      × ((ReaderStops dialect units b back f
-      × Settled story first start after (section_visits dialect units b) (story.tells first new start after))
-      ⊎ (Sound dialect b × VisitorStops story first new start after (section_visits dialect units b) f))
+      × ((ReaderStops past u units b back f
+      × Settled story first start after (visits_since past units b) (story.tells first new start after))
+      ⊎ (Sound dialect b × VisitorStops story first new start after (visits_since past units b) f))
 
   -- the visits up to the one at which there was a reason
   parted : (visits heard more before : List Visit) (visit : Visit) → visits ≡ heard ++ more
@@ -68,7 +68,7 @@ module _ {S : Type 0} (story : Story S) (dialect : Dialect) (s : List ℕ) (firs
 
     stopped : (f : RunFault) → Cause f → Stop f
     stopped f (units, b, back, has, inl (stops, tells)) =
-        (units, b, back, has, inl (stops, settled (section_visits dialect units b) tells))
+        (units, b, back, has, inl (stops, settled (visits_since past units b) tells))
     stopped f (units, b, back, has, inr (sound, heard, more, is, why)) =
         let out = settled why.0 why.3 in (
           units,
@@ -81,7 +81,7 @@ module _ {S : Type 0} (story : Story S) (dialect : Dialect) (s : List ℕ) (firs
               before = why.0;
               visit = why.1;
               more = more;
-              whole = parted (section_visits dialect units b) heard more why.0 why.1 is why.2;
+              whole = parted (visits_since past units b) heard more why.0 why.1 is why.2;
               tells = out.tells;
               reason = subst (λ (l : List Visit). story.refuses first l f) why.2 why.4;
               out = out.out;
@@ -90,12 +90,12 @@ module _ {S : Type 0} (story : Story S) (dialect : Dialect) (s : List ℕ) (firs
         )
 
     pub all_out : (answer : Result Flow RunFault) → is_failed_write answer ≡ false
-        → UnitsFed story dialect s first mid start before u answer
-        → Worked story dialect s first new start after u answer
+        → UnitsFed story past s first mid start before u answer
+        → Worked story past s first new start after u answer
     all_out (Ok flow.On) kept (units, b, are, none, sound, tells) =
-        (units, b, are, none, sound, settled (section_visits dialect units b) tells)
+        (units, b, are, none, sound, settled (visits_since past units b) tells)
     all_out (Ok flow.Stop) kept (units, back, has, summary, offset, done) =
-        let p = settles flow.Stop (section_visits dialect units []) done in
+        let p = settles flow.Stop (visits_since past units []) done in
         (units, back, has, summary, offset, record { tells = p.0; out = p.1 })
     all_out (Err (fault.Write out)) kept fed = absurd (true_false kept)
     all_out (Err (fault.Damage offset kind)) kept fed = stopped (fault.Damage offset kind) fed
@@ -109,29 +109,29 @@ module _ {S : Type 0} (story : Story S) (dialect : Dialect) (s : List ℕ) (firs
   module _ (f : RunFault)
       (fails : (n : Flow) (visits : List Visit) → GoesOn story first mid start before visits n
       → TellsOut start after (story.text first visits) f) where
-    lost_at : (g : RunFault) → Cause g → Worked story dialect s first new start after u (Err f)
+    lost_at : (g : RunFault) → Cause g → Worked story past s first new start after u (Err f)
     lost_at g (units, b, back, has, inl (stops, tells)) =
-        lost_all units b back has f (fails flow.On (section_visits dialect units b) tells)
+        lost_all units b back has f (fails flow.On (visits_since past units b) tells)
     lost_at g (units, b, back, has, inr (sound, heard, more, is, why)) =
         lost units b back has why.0 (why.1 ∷ more)
-        (parted (section_visits dialect units b) heard more why.0 why.1 is why.2) f (fails flow.On why.0 why.3)
+        (parted (visits_since past units b) heard more why.0 why.1 is why.2) f (fails flow.On why.0 why.3)
 
     pub not_out : (answer : Result Flow RunFault) → is_failed_write answer ≡ false
-        → UnitsFed story dialect s first mid start before u answer
-        → Worked story dialect s first new start after u (Err f)
+        → UnitsFed story past s first mid start before u answer
+        → Worked story past s first new start after u (Err f)
     not_out (Ok flow.On) kept (units, b, are, none, sound, tells) =
         lost_all units b [] (record {
           has =
               subst (λ (l : List ℕ). HasUnits dialect s units l) (sym (append-nil b)) are.has;
           in_unit =
-              within_unit dialect u s units b are;
-        }) f (fails flow.On (section_visits dialect units b) tells)
+              within_unit past u s units b are;
+        }) f (fails flow.On (visits_since past units b) tells)
     not_out (Ok flow.Stop) kept (units, back, has, summary, offset, done) =
         lost_all units [] back (record {
           has = has;
           in_unit =
               λ n known. omega arith;
-        }) f (fails flow.Stop (section_visits dialect units []) done)
+        }) f (fails flow.Stop (visits_since past units []) done)
     not_out (Err (fault.Write out)) kept fed = absurd (true_false kept)
     not_out (Err (fault.Damage offset kind)) kept fed = lost_at (fault.Damage offset kind) fed
     not_out (Err fault.NoMemory) kept fed = lost_at fault.NoMemory fed

@@ -15,7 +15,7 @@ use Rattle.dl_run.specs.Commands.{Made, to_5}
 use Rattle.dl_run.specs.declared.fault.RunFault.{RunFault}
 use Rattle.dl_run.specs.declared.fault.RunFault.TheVariants as fault
 use Rattle.dl_print.specs.Output.{HasPrinted}
-use Rattle.dl_run.specs.Section.{Visit, of_header, of_version, of_row, of_open, of_end}
+use Rattle.dl_run.specs.Section.{Visit, of_header, of_version, of_row, of_open, of_end, of_damage}
 use Rattle.dl_run.specs.Visiting.{Story, header_told}
 
 -- the offset of the last unit with a header; offset: that before the visits
@@ -51,6 +51,7 @@ visited made order (goes offset rows text) (of_header n h) = goes n [] text
 visited made order (goes offset rows text) (of_version n version) = stopped text (fault.ForeignUnit n)
 visited made order (goes offset rows text) (of_row r) = goes offset (rows ++ r ∷ []) text
 visited made order (goes offset rows text) of_open = goes offset rows text
+visited made order (goes offset rows text) (of_damage n kind) = goes offset [] text
 visited made order (goes offset rows text) (of_end None) = goes offset [] text
 visited made order (goes offset rows text) (of_end (Some h)) =
     ended_as (unit_of order (made offset h) rows) text offset (refusal (made offset h) rows)

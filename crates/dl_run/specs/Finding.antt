@@ -8,7 +8,7 @@ use Rattle.dl_look.specs.FinderRows.{StandsFor}
 use Rattle.dl_run.specs.declared.finding.Seeker.{Seeker}
 use Rattle.dl_run.specs.Commands.{found_text}
 use Rattle.dl_print.specs.Output.{HasPrinted}
-use Rattle.dl_run.specs.Section.{Visit, of_row, of_end}
+use Rattle.dl_run.specs.Section.{Visit, of_damage, of_row, of_end}
 use Rattle.dl_print.specs.ValueText.{Strings, strings_of}
 use Rattle.dl_run.specs.Visiting.{Story}
 
@@ -29,6 +29,7 @@ abbrev pub seen : Place → Search → Visit → Search
 seen x (finds h r) visit = finds h r
 seen x (seeks rows) (of_row r) = seeks (rows ++ r ∷ [])
 seen x (seeks rows) (of_end h) = answer_under h (answer rows x)
+seen x (seeks rows) (of_damage offset kind) = seeks []
 seen x (seeks rows) visit = seeks rows
 
 abbrev pub search_of : Place → List Visit → Search

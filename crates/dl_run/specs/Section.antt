@@ -92,6 +92,8 @@ pub data Visit : Type 0 where
   of_open : Visit
   -- a unit is whole, which had this header
   of_end : (h : Option HeaderData) → Visit
+  -- a unit is damaged, which has this fault at that offset of the section
+  of_damage : (offset : ℕ) (kind : FaultKind) → Visit
 
 -- the header that b begins with
 abbrev pub header_of : Dialect → List ℕ → Option HeaderData

@@ -7,7 +7,7 @@ use Rattle.dl_run.specs.declared.in_memory.Telling.{Telling}
 use Rattle.dl_run.specs.declared.in_memory.SectionRead.{SectionRead}
 use Rattle.dl_run.specs.declared.in_memory.SectionStop.{SectionStop}
 use Rattle.dl_run.specs.InMemory.{ReadsSection, UnitStory, UnitTold}
-use Rattle.dl_run.specs.Section.{Visit, of_header, of_version, of_row, of_open, of_end}
+use Rattle.dl_run.specs.Section.{Visit, of_header, of_version, of_row, of_open, of_end, of_damage}
 use Rattle.dl_run.specs.Visiting.{Story}
 
 -- what was told so far: the units that are whole, and of the current one its offset, its version where such units aren't
@@ -23,6 +23,7 @@ with_visit heard (of_header n h) = record heard { offset = n; version = None }
 with_visit heard (of_version n version) = record heard { offset = n; version = Some version }
 with_visit heard (of_row r) = record heard { rows = heard.rows ++ r ∷ [] }
 with_visit heard of_open = heard
+with_visit heard (of_damage n kind) = record heard { rows = [] }
 with_visit heard (of_end h) = record {
   offset = heard.offset;
   version = heard.version;

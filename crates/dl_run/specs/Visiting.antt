@@ -11,7 +11,7 @@ use Rattle.dl_rows.specs.declared.sink.Flow.{Flow}
 use Rattle.dl_rows.specs.declared.sink.Flow.TheVariants as flow
 use Rattle.dl_print.specs.declared.summary.Summary.{Summary}
 use Rattle.dl_run.specs.RunOutput.{TellsOut}
-use Rattle.dl_run.specs.Section.{Visit, of_header, of_end, HasUnits, HasBegun, EndsAs, section_visits, summary_of}
+use Rattle.dl_run.specs.Section.{Visit, of_damage, of_header, of_end, HasUnits, HasBegun, EndsAs, section_visits, summary_of}
 
 -- What is said of a visitor. The first of two visitors is the one at the beginning, the first of two lists what the
 -- writer held then.
@@ -65,6 +65,7 @@ abbrev pub header_told : Option HeaderData → List Visit → Option HeaderData
 header_told header [] = header
 header_told header (of_header offset h ∷ visits) = header_told (Some h) visits
 header_told header (of_end h ∷ visits) = header_told None visits
+header_told header (of_damage offset kind ∷ visits) = header_told None visits
 header_told header (visit ∷ visits) = header_told header visits
 
 -- it is told the last visits of a unit, of which it was told the header, where it has one

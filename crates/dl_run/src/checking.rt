@@ -1,11 +1,14 @@
 //! The command that counts units, sequences and rows.
 
-ghost use Rattle.std.specs.Prelude.{◌≤◌, ℕ, List};
+ghost use Rattle.std.specs.Prelude.{◌≤◌, [], ℕ, List};
 ghost use Rattle.std.specs.Io.KnownBytes.{Consumes};
+ghost use Rattle.dl_run.specs.AroundCommands.{ChecksAround};
 ghost use Rattle.dl_run.specs.Commands.{Checks};
 
+use crate::around::{AroundDamage, Damage, Survey, read_units_around};
 use crate::fault::RunFault;
 use crate::options::{Options, SECTION_LIMIT};
+use crate::reporting::{DamageSink, NoneTold};
 use crate::section::{Visitor, read_units};
 use dl_head::Header;
 use dl_print::{Printer, Summary};
@@ -13,14 +16,16 @@ use dl_rows::{Flow, Row};
 use std::alloc::Global;
 use std::io::{Read, Write};
 
-/// Prints nothing.
+/// Prints nothing, and tells of damaged units.
 #[derive(Drop)]
-struct Checker;
+struct Checker<'a, D> {
+    damages: &'a mut D,
+}
 
-impl<W: Write> Visitor<W> for Checker {
+impl<W: Write, D: DamageSink> Visitor<W> for Checker<'_, D> {
     ghost use Rattle.dl_run.specs.Checking.{check_story};
 
-    ghost story = { check_story };
+    ghost story = { check_story D.hears };
 
     fn header(&mut self, _output: &mut W, _offset: u64, _header: &Header) -> Result<(), RunFault> {
         Ok(())
@@ -48,6 +53,12 @@ impl<W: Write> Visitor<W> for Checker {
     }
 }
 
+impl<W: Write, D: DamageSink> AroundDamage<W> for Checker<'_, D> {
+    fn damaged(&mut self, damage: Damage) {
+        self.damages.damaged(damage);
+    }
+}
+
 /// Reads all units of the input, and prints one line with their counts where none is damaged.
 ///
 /// Before the input's end nothing is printed. The faults are those of `RunFault`; each growth of
@@ -63,9 +74,38 @@ pub fn check<R: Read, W: Write>(
         × Checks options.now.dialect options.now.limit bs
         (R.remaining input.new) (W.contents output.old) (W.contents output.new) result }
 {
-    let summary = read_units(alloc, input, output, options, &mut Checker)?;
+    let mut checker = Checker {
+        damages: &mut NoneTold,
+    };
+    let summary = read_units(alloc, input, output, options, &mut checker)?;
     let mut printer = Printer::new();
     printer.summary(output, &summary)?;
     printer.flush(output)?;
     Ok(summary)
+}
+
+/// Reads all units of the input around those that are damaged, and prints one line with their counts, those of the whole
+/// units first. `damages` hears of each damaged unit.
+///
+/// Before the input's end nothing is printed. The answer tells how many units are damaged; the faults are those of
+/// `read_units_around`, and failed writes.
+pub fn check_around<R: Read, W: Write, D: DamageSink>(
+    alloc: Global,
+    input: &mut R,
+    output: &mut W,
+    options: &Options<'_>,
+    damages: &mut D,
+) -> Result<Survey, RunFault>
+    requires { options.now.limit ≤ SECTION_LIMIT }
+    ensures { (bs : List ℕ) × Consumes (R.remaining input.old) (R.remaining input.new) bs
+        × (D.hears damages.old damages.old [] → ChecksAround options.now.dialect options.now.limit bs
+        (R.remaining input.new) (W.contents output.old) (W.contents output.new) (D.hears damages.old damages.new)
+        result) }
+{
+    let mut checker = Checker { damages };
+    let survey = read_units_around(alloc, input, output, options, &mut checker)?;
+    let mut printer = Printer::new();
+    printer.survey(output, &survey.summary, survey.damaged_units())?;
+    printer.flush(output)?;
+    Ok(survey)
 }

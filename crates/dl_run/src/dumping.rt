@@ -1,11 +1,14 @@
 //! The command that prints a section.
 
-ghost use Rattle.std.specs.Prelude.{◌≤◌, ℕ, List};
+ghost use Rattle.std.specs.Prelude.{◌≤◌, [], ℕ, List};
 ghost use Rattle.std.specs.Io.KnownBytes.{Consumes};
+ghost use Rattle.dl_run.specs.AroundCommands.{DumpsAround};
 ghost use Rattle.dl_run.specs.Commands.{Dumps, strings_in};
 
+use crate::around::{AroundDamage, Damage, Survey, read_units_around};
 use crate::fault::RunFault;
 use crate::options::{Options, SECTION_LIMIT};
+use crate::reporting::{DamageSink, NoneTold};
 use crate::section::{Visitor, read_units};
 use dl_head::Header;
 use dl_print::{Printer, StringSections, Summary};
@@ -13,20 +16,21 @@ use dl_rows::{Flow, Row};
 use std::alloc::Global;
 use std::io::{Read, Write};
 
-/// Prints the events of units.
+/// Prints the events of units, and tells of damaged ones.
 #[derive(Drop)]
-struct Dumper<'a> {
-    printer: Printer,
-    strings: StringSections<'a>,
+struct Dumper<'d, D> {
+    printer: &'d mut Printer,
+    strings: &'d StringSections<'d>,
+    damages: &'d mut D,
 }
 
-impl<W: Write> Visitor<W> for Dumper<'_> {
+impl<W: Write, D: DamageSink> Visitor<W> for Dumper<'_, D> {
     ghost use Rattle.dl_run.specs.Dumping.{dump_story};
 
-    ghost story = { dump_story };
+    ghost story = { dump_story D.hears };
 
     fn header(&mut self, output: &mut W, offset: u64, header: &Header) -> Result<(), RunFault> {
-        Ok(self.printer.header(output, &self.strings, offset, header)?)
+        Ok(self.printer.header(output, self.strings, offset, header)?)
     }
 
     fn foreign(&mut self, output: &mut W, offset: u64, version: u16) -> Result<(), RunFault> {
@@ -51,6 +55,12 @@ impl<W: Write> Visitor<W> for Dumper<'_> {
     }
 }
 
+impl<W: Write, D: DamageSink> AroundDamage<W> for Dumper<'_, D> {
+    fn damaged(&mut self, damage: Damage) {
+        self.damages.damaged(damage);
+    }
+}
+
 /// Prints the lines of all units of the input.
 ///
 /// What comes before a fault is printed. The faults are those of `RunFault`; each growth of memory is
@@ -68,8 +78,37 @@ pub fn dump<R: Read, W: Write>(
 {
     let strings = StringSections::new(options.debug_line_str, options.debug_str);
     let mut dumper = Dumper {
-        printer: Printer::new(),
-        strings,
+        printer: &mut Printer::new(),
+        strings: &strings,
+        damages: &mut NoneTold,
     };
     read_units(alloc, input, output, options, &mut dumper)
+}
+
+/// Prints the lines of all units of the input, of those that are damaged up to their faults. `damages` hears of each
+/// damaged unit, once what comes before its fault is printed and out.
+///
+/// The answer tells what the units come to, and how many are damaged; the faults are those of `read_units_around`, and
+/// failed writes.
+pub fn dump_around<R: Read, W: Write, D: DamageSink>(
+    alloc: Global,
+    input: &mut R,
+    output: &mut W,
+    options: &Options<'_>,
+    damages: &mut D,
+) -> Result<Survey, RunFault>
+    requires { options.now.limit ≤ SECTION_LIMIT }
+    ensures { (bs : List ℕ) × Consumes (R.remaining input.old) (R.remaining input.new) bs
+        × (D.hears damages.old damages.old [] → DumpsAround options.now.dialect (strings_in options.now)
+        options.now.limit bs (R.remaining input.new) (W.contents output.old) (W.contents output.new)
+        (D.hears damages.old damages.new) result) }
+{
+    let strings = StringSections::new(options.debug_line_str, options.debug_str);
+    let mut printer = Printer::new();
+    let mut dumper = Dumper {
+        printer: &mut printer,
+        strings: &strings,
+        damages,
+    };
+    read_units_around(alloc, input, output, options, &mut dumper)
 }

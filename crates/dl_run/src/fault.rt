@@ -1,5 +1,6 @@
 //! How a command stops that doesn't end well, with its text and its status.
 
+use crate::around::Damage;
 use dl_emit::EmitFault;
 use dl_head::FaultKind;
 use dl_print::WriteFault;
@@ -30,7 +31,21 @@ pub enum RunFault {
 
 impl RunFault {
     ghost use Rattle.std.specs.Prelude.{◌≡◌};
+    ghost use Rattle.dl_run.specs.GoingOn.{damage_in};
     ghost use Rattle.dl_run.specs.RunText.{status};
+
+    /// What is wrong with a unit, where that is the fault.
+    pub(crate) fn damage(&self) -> Option<Damage>
+        ensures { result ≡ damage_in self.now }
+    {
+        match self {
+            RunFault::Damage { offset, kind } => Some(Damage {
+                offset: *offset,
+                kind: *kind,
+            }),
+            _ => None,
+        }
+    }
 
     /// The program's status: 1 where the section is to blame, 3 for memory, input and output.
     pub fn status(&self) -> u8

@@ -5,7 +5,7 @@ ghost use Rattle.dl_table.specs.declared.fault.FaultKind.{FaultKind};
 ghost use Rattle.dl_head.specs.declared.dialect.Dialect.{Dialect};
 ghost use Rattle.dl_run.specs.InMemory.{ReadsSection, as_fault};
 ghost use Rattle.dl_run.specs.Telling.{PassesOn};
-ghost use Rattle.dl_run.specs.UnitsRead.{UnitsAre};
+ghost use Rattle.dl_run.specs.UnitsRead.{Before, UnitsAre};
 
 use crate::fault::RunFault;
 use crate::section::{SectionUnits, Visitor, work_through};
@@ -158,7 +158,8 @@ fn read_known<U: UnitSink>(
     section: &[u8],
     telling: &mut Telling<'_, U>,
 ) -> Result<SectionRead, SectionStop>
-    ensures { (dialect : Dialect) → UnitsAre dialect units.old [] [] []
+    ensures { (dialect : Dialect)
+        → ((past : Before dialect) → past.bytes ≡ [] → past.units ≡ [] → UnitsAre past units.old [] [] [])
         → U.story.hears telling.old.sink.now telling.old.sink.now [] []
         → PassesOn U.story dialect section.now telling.old telling.new result }
 {

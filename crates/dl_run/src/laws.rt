@@ -1,5 +1,7 @@
 //! Laws of the definitions of sections, each the contract of a function that does nothing.
 
+ghost use Rattle.dl_run.specs.AroundLaws.{FirstFault, NothingDamaged, OneAround, OneCutAround};
+ghost use Rattle.dl_run.specs.AroundLaws.{StopsAtFirst, WithoutDamage};
 ghost use Rattle.dl_run.specs.CopyLaws.{CopiesAreNewer, CopiesAreUnits};
 ghost use Rattle.dl_run.specs.SectionLaws.{OneCut, OneEnd, MoreIsTold, OneChecking, OneFound, OneFinding, OneDumping};
 ghost use Rattle.dl_run.specs.SectionLaws.{OneDump, DumpIsFront, OneCopying, OneCopy, CopyIsFront, OnePassingOver};
@@ -20,6 +22,28 @@ pub fn one_end()
 /// refused in neither.
 pub fn more_is_told()
     ensures { MoreIsTold }
+{}
+
+/// A section that is units to its end comes to the same units and counts where damaged units are passed
+/// over; and where nothing is damaged, a section is units to its end. Section 6.2.4.
+pub fn without_damage()
+    ensures around { WithoutDamage }
+    ensures units { NothingDamaged }
+{}
+
+/// A reading that stops at the first fault stops at that of the first damaged unit, with its offset and
+/// its kind; and where a unit is damaged, it does stop there. Section 6.2.4.
+pub fn first_fault()
+    ensures first { FirstFault }
+    ensures stops { StopsAtFirst }
+{}
+
+/// Bytes are cut into units, whole or damaged, and what follows them, in one way alone. How a section
+/// ends where damaged units are passed over is settled by its bytes and the limit, but where a read
+/// fails or memory is refused: its units, what follows them, and the answer. Section 6.2.4.
+pub fn one_around()
+    ensures cut { OneCutAround }
+    ensures end { OneAround }
 {}
 
 /// What `check` answers is settled by the bytes and the limit, but where memory, input or output is the

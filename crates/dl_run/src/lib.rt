@@ -2,6 +2,7 @@
 //! its units for further ones.
 #![tactic(auto)]
 
+mod around;
 mod checking;
 mod copying;
 mod dumping;
@@ -12,19 +13,22 @@ mod input;
 pub mod laws;
 mod options;
 mod passing_over;
+mod reporting;
 mod section;
 mod strings;
 
-pub use checking::check;
+pub use around::{AroundDamage, Damage, DamagedUnits, Survey, read_units_around};
+pub use checking::{check, check_around};
 pub use copying::{copy, copy_to_5};
 pub use dl_print::Summary;
 pub use dl_rows::Flow;
-pub use dumping::dump;
+pub use dumping::{dump, dump_around};
 pub use fault::RunFault;
 pub use finding::find;
 pub use in_memory::{SectionRead, SectionStop, UnitSink, WholeUnit, read_section};
 pub use input::{INTERRUPTIONS, Input, ReadFailed};
 pub use options::{Options, SECTION_LIMIT};
 pub use passing_over::{PassedOver, passed_over};
+pub use reporting::DamageSink;
 pub use section::{Visitor, read_units};
 pub use strings::read_strings;

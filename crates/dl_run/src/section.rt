@@ -4,6 +4,8 @@ ghost use Rattle.std.specs.Prelude.{◌≡◌, ◌≤◌, ◌<◌, ◌+◌, ◌^
 ghost use Rattle.std.specs.Prelude.{OnOk};
 ghost use Rattle.dl_num.specs.declared.fixed.Order.{Order};
 ghost use Rattle.std.specs.Io.KnownBytes.{Appends, Consumes};
+ghost use Rattle.dl_head.specs.Header.{unit_len};
+ghost use Rattle.std.specs.Prelude.{option_map};
 ghost use Rattle.dl_rows.specs.LineUnit.{IsUnit, ends_open, unit_rows};
 ghost use Rattle.dl_rows.specs.Progress.{taken_of};
 ghost use Rattle.dl_rows.specs.Reading.{IsPause};
@@ -11,11 +13,13 @@ ghost use Rattle.dl_rows.specs.ReaderStands.{StandsFor};
 ghost use Rattle.dl_rows.specs.Runs.{Sound};
 ghost use Rattle.dl_print.specs.Counts.{add};
 ghost use Rattle.dl_run.specs.Section.{Visit, NoUnitBegins, event_visits, header_of, open_visit, end_visits};
-ghost use Rattle.dl_run.specs.Section.{section_visits};
 ghost use Rattle.dl_run.specs.Told.{FeedsTold};
 ghost use Rattle.dl_run.specs.Visiting.{Hears, HearsEnd, Ran};
-ghost use Rattle.dl_run.specs.UnitsRead.{UnitsAre, UnitsFed, Worked, Finishes, counted, row_told, is_failed_write};
+ghost use Rattle.dl_run.specs.UnitsRead.{Before, UnitsAre, UnitsFed, Worked, Finishes, counted, row_told, is_failed_write};
+ghost use Rattle.dl_run.specs.UnitsRead.{CutsOff, visits_since};
+ghost use Rattle.dl_run.specs.GoingOn.{BeginsAt};
 
+use crate::around::Damage;
 use crate::fault::RunFault;
 use crate::input::Input;
 use crate::options::{Options, SECTION_LIMIT};
@@ -120,7 +124,7 @@ pub(crate) struct SectionUnits {
 
 impl SectionUnits {
     pub fn new(alloc: Global, dialect: Dialect) -> SectionUnits
-        ensures units { UnitsAre dialect result [] [] [] }
+        ensures units { (past : Before dialect) → past.bytes ≡ [] → past.units ≡ [] → UnitsAre past result [] [] [] }
     {
         SectionUnits {
             alloc,
@@ -147,11 +151,11 @@ impl SectionUnits {
         visitor: &mut V,
         piece: &[u8],
     ) -> Result<Flow, RunFault>
-        ensures { (dialect : Dialect) (t : List ℕ) (units : List (List ℕ)) (b : List ℕ) (first : V)
-            (start : Option (List ℕ))
-            → UnitsAre dialect self.old t units b → length t + length piece.now < 2 ^ 64
-            → V.story.tells first visitor.old start (W.contents output.old) (section_visits dialect units b)
-            → UnitsFed V.story dialect (t ++ piece.now) first visitor.new start (W.contents output.new)
+        ensures { (dialect : Dialect) (past : Before dialect) (t : List ℕ) (units : List (List ℕ)) (b : List ℕ)
+            (first : V) (start : Option (List ℕ)) → UnitsAre past self.old t units b
+            → length past.bytes + (length t + length piece.now) < 2 ^ 64
+            → V.story.tells first visitor.old start (W.contents output.old) (visits_since past units b)
+            → UnitsFed V.story past (t ++ piece.now) first visitor.new start (W.contents output.new)
             self.new result }
     {
         let mut rest = piece;
@@ -245,9 +249,9 @@ impl SectionUnits {
         visitor: &mut V,
     ) -> Result<Flow, RunFault>
         ensures taken { OnOk result (taken_of self.new.reader ≡ 0) }
-        ensures units { (dialect : Dialect) (t : List ℕ) (units : List (List ℕ)) (b : List ℕ)
-            → UnitsAre dialect self.old t units b
-            → IsUnit dialect b → length t < 2 ^ 64 → OnOk result (UnitsAre dialect self.new t (units ++ b ∷ []) []) }
+        ensures units { (dialect : Dialect) (past : Before dialect) (t : List ℕ) (units : List (List ℕ)) (b : List ℕ)
+            → UnitsAre past self.old t units b → IsUnit dialect b → length past.bytes + length t < 2 ^ 64
+            → OnOk result (UnitsAre past self.new t (units ++ b ∷ []) []) }
         ensures heard { (b : List ℕ) → StandsFor self.old.reader b
             → HearsEnd V.story visitor.old visitor.new (W.contents output.old) (W.contents output.new)
             (header_of self.old.reader.dialect b) (end_visits self.old.reader.dialect b) result }
@@ -277,9 +281,9 @@ impl SectionUnits {
     fn next_unit(&mut self) -> Option<Header>
         ensures taken { taken_of self.new.reader ≡ 0 }
         ensures header { (b : List ℕ) → StandsFor self.old.reader b → result ≡ header_of self.old.reader.dialect b }
-        ensures units { (dialect : Dialect) (t : List ℕ) (units : List (List ℕ)) (b : List ℕ)
-            → UnitsAre dialect self.old t units b
-            → IsUnit dialect b → length t < 2 ^ 64 → UnitsAre dialect self.new t (units ++ b ∷ []) [] }
+        ensures units { (dialect : Dialect) (past : Before dialect) (t : List ℕ) (units : List (List ℕ)) (b : List ℕ)
+            → UnitsAre past self.old t units b → IsUnit dialect b → length past.bytes + length t < 2 ^ 64
+            → UnitsAre past self.new t (units ++ b ∷ []) [] }
     {
         let reader = mem::replace(&mut self.reader, Reader::of(self.alloc, self.dialect));
         self.offset = self.offset.saturating_add(reader.taken());
@@ -293,14 +297,49 @@ impl SectionUnits {
 
     /// What the section comes to where its bytes are over.
     pub fn finish(&self) -> Result<Summary, RunFault>
-        ensures { (dialect : Dialect) (t : List ℕ) (units : List (List ℕ)) (b : List ℕ)
-            → UnitsAre dialect self.now t units b
-            → NoUnitBegins dialect b → Sound dialect b → length t < 2 ^ 64 → Finishes dialect t units b result }
+        ensures { (dialect : Dialect) (past : Before dialect) (t : List ℕ) (units : List (List ℕ)) (b : List ℕ)
+            → UnitsAre past self.now t units b → NoUnitBegins dialect b → Sound dialect b
+            → length past.bytes + length t < 2 ^ 64 → Finishes past t units b result }
     {
         match self.reader.finish() {
             Ok(_) => Ok(self.summary),
             Err(fault) => Err(self.damage(fault)),
         }
+    }
+
+    /// What is wrong with the current unit where the section's bytes are over within it.
+    pub fn cut_off(&self) -> Option<Damage>
+        ensures { (dialect : Dialect) (past : Before dialect) (t : List ℕ) (units : List (List ℕ)) (b : List ℕ)
+            → UnitsAre past self.now t units b → NoUnitBegins dialect b → Sound dialect b
+            → length past.bytes + length t < 2 ^ 64 → CutsOff past t b result }
+    {
+        match self.reader.finish() {
+            Ok(_) => None,
+            Err(fault) => Some(Damage {
+                offset: self.offset.saturating_add(fault.offset),
+                kind: fault.kind,
+            }),
+        }
+    }
+
+    /// Where the current unit ends; None where its initial length isn't good.
+    pub fn unit_end(&self) -> Option<u64>
+        ensures { (b : List ℕ) → StandsFor self.now.reader b
+            → result ≡ option_map (λ n. add self.now.offset n) (unit_len self.now.reader.dialect b) }
+    {
+        let len = self.reader.unit_len()?;
+        Some(self.offset.saturating_add(len))
+    }
+
+    /// Goes on with a unit that begins at this offset. What was read of the current one isn't counted.
+    pub fn begin_at(&mut self, offset: u64)
+        ensures { BeginsAt offset self.old self.new }
+    {
+        self.reader = Reader::of(self.alloc, self.dialect);
+        self.offset = offset;
+        self.is_foreign = false;
+        self.sequences = 0;
+        self.rows = 0;
     }
 
     /// The fault of the current unit, by its offset in the section.
@@ -348,7 +387,8 @@ fn read_pieces<R: Read, W: Write, V: Visitor<W>>(
     visitor: &mut V,
 ) -> Result<Summary, RunFault>
     requires limit { options.now.limit ≤ SECTION_LIMIT }
-    requires begun { UnitsAre options.now.dialect units.old [] [] [] }
+    requires begun { (past : Before options.now.dialect) → past.bytes ≡ [] → past.units ≡ []
+        → UnitsAre past units.old [] [] [] }
     ensures { (bs : List ℕ) × Consumes (R.remaining input.old) (R.remaining input.new) bs
         × (V.story.tells visitor.old visitor.old (W.contents output.old) (W.contents output.old) []
         → Appends (W.contents output.old) (W.contents output.old) (V.story.text visitor.old [])
@@ -383,10 +423,11 @@ pub(crate) fn work_through<W: Write, V: Visitor<W>>(
     visitor: &mut V,
     piece: &[u8],
 ) -> Result<Flow, RunFault>
-    ensures { (dialect : Dialect) (t : List ℕ) (done : List (List ℕ)) (b : List ℕ) (first : V) (start : Option (List ℕ))
-        → UnitsAre dialect units.old t done b → length t + length piece.now < 2 ^ 64
-        → V.story.tells first visitor.old start (W.contents output.old) (section_visits dialect done b)
-        → Worked V.story dialect (t ++ piece.now) first visitor.new start (W.contents output.new) units.new result }
+    ensures { (dialect : Dialect) (past : Before dialect) (t : List ℕ) (done : List (List ℕ)) (b : List ℕ) (first : V)
+        (start : Option (List ℕ)) → UnitsAre past units.old t done b
+        → length past.bytes + (length t + length piece.now) < 2 ^ 64
+        → V.story.tells first visitor.old start (W.contents output.old) (visits_since past done b)
+        → Worked V.story past (t ++ piece.now) first visitor.new start (W.contents output.new) units.new result }
 {
     let answer = units.feed(output, visitor, piece);
     if !is_failed_write(&answer) {
@@ -403,7 +444,7 @@ fn is_failed_write(answer: &Result<Flow, RunFault>) -> bool
 }
 
 /// The first bytes of the piece, `most` of them or all.
-fn front<'a>(piece: &'a [u8], most: u64) -> &'a [u8]
+pub(crate) fn front<'a>(piece: &'a [u8], most: u64) -> &'a [u8]
     ensures short { length result.now ≤ most }
     ensures whole { length piece.entry.now ≤ length result.now → length piece.entry.now ≤ most }
     ensures front { result.now ≡ take most piece.entry.now }

@@ -2,3 +2,4 @@ pub mod TableLemmas
 pub mod WorkLemmas
 pub mod WordsLemmas
 pub mod LocateLemmas
+pub mod DamageLemmas

@@ -9,7 +9,7 @@ use Rattle.dl_file.specs.Code.{IsCode}
 use Rattle.dl_file.specs.declared.code.Code.{Code}
 use Rattle.dl_look.specs.declared.code_ranges.CodeRanges.{CodeRanges}
 use Rattle.dl_cmd.specs.Job.{AddrTexts, Text}
-use Rattle.dl_print.specs.declared.summary.Summary.{Summary}
+use Rattle.dl_run.specs.declared.around.Survey.{Survey}
 use Rattle.dl_addr.specs.Code.{is_code}
 use Rattle.dl_dirs.specs.Compilation.{directory_by}
 use Rattle.dl_dirs.specs.Directories.{directory_at}
@@ -29,6 +29,7 @@ use Rattle.dl_work.specs.declared.stop.Stop.TheVariants.{NotUnderstood}
 use Rattle.dl_work.specs.Locate.{HasAsked, InputStops, IsNoQuestion, LocatesInFile, LocatesInSection, WordsStop}
 use Rattle.dl_work.specs.Locate.{Asks, Unanswered, are_addresses, asked_in_words, base_in, form_in}
 use Rattle.dl_work.specs.Locate.{RefusesOpening, said_directory, suits_file}
+use Rattle.dl_work.specs.Damages.{unheard}
 use Rattle.dl_work.specs.Compiled.{AreFound}
 use Rattle.dl_work.specs.Understood.{IsUnderstood}
 use Rattle.dl_work.specs.declared.addr_words.AskedWords.{AskedWords}
@@ -107,7 +108,7 @@ module _ (held : Text → Option (List ℕ)) (fails : Text → Error → Type 0)
 
   pub file_done : (ranges : Option CodeRanges) (given : List Asked) (slice : List Asked) (base : ℕ) (bytes : List ℕ)
       (left start now : Option (List ℕ)) (lines : AskedLines) (said : CompilationDirectories) (q : Question)
-      (answer : Result Summary FileStop) (result : Result Located Stop)
+      (answer : Result Survey FileStop) (result : Result Located Stop)
       → suits_file w ≡ true → given ≡ asked_in_words w → HasAsked w given bytes left lines → are_addresses w ≡ true
       → base_in w ≡ Some base
       → q.asked.now ≡ slice → slice ≡ lines.asked.items → q.base ≡ base
@@ -117,7 +118,8 @@ module _ (held : Text → Option (List ℕ)) (fails : Text → Error → Type 0)
       → q.style.basenames ≡ w.basenames → option_copied q.style.section ≡ w.section
       → ForBytes (held path) (λ f. (code : Code) × IsCode f (Ok code)
       × AreLive ranges code)
-      → ForBytes (held path) (λ f. OnFile (file_units w.units) (fails path) path w.section (Addr q) f start now answer)
+      → ForBytes (held path) (λ f. OnFile (file_units w.units) (fails path) path w.section
+      (Addr q) f start now unheard answer)
       → result ≡ located (over_file answer) lines.no_address → LocatesInFile held fails path w bytes left start now result
   file_done ranges given slice base bytes left start now lines said q answer result says words has understood based asked
       sliced own live directories found comp_dir are_found form basenames section codes does is = λ f known short.

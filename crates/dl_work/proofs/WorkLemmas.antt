@@ -1,7 +1,8 @@
 -- A request over a section on the input, and over the ELF file of a path.
 use Rattle.std.proofs.Common.{◌≡◌, ℕ, List, [], Option, Some, None, Result, refl, subst}
 use Rattle.std.specs.declared.io.Error.{Error}
-use Rattle.dl_print.specs.declared.summary.Summary.{Summary}
+use Rattle.dl_run.specs.declared.around.Damage.{Damage}
+use Rattle.dl_run.specs.declared.around.Survey.{Survey}
 use Rattle.dl_cmd.specs.Job.{Request, Text}
 use Rattle.dl_open.specs.declared.dialect.FileUnits.{FileUnits}
 use Rattle.dl_open.specs.declared.stop.FileStop.{FileStop}
@@ -16,24 +17,28 @@ use Rattle.dl_work.specs.Work.{OnInput, Works}
 
 pub works_on_input : (held : Text → Option (List ℕ)) (fails : Text → Error → Type 0) (request : Option Request)
     (r : Request) (command : Command) (words : SectionWords) (bytes : List ℕ)
-    (left start now : Option (List ℕ)) (result : Result Summary Stop) → request ≡ Some r → command_of r ≡ Some (command_seen command)
+    (left start now : Option (List ℕ)) (hears : List Damage → Type 0) (result : Result Survey Stop) → request ≡ Some r
+    → command_of r ≡ Some (command_seen command)
     → file_of r ≡ None → words ≡ section_of r
-    → OnInput held words command bytes left start now result → Works held fails request bytes left start now result
-works_on_input held fails request r command words bytes left start now result is asks no_file said does =
+    → OnInput held words command bytes left start now hears result
+    → Works held fails request bytes left start now hears result
+works_on_input held fails request r command words bytes left start now hears result is asks no_file said does =
     rw (is, asks) (
       command,
       refl,
-      rw no_file (subst (λ (w : SectionWords). OnInput held w command bytes left start now result) said does),
+      rw no_file (subst (λ (w : SectionWords). OnInput held w command bytes left start now hears result) said does),
     )
 
 pub works_on_named : (held : Text → Option (List ℕ)) (fails : Text → Error → Type 0) (request : Option Request)
-    (r : Request) (command : Command) (units : FileUnits) (path : Text) (name : Option Text) (left start now : Option (List ℕ))
-    (answer : Result Summary FileStop) (result : Result Summary Stop) → request ≡ Some r → command_of r ≡ Some (command_seen command)
+    (r : Request) (command : Command) (units : FileUnits) (path : Text) (name : Option Text)
+    (left start now : Option (List ℕ)) (hears : List Damage → Type 0)
+    (answer : Result Survey FileStop) (result : Result Survey Stop) → request ≡ Some r
+    → command_of r ≡ Some (command_seen command)
     → file_of r ≡ Some path → units ≡ file_units (units_of r) → name ≡ part_name_of r → result ≡ over_file answer
-    → ForBytes (held path) (λ f. OnFile units (fails path) path name command f start now answer)
-    → Works held fails request [] left start now result
-works_on_named held fails request r command units path name left start now answer result is asks named reads said told
-    does =
+    → ForBytes (held path) (λ f. OnFile units (fails path) path name command f start now hears answer)
+    → Works held fails request [] left start now hears result
+works_on_named held fails request r command units path name left start now hears answer result is asks named reads said
+    told does =
     rw (is, asks) (
       command,
       refl,
@@ -42,8 +47,8 @@ works_on_named held fails request r command units path name left start now answe
         answer,
         told,
         subst (λ (u : FileUnits). ForBytes (held path) (λ f. OnFile u (fails path) path (part_name_of r) command f start now
-            answer)) reads
+            hears answer)) reads
             (subst (λ (n : Option Text). ForBytes (held path) (λ f. OnFile units (fails path) path n command f start now
-            answer)) said does),
+            hears answer)) said does),
       ),
     )

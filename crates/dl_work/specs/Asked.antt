@@ -14,16 +14,20 @@ use Rattle.dl_dirs.specs.Compilation.{directory_by}
 use Rattle.dl_look.specs.declared.place.Place.{Place}
 use Rattle.dl_run.specs.declared.options.TheConstants.{SECTION_LIMIT}
 use Rattle.dl_run.specs.declared.fault.RunFault.{RunFault}
+use Rattle.dl_run.specs.declared.around.Damage.{Damage}
+use Rattle.dl_run.specs.declared.around.Survey.{Survey}
 use Rattle.dl_print.specs.declared.summary.Summary.{Summary}
 use Rattle.dl_cmd.specs.Address.{address_in}
 use Rattle.dl_run.specs.Commands.{Checks, Copies, CopiesAs, Dumps, Finds, to_5}
+use Rattle.dl_run.specs.AroundCommands.{ChecksAround, DumpsAround}
 use Rattle.dl_cmd.specs.Job.{Request, Text, addr, check, copy, dump, find}
 use Rattle.dl_print.specs.ValueText.{Strings}
 use Rattle.dl_open.specs.declared.named.Sections.{Sections}
 use Rattle.dl_open.specs.declared.named.Sections.TheVariants.{Lines, LinesAndTexts}
 use Rattle.dl_work.specs.Units.{are_sizes, older_by, units_of}
 use Rattle.dl_work.specs.declared.command.Command.{Command}
-use Rattle.dl_work.specs.declared.command.Command.TheVariants.{Addr, Dump, Check, Find, Copy, CopyTo5}
+use Rattle.dl_work.specs.declared.command.Command.TheVariants.{Addr, Dump, DumpAround, Check, CheckAround, Find, Copy}
+use Rattle.dl_work.specs.declared.command.Command.TheVariants.{CopyTo5}
 use Rattle.dl_work.specs.declared.command.TheConstants.{NOTHING}
 use Rattle.dl_addr.specs.declared.question.Found.{Found}
 use Rattle.dl_addr.specs.declared.question.Question.{Question}
@@ -38,7 +42,9 @@ place_of address op = option_map (λ n. record { address = n; op_index = op }) (
 -- a command, by the text of its word
 pub data CommandData : Type 0 where
   dumps : CommandData
+  dumps_around : CommandData
   checks : CommandData
+  checks_around : CommandData
   finds : Place → CommandData
   copies : CommandData
   copies_to_5 : (comp_dir : Option Text) → CommandData
@@ -46,7 +52,9 @@ pub data CommandData : Type 0 where
 
 abbrev pub command_seen : Command → CommandData
 command_seen Dump = dumps
+command_seen DumpAround = dumps_around
 command_seen Check = checks
+command_seen CheckAround = checks_around
 command_seen (Find place) = finds place
 command_seen Copy = copies
 command_seen (CopyTo5 comp_dir) = copies_to_5 (option_map (λ s. s.now) comp_dir)
@@ -55,8 +63,10 @@ command_seen (Addr question) = answers question
 -- the command; none where ADDRESS is no address, where a section of an object file is named without FILE, and of
 -- `addr`, which asks for many
 abbrev pub command_asked : Request → Option CommandData
-command_asked (dump file big units line_str str) = Some dumps
-command_asked (check file big units) = Some checks
+command_asked (dump file big units line_str str true) = Some dumps_around
+command_asked (dump file big units line_str str false) = Some dumps
+command_asked (check file big units true) = Some checks_around
+command_asked (check file big units false) = Some checks
 command_asked (find None big units address op (Some section) line_str str) = None
 command_asked (find file big units address op section line_str str) = option_map finds (place_of address op)
 command_asked (copy file big units true comp_dir) = Some (copies_to_5 comp_dir)
@@ -69,8 +79,8 @@ command_of request = if are_sizes (units_of request) then command_asked request 
 
 -- the path of the ELF file
 abbrev pub file_of : Request → Option Text
-file_of (dump file big units line_str str) = file
-file_of (check file big units) = file
+file_of (dump file big units line_str str keep_going) = file
+file_of (check file big units keep_going) = file
 file_of (find file big units address op section line_str str) = file
 file_of (copy file big units to_5 comp_dir) = file
 file_of (addr words) = words.file
@@ -100,9 +110,10 @@ pub record SectionWords : Type 0 where
   pub strings : Option Text
 
 abbrev pub section_of : Request → SectionWords
-section_of (dump file big units line_str str) =
+section_of (dump file big units line_str str keep_going) =
     record { big = big; older = units.older; line_str = line_str; strings = str }
-section_of (check file big units) = record { big = big; older = units.older; line_str = None; strings = None }
+section_of (check file big units keep_going) =
+    record { big = big; older = units.older; line_str = None; strings = None }
 section_of (find file big units address op section line_str str) =
     record { big = big; older = units.older; line_str = line_str; strings = str }
 section_of (copy file big units to_5 comp_dir) =
@@ -124,6 +135,7 @@ is_copy other = false
 -- what a command looks into of a file: the string sections where it prints their texts
 abbrev pub sections_of : Command → Sections
 sections_of Check = Lines
+sections_of CheckAround = Lines
 sections_of Copy = Lines
 sections_of (CopyTo5 comp_dir) = Lines
 sections_of other = LinesAndTexts
@@ -140,22 +152,38 @@ answered (Ok found.All) = Ok NOTHING
 answered (Ok found.NotAll) = Err NotFound
 answered (Err f) = Err f
 
--- what the command answers and writes. bytes: what was read of a section, which has `left` left
-abbrev pub Does : Command → Dialect → Strings → (limit : ℕ) (bytes : List ℕ) (left start now : Option (List ℕ))
-    → Result Summary RunFault → Type 0
-Does Dump dialect s limit bytes left start now answer = Dumps dialect s limit bytes left start now answer
-Does Check dialect s limit bytes left start now answer = Checks dialect limit bytes left start now answer
-Does (Find place) dialect s limit bytes left start now answer = Finds dialect s place limit bytes left start now answer
+-- what is said of a command. start, now: what the output held at first, and holds now; hears: which damaged units were
+-- told of, after which the command goes on; then what it answers, or why it stops
+abbrev pub Outcome : (Reason : Type 0) → Type 1
+Outcome Reason = (start now : Option (List ℕ)) (hears : List Damage → Type 0) → Result Survey Reason → Type 0
+
+-- what a command answered that ends at the first damaged unit, as those answer that go on
+abbrev pub all_whole : Result Summary RunFault → Result Survey RunFault
+all_whole (Ok summary) = Ok (record { summary = summary; damaged = None })
+all_whole (Err f) = Err f
+
+-- the command ends at the first damaged unit, of which its answer tells: it tells of none beside that
+abbrev pub EndsThere : (Answers : Result Summary RunFault → Type 0) (hears : List Damage → Type 0)
+    → Result Survey RunFault → Type 0
+EndsThere Answers hears result =
+    hears [] × (answer : Result Summary RunFault) × (result ≡ all_whole answer) × Answers answer
+
+-- what the command answers, writes and tells. bytes: what was read of a section, which has `left` left
+abbrev pub Does : Command → Dialect → Strings → (limit : ℕ) (bytes : List ℕ) (left : Option (List ℕ)) → Outcome RunFault
+Does Dump dialect s limit bytes left start now = EndsThere (Dumps dialect s limit bytes left start now)
+Does DumpAround dialect s limit bytes left start now = DumpsAround dialect s limit bytes left start now
+Does Check dialect s limit bytes left start now = EndsThere (Checks dialect limit bytes left start now)
+Does CheckAround dialect s limit bytes left start now = ChecksAround dialect limit bytes left start now
+Does (Find place) dialect s limit bytes left start now = EndsThere (Finds dialect s place limit bytes left start now)
 -- units of version 5 alone are copied
-Does Copy dialect s limit bytes left start now answer =
-    Copies (version_5 dialect.order) limit bytes left start now answer
+Does Copy dialect s limit bytes left start now = EndsThere (Copies (version_5 dialect.order) limit bytes left start now)
 -- under headers of version 5, with the directory that is said
-Does (CopyTo5 comp_dir) dialect s limit bytes left start now answer =
+Does (CopyTo5 comp_dir) dialect s limit bytes left start now = EndsThere (λ answer.
     (d : CompilationDirectories) × ((unit : ℕ) → directory_by d unit ≡ option_copied comp_dir)
-    × CopiesAs (to_5 (directory_by d)) dialect limit bytes left start now answer
-Does (Addr question) dialect s limit bytes left start now answer =
+    × CopiesAs (to_5 (directory_by d)) dialect limit bytes left start now answer)
+Does (Addr question) dialect s limit bytes left start now = EndsThere (λ answer.
     (found : Result Found RunFault) × (answer ≡ answered found)
-    × Locates dialect s question limit bytes left start now found
+    × Locates dialect s question limit bytes left start now found)
 
 -- what a command writes where there is no line table: `addr` what it writes of a section without bytes, so that each
 -- address has no answer; the others nothing

@@ -2,6 +2,7 @@
 pub mod Stops
 pub mod Units
 pub mod DebugFile
+pub mod Damages
 pub mod Asked
 pub mod Tables
 pub mod Work

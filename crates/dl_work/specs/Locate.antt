@@ -14,7 +14,7 @@ use Rattle.dl_file.specs.declared.code.Code.{Code}
 use Rattle.dl_cmd.specs.Job.{AddrTexts, Text, addr}
 use Rattle.dl_run.specs.declared.fault.RunFault.{RunFault}
 use Rattle.dl_run.specs.declared.fault.RunFault.TheVariants as fault
-use Rattle.dl_print.specs.declared.summary.Summary.{Summary}
+use Rattle.dl_run.specs.declared.around.Survey.{Survey}
 use Rattle.dl_asked.specs.AskedLines.{IsAsked, StopsAsking, address_by}
 use Rattle.dl_addr.specs.Code.{is_code}
 use Rattle.dl_dirs.specs.Compilation.{directory_by}
@@ -32,6 +32,7 @@ use Rattle.dl_work.specs.declared.located.Located.{Located}
 use Rattle.dl_work.specs.declared.stop.Stop.{Stop}
 use Rattle.dl_work.specs.declared.stop.Stop.TheVariants.{NotAddress, NotUnderstood, Run}
 use Rattle.dl_work.specs.Asked.{WithoutTable, section_of}
+use Rattle.dl_work.specs.Damages.{unheard}
 use Rattle.dl_work.specs.Located.{located}
 use Rattle.dl_work.specs.Stops.{over_file, stop_of}
 use Rattle.dl_work.specs.Tables.{OnFile}
@@ -111,8 +112,9 @@ abbrev pub LocatesInSection : (held : Text → Option (List ℕ)) → AddrTexts
 LocatesInSection held w bytes left start now result =
     ((stop : Stop) × (WordsStop w stop ⊎ (IsNoQuestion w × (stop ≡ NotUnderstood)))
     × StopsBefore bytes start now result stop)
-    ⊎ ((q : Question) × (answer : Result Summary Stop) × (IsNoQuestion w → ⊥) × Asks w (asked_in_words w) (λ a. true) (said_directory w) q
-    × OnInput held (section_of (addr w)) (Addr q) bytes left start now answer × (result ≡ located answer None))
+    ⊎ ((q : Question) × (answer : Result Survey Stop) × (IsNoQuestion w → ⊥) × Asks w (asked_in_words w) (λ a. true)
+    (said_directory w) q
+    × OnInput held (section_of (addr w)) (Addr q) bytes left start now unheard answer × (result ≡ located answer None))
 
 -- ---- the ELF file of a path. f: its bytes
 
@@ -153,11 +155,12 @@ LocatesInFile held fails path w bytes left start now result = ForBytes (held pat
     ⊎ ((stop : FileStop) × (fault : FileFault) × (suits_file w ≡ true) × RefusesOpening w (fails path) f fault
     × IsAt path fault stop × (result ≡ Err (stop_of stop)) × Unanswered w bytes left start now)
     ⊎ ((stop : Stop) × InputStops w (asked_in_words w) bytes stop × (result ≡ Err stop) × Keeps start now)
-    ⊎ ((code : Code) × (lines : AskedLines) × (q : Question) × (answer : Result Summary FileStop)
+    ⊎ ((code : Code) × (lines : AskedLines) × (q : Question) × (answer : Result Survey FileStop)
     × (suits_file w ≡ true) × IsCode f (Ok code) × HasAsked w (asked_in_words w) bytes left lines
     × (found : ℕ → Option (List ℕ)) × AreFound w f found
     × Asks w lines.asked.items (live_by w.all code) (compiled_by w found) q
-    × OnFile (file_units w.units) (fails path) path w.section (Addr q) f start now answer × (result ≡ located (over_file answer) lines.no_address)))
+    × OnFile (file_units w.units) (fails path) path w.section (Addr q) f start now unheard answer
+    × (result ≡ located (over_file answer) lines.no_address)))
 
 -- ---- by the words; a path `-` stands for a section on the input
 

@@ -1,6 +1,6 @@
 -- What came of addresses that were looked up.
 use Rattle.std.specs.Prelude.{Bool, true, false, if◌then◌else◌, Option, Some, None, Result, Ok, Err}
-use Rattle.dl_print.specs.declared.summary.Summary.{Summary}
+use Rattle.dl_run.specs.declared.around.Survey.{Survey}
 use Rattle.dl_run.specs.declared.fault.RunFault.TheVariants.{NotFound}
 use Rattle.dl_asked.specs.declared.asked_lines.OtherLine.{OtherLine}
 use Rattle.dl_addr.specs.declared.question.Found.{Found}
@@ -15,8 +15,8 @@ is_not_found (Run NotFound) = true
 is_not_found other = false
 
 -- by the answer of the command, and the first line that is no address
-abbrev pub located : Result Summary Stop → Option OtherLine → Result Located Stop
-located (Ok summary) line = Ok (record { found = All; no_address = line })
+abbrev pub located : Result Survey Stop → Option OtherLine → Result Located Stop
+located (Ok survey) line = Ok (record { found = All; no_address = line })
 located (Err stop) line = if is_not_found stop then Ok (record { found = NotAll; no_address = line }) else Err stop
 
 -- what is told in the end: the line that is no address, where there is one

@@ -1,7 +1,7 @@
 -- How the program stops: its text, its status, and the stops at an ELF file.
 use Rattle.std.specs.Prelude.{ℕ, List, ◌++◌, codes, decimal, Option, Some, option_map, Result, Ok, Err}
 use Rattle.dl_run.specs.RunText.{run_fault_text, status}
-use Rattle.dl_print.specs.declared.summary.Summary.{Summary}
+use Rattle.dl_run.specs.declared.around.Survey.{Survey}
 use Rattle.dl_open.specs.declared.stop.FileStop.{FileStop}
 use Rattle.dl_open.specs.declared.stop.FileStop.TheVariants as at
 use Rattle.dl_open.specs.Shown.{shown_bytes, shown_word}
@@ -36,6 +36,6 @@ stop_of (at.File path f) = File path f
 stop_of (at.NoSection path name) = NoSection path name
 
 -- what a command over a file answered, as the program answers
-abbrev pub over_file : Result Summary FileStop → Result Summary Stop
-over_file (Ok summary) = Ok summary
+abbrev pub over_file : Result Survey FileStop → Result Survey Stop
+over_file (Ok survey) = Ok survey
 over_file (Err stop) = Err (stop_of stop)

@@ -1,6 +1,8 @@
 -- What the program does with the ELF file of a path. f: its bytes; t: its line table as dl_file defines it. start, now:
--- what the output held at first, and holds now. units: which units of the file are read.
-use Rattle.std.specs.Prelude.{◌≡◌, ◌⊎◌, ℕ, Bool, true, false, ◌&&◌, List, Option, Some, None, Result, Ok, Err, MatchResult}
+-- what the output held at first, and holds now. hears: which damaged units were told of. units: which units of the file
+-- are read.
+use Rattle.std.specs.Prelude.{◌≡◌, ◌⊎◌, ℕ, Bool, true, false, ◌&&◌, List, [], Option, Some, None, Result, Ok, Err}
+use Rattle.std.specs.Prelude.{MatchResult}
 use Rattle.std.specs.Io.KnownBytes.{Consumes}
 use Rattle.std.specs.declared.io.Error.{Error}
 use Rattle.dl_cmd.specs.Job.{Text}
@@ -8,7 +10,8 @@ use Rattle.dl_elf.specs.declared.name.SectionName.{SectionName}
 use Rattle.dl_file.specs.LineTable.{LineTable, Plain}
 use Rattle.dl_run.specs.declared.options.TheConstants.{SECTION_LIMIT}
 use Rattle.dl_run.specs.declared.fault.RunFault.{RunFault}
-use Rattle.dl_print.specs.declared.summary.Summary.{Summary}
+use Rattle.dl_run.specs.declared.around.Damage.{Damage}
+use Rattle.dl_run.specs.declared.around.Survey.{Survey}
 use Rattle.dl_print.specs.ValueText.{Strings}
 use Rattle.dl_open.specs.declared.dialect.FileUnits.{FileUnits}
 use Rattle.dl_open.specs.declared.fault.FileFault.TheVariants.{ObjectCopy}
@@ -19,26 +22,27 @@ use Rattle.dl_open.specs.Stops.{IsAt, StopsAt}
 use Rattle.dl_open.specs.Tables.{HasTable, IsKept, IsWhole, KeepingStops, StringsStop, TableStops, file_dialect}
 use Rattle.dl_open.specs.Tables.{known_bytes, stream_of}
 use Rattle.dl_work.specs.declared.command.Command.{Command}
-use Rattle.dl_work.specs.Asked.{Does, WithoutTable, is_copy, looks_up, sections_of}
+use Rattle.dl_work.specs.Asked.{Does, Outcome, WithoutTable, is_copy, looks_up, sections_of}
 
 -- ---- the command over the line section
 
 -- the program answers what its command answered
-abbrev pub EndsAt : (path : Text) (stream : Option SectionName) → Result Summary RunFault → Result Summary FileStop → Type 0
-EndsAt path stream answer result = MatchResult answer (λ summary. result ≡ Ok summary)
+abbrev pub EndsAt : (path : Text) (stream : Option SectionName) → Result Survey RunFault → Result Survey FileStop
+    → Type 0
+EndsAt path stream answer result = MatchResult answer (λ survey. result ≡ Ok survey)
     (λ f. (stop : FileStop) × (result ≡ Err stop) × StopsAt path stream f stop)
 
 -- the command is done, over the bytes of the line section in the file's order, with the file's string sections. read:
 -- the bytes that it read, of which `left` are left
 pub record RunsOn (units : FileUnits) (path : Text) (command : Command) (t : LineTable) (start now : Option (List ℕ))
-    (result : Result Summary FileStop) : Type 0 where
+    (hears : List Damage → Type 0) (result : Result Survey FileStop) : Type 0 where
   pub strings : Strings
   pub whole : IsWhole t.line_str t.str strings
   pub read : List ℕ
   pub left : Option (List ℕ)
   pub bytes : Consumes (known_bytes t.line) left read
-  pub answer : Result Summary RunFault
-  pub done : Does command (file_dialect units t) strings SECTION_LIMIT read left start now answer
+  pub answer : Result Survey RunFault
+  pub done : Does command (file_dialect units t) strings SECTION_LIMIT read left start now hears answer
   pub ends : EndsAt path (stream_of t.line) answer result
 
 -- the table with these bytes of its line section
@@ -48,48 +52,50 @@ with_bytes t bytes = record t { line = Plain bytes }
 -- ---- the command over the line section, or over a part of it
 
 -- the program stops before its command
-abbrev pub StopsEarly : Command → (FileStop → Type 0) → (start now : Option (List ℕ)) → Result Summary FileStop → Type 0
-StopsEarly command Reason start now result =
-    (stop : FileStop) × (result ≡ Err stop) × Reason stop × WithoutTable command start now
+abbrev pub StopsEarly : Command → (FileStop → Type 0) → Outcome FileStop
+StopsEarly command Reason start now hears result =
+    (stop : FileStop) × (result ≡ Err stop) × Reason stop × WithoutTable command start now × hears []
 
-abbrev pub OnLines : FileUnits → (path : Text) → Command → LineTable → Option Part → (start now : Option (List ℕ))
-    → Result Summary FileStop → Type 0
-OnLines units path command t None start now result = RunsOn units path command t start now result
-OnLines units path command t (Some part) start now result =
-    StopsEarly command (KeepingStops path (file_dialect units t) part t.line) start now result
+abbrev pub OnLines : FileUnits → (path : Text) → Command → LineTable → Option Part → Outcome FileStop
+OnLines units path command t None start now hears result = RunsOn units path command t start now hears result
+OnLines units path command t (Some part) start now hears result =
+    StopsEarly command (KeepingStops path (file_dialect units t) part t.line) start now hears result
     ⊎ ((kept : List ℕ) × IsKept (file_dialect units t) part t.line kept
-    × RunsOn units path command (with_bytes t kept) start now result)
+    × RunsOn units path command (with_bytes t kept) start now hears result)
 
 -- an object file isn't copied
 abbrev pub OnTableWhere : (is_object_copy : Bool) → FileUnits → (path : Text) → Command → LineTable → Option Part
-    → (start now : Option (List ℕ)) → Result Summary FileStop → Type 0
-OnTableWhere true units path command t part start now result = StopsEarly command (IsAt path ObjectCopy) start now result
-OnTableWhere false units path command t part start now result =
-    StopsEarly command (StringsStop path t.line_str t.str) start now result
-    ⊎ OnLines units path command t part start now result
+    → Outcome FileStop
+OnTableWhere true units path command t part start now hears result =
+    StopsEarly command (IsAt path ObjectCopy) start now hears result
+OnTableWhere false units path command t part start now hears result =
+    StopsEarly command (StringsStop path t.line_str t.str) start now hears result
+    ⊎ OnLines units path command t part start now hears result
 
-abbrev pub OnTable : FileUnits → (path : Text) → Command → LineTable → Option Part → (start now : Option (List ℕ))
-    → Result Summary FileStop → Type 0
+abbrev pub OnTable : FileUnits → (path : Text) → Command → LineTable → Option Part → Outcome FileStop
 OnTable units path command t part = OnTableWhere (is_copy command && t.is_object_file) units path command t part
 
 -- ---- the file. fails: the errors that opening and reading it may give; name: the section that is looked into
 
 -- all sequences answer, but where addresses are looked up: then those of a part
-abbrev pub OnFoundWhere : (looks_up : Bool) → FileUnits → (fails : Error → Type 0) (path : Text) (name : Option Text) → Command
-    → (f : List ℕ) → LineTable → (start now : Option (List ℕ)) → Result Summary FileStop → Type 0
-OnFoundWhere false units fails path name command f t start now result = OnTable units path command t None start now result
-OnFoundWhere true units fails path name command f t start now result =
-    StopsEarly command (PartStops fails path f t.is_object_file name) start now result
-    ⊎ ((part : Option Part) × IsPart f t.is_object_file name part × OnTable units path command t part start now result)
+abbrev pub OnFoundWhere : (looks_up : Bool) → FileUnits → (fails : Error → Type 0) (path : Text) (name : Option Text)
+    → Command → (f : List ℕ) → LineTable → Outcome FileStop
+OnFoundWhere false units fails path name command f t start now hears result =
+    OnTable units path command t None start now hears result
+OnFoundWhere true units fails path name command f t start now hears result =
+    StopsEarly command (PartStops fails path f t.is_object_file name) start now hears result
+    ⊎ ((part : Option Part) × IsPart f t.is_object_file name part
+    × OnTable units path command t part start now hears result)
 
-abbrev pub OnFound : FileUnits → (fails : Error → Type 0) (path : Text) (name : Option Text) → Command → (f : List ℕ) → LineTable
-    → (start now : Option (List ℕ)) → Result Summary FileStop → Type 0
+abbrev pub OnFound : FileUnits → (fails : Error → Type 0) (path : Text) (name : Option Text) → Command → (f : List ℕ)
+    → LineTable → Outcome FileStop
 OnFound units fails path name command f t = OnFoundWhere (looks_up command) units fails path name command f t
 
 -- ---- what is done
 
-abbrev pub OnFile : FileUnits → (fails : Error → Type 0) (path : Text) (name : Option Text) → Command
-    → (f : List ℕ) (start now : Option (List ℕ)) → Result Summary FileStop → Type 0
-OnFile units fails path name command f start now result =
-    StopsEarly command (TableStops units fails path (sections_of command) f) start now result
-    ⊎ ((t : LineTable) × HasTable units (sections_of command) f t × OnFound units fails path name command f t start now result)
+abbrev pub OnFile : FileUnits → (fails : Error → Type 0) (path : Text) (name : Option Text) → Command → (f : List ℕ)
+    → Outcome FileStop
+OnFile units fails path name command f start now hears result =
+    StopsEarly command (TableStops units fails path (sections_of command) f) start now hears result
+    ⊎ ((t : LineTable) × HasTable units (sections_of command) f t
+    × OnFound units fails path name command f t start now hears result)

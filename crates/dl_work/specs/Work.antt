@@ -1,13 +1,14 @@
 -- What the program does for a request. bytes: what was read of the input, which has `left` left. start, now: what the
--- output held at first, and holds now. held: what the file of a path holds, where that is known; fails: the errors that
--- opening and reading it may give.
+-- output held at first, and holds now. hears: which damaged units were told of. held: what the file of a path holds,
+-- where that is known; fails: the errors that opening and reading it may give.
 use Rattle.std.specs.Prelude.{◌≡◌, ◌⊎◌, ℕ, List, [], Option, Some, None, MatchOption, Result, Ok, Err}
 use Rattle.std.specs.Io.KnownBytes.{Keeps}
 use Rattle.std.specs.declared.io.Error.{Error}
 use Rattle.dl_elf.specs.Source.{ForBytes}
 use Rattle.dl_run.specs.declared.options.TheConstants.{SECTION_LIMIT}
 use Rattle.dl_run.specs.declared.fault.RunFault.{RunFault}
-use Rattle.dl_print.specs.declared.summary.Summary.{Summary}
+use Rattle.dl_run.specs.declared.around.Damage.{Damage}
+use Rattle.dl_run.specs.declared.around.Survey.{Survey}
 use Rattle.dl_cmd.specs.Job.{Request, Text}
 use Rattle.dl_print.specs.ValueText.{Strings}
 use Rattle.dl_open.specs.declared.stop.FileStop.{FileStop}
@@ -15,7 +16,8 @@ use Rattle.dl_open.specs.Files.{FilesStop, StringsAre}
 use Rattle.dl_work.specs.declared.command.Command.{Command}
 use Rattle.dl_work.specs.declared.stop.Stop.{Stop}
 use Rattle.dl_work.specs.declared.stop.Stop.TheVariants.{NotUnderstood, Run}
-use Rattle.dl_work.specs.Asked.{Does, SectionWords, command_of, command_seen, file_of, dialect_of, part_name_of, section_of}
+use Rattle.dl_work.specs.Asked.{Does, Outcome, SectionWords, command_of, command_seen, file_of, dialect_of}
+use Rattle.dl_work.specs.Asked.{part_name_of, section_of}
 use Rattle.dl_work.specs.Stops.{over_file}
 use Rattle.dl_work.specs.Tables.{OnFile}
 use Rattle.dl_open.specs.declared.dialect.FileUnits.{FileUnits}
@@ -26,35 +28,43 @@ abbrev pub StopsBefore : {A : Type 0} → (bytes : List ℕ) (start now : Option
     → Type 0
 StopsBefore bytes start now result stop = (result ≡ Err stop) × (bytes ≡ []) × Keeps start now
 
+-- the same, and no damaged unit is told of
+abbrev pub StopsUntold : (bytes : List ℕ) (start now : Option (List ℕ)) (hears : List Damage → Type 0)
+    (result : Result Survey Stop) → Stop → Type 0
+StopsUntold bytes start now hears result stop = StopsBefore bytes start now result stop × hears []
+
 -- a command's answer, its fault being the reason to stop
-abbrev pub stopped : Result Summary RunFault → Result Summary Stop
-stopped (Ok summary) = Ok summary
+abbrev pub stopped : Result Survey RunFault → Result Survey Stop
+stopped (Ok survey) = Ok survey
 stopped (Err f) = Err (Run f)
 
 -- over a section on the input: the command is done with the string sections that are named, unless these stop the
 -- program
-abbrev pub OnInput : (held : Text → Option (List ℕ)) → SectionWords → Command
-    → (bytes : List ℕ) (left start now : Option (List ℕ)) → Result Summary Stop → Type 0
-OnInput held section command bytes left start now result =
+abbrev pub OnInput : (held : Text → Option (List ℕ)) → SectionWords → Command → (bytes : List ℕ)
+    (left : Option (List ℕ))
+    → Outcome Stop
+OnInput held section command bytes left start now hears result =
     ((s : Strings) × StringsAre held section.line_str section.strings s
-    × (answer : Result Summary RunFault) × (result ≡ stopped answer)
-    × Does command (dialect_of section) s SECTION_LIMIT bytes left start now answer)
-    ⊎ ((f : RunFault) × FilesStop held section.line_str section.strings f × StopsBefore bytes start now result (Run f))
+    × (answer : Result Survey RunFault) × (result ≡ stopped answer)
+    × Does command (dialect_of section) s SECTION_LIMIT bytes left start now hears answer)
+    ⊎ ((f : RunFault) × FilesStop held section.line_str section.strings f
+    × StopsUntold bytes start now hears result (Run f))
 
 -- over the ELF file of a path: nothing is read of the input. units: which units are read; name: the section that is
 -- looked into
 abbrev pub OnNamed : (held : Text → Option (List ℕ)) (fails : Text → Error → Type 0) → FileUnits → Text
-    → (name : Option Text) → Command → (bytes : List ℕ) (start now : Option (List ℕ)) → Result Summary Stop → Type 0
-OnNamed held fails units path name command bytes start now result =
-    (bytes ≡ []) × (answer : Result Summary FileStop) × (result ≡ over_file answer)
-    × ForBytes (held path) (λ f. OnFile units (fails path) path name command f start now answer)
+    → (name : Option Text) → Command → (bytes : List ℕ) → Outcome Stop
+OnNamed held fails units path name command bytes start now hears result =
+    (bytes ≡ []) × (answer : Result Survey FileStop) × (result ≡ over_file answer)
+    × ForBytes (held path) (λ f. OnFile units (fails path) path name command f start now hears answer)
 
 -- what is done for a request
 abbrev pub Works : (held : Text → Option (List ℕ)) (fails : Text → Error → Type 0) → Option Request
-    → (bytes : List ℕ) (left start now : Option (List ℕ)) → Result Summary Stop → Type 0
-Works held fails None bytes left start now result = StopsBefore bytes start now result NotUnderstood
-Works held fails (Some request) bytes left start now result =
-    MatchOption (command_of request) (StopsBefore bytes start now result NotUnderstood)
+    → (bytes : List ℕ) (left : Option (List ℕ)) → Outcome Stop
+Works held fails None bytes left start now hears result = StopsUntold bytes start now hears result NotUnderstood
+Works held fails (Some request) bytes left start now hears result =
+    MatchOption (command_of request) (StopsUntold bytes start now hears result NotUnderstood)
     (λ seen. (command : Command) × (command_seen command ≡ seen)
-    × MatchOption (file_of request) (OnInput held (section_of request) command bytes left start now result)
-    (λ path. OnNamed held fails (file_units (units_of request)) path (part_name_of request) command bytes start now result))
+    × MatchOption (file_of request) (OnInput held (section_of request) command bytes left start now hears result)
+    (λ path. OnNamed held fails (file_units (units_of request)) path (part_name_of request) command bytes start now
+    hears result))

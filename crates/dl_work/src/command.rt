@@ -1,12 +1,12 @@
 //! What is asked of a line table.
-ghost use Rattle.std.specs.Prelude.{◌≡◌, ◌≤◌, ◌&&◌, ℕ, List, option_map};
+ghost use Rattle.std.specs.Prelude.{◌≡◌, ◌≤◌, ◌&&◌, ℕ, List, [], option_map};
 ghost use Rattle.std.specs.Option.{option_copied};
 ghost use Rattle.std.specs.Io.KnownBytes.{Consumes};
 ghost use Rattle.dl_run.specs.Commands.{strings_in};
 ghost use Rattle.dl_cmd.specs.Job.{request_made};
 ghost use Rattle.dl_dirs.specs.Compilation.{directory_by};
 ghost use Rattle.dl_work.specs.Asked.{Does, WithoutTable, answered, command_asked, command_seen, command_of, is_copy, looks_up, place_of};
-ghost use Rattle.dl_work.specs.Asked.{sections_of};
+ghost use Rattle.dl_work.specs.Asked.{all_whole, sections_of};
 
 use crate::unit_words::{are_sizes, units_of};
 use dl_addr::{Found, Question, addr};
@@ -16,7 +16,10 @@ use dl_head::{Dialect, Older};
 use dl_look::Place;
 use dl_num::Order;
 use dl_open::Sections;
-use dl_run::{Options, RunFault, SECTION_LIMIT, Summary, check, copy, copy_to_5, dump, find};
+use dl_run::{
+    DamageSink, Options, RunFault, SECTION_LIMIT, Summary, Survey, check, check_around, copy,
+    copy_to_5, dump, dump_around, find,
+};
 use std::alloc::Global;
 use std::io::{Read, Write};
 
@@ -44,8 +47,12 @@ const NO_STRINGS: Options<'static> = Options {
 pub enum Command<'a> {
     /// Print all units.
     Dump,
+    /// Print all units, those that are damaged as far as they are not, and tell of these.
+    DumpAround,
     /// Count units, sequences and rows.
     Check,
+    /// Count them, and the units that are damaged, and tell of these.
+    CheckAround,
     /// Look up a place.
     Find(Place),
     /// Write all units anew.
@@ -87,6 +94,19 @@ fn answered(found: Result<Found, RunFault>) -> Result<Summary, RunFault>
     }
 }
 
+/// What a command answered that ends at the first damaged unit, as those answer that go on.
+fn all_whole(answer: Result<Summary, RunFault>) -> Result<Survey, RunFault>
+    ensures { result ≡ all_whole answer }
+{
+    match answer {
+        Ok(summary) => Ok(Survey {
+            summary,
+            damaged: None,
+        }),
+        Err(fault) => Err(fault),
+    }
+}
+
 impl<'a> Command<'a> {
     /// What a job asks; None where its ADDRESS is no address or a size no size, where it names a section of an object
     /// file without a file, and of `addr`, which asks for many.
@@ -104,7 +124,15 @@ impl<'a> Command<'a> {
         ensures { option_map command_seen result ≡ command_asked (request_made job.now) }
     {
         match job {
+            Job::Dump {
+                keep_going: true,
+                ..
+            } => Some(Command::DumpAround),
             Job::Dump { .. } => Some(Command::Dump),
+            Job::Check {
+                keep_going: true,
+                ..
+            } => Some(Command::CheckAround),
             Job::Check { .. } => Some(Command::Check),
             Job::Find {
                 file: None,
@@ -127,8 +155,12 @@ impl<'a> Command<'a> {
         ensures { result ≡ sections_of self.entry }
     {
         match self {
-            Command::Dump | Command::Find(_) | Command::Addr(_) => Sections::LinesAndTexts,
-            Command::Check | Command::Copy | Command::CopyTo5(_) => Sections::Lines,
+            Command::Dump | Command::DumpAround | Command::Find(_) | Command::Addr(_) => {
+                Sections::LinesAndTexts
+            }
+            Command::Check | Command::CheckAround | Command::Copy | Command::CopyTo5(_) => {
+                Sections::Lines
+            }
         }
     }
 
@@ -158,29 +190,35 @@ impl<'a> Command<'a> {
         }
     }
 
-    /// Works through the section.
-    pub fn run<R: Read, W: Write>(
+    /// Works through the section, and tells of the units that are damaged where it goes on after them.
+    pub fn run<R: Read, W: Write, D: DamageSink>(
         self,
         alloc: Global,
         input: &mut R,
         output: &mut W,
         options: &Options<'_>,
-    ) -> Result<Summary, RunFault>
+        damages: &mut D,
+    ) -> Result<Survey, RunFault>
         requires { options.now.limit ≤ SECTION_LIMIT }
         ensures { (bytes : List ℕ) × Consumes (R.remaining input.old) (R.remaining input.new) bytes
-            × Does self.entry options.now.dialect (strings_in options.now) options.now.limit bytes
-            (R.remaining input.new)
-            (W.contents output.old) (W.contents output.new) result }
+            × (D.hears damages.old damages.old [] → Does self.entry options.now.dialect (strings_in options.now)
+            options.now.limit bytes (R.remaining input.new) (W.contents output.old) (W.contents output.new)
+            (D.hears damages.old damages.new) result) }
     {
         match self {
-            Command::Dump => dump(alloc, input, output, options),
-            Command::Check => check(alloc, input, output, options),
-            Command::Find(place) => find(alloc, input, output, place, options),
-            Command::Copy => copy(alloc, input, output, options),
+            Command::DumpAround => dump_around(alloc, input, output, options, damages),
+            Command::CheckAround => check_around(alloc, input, output, options, damages),
+            Command::Dump => all_whole(dump(alloc, input, output, options)),
+            Command::Check => all_whole(check(alloc, input, output, options)),
+            Command::Find(place) => all_whole(find(alloc, input, output, place, options)),
+            Command::Copy => all_whole(copy(alloc, input, output, options)),
             Command::CopyTo5(directory) => {
-                copy_to_5(alloc, input, output, directory_said(directory), options)
+                let directories = directory_said(directory);
+                all_whole(copy_to_5(alloc, input, output, directories, options))
             }
-            Command::Addr(question) => answered(addr(alloc, input, output, &question, options)),
+            Command::Addr(question) => {
+                all_whole(answered(addr(alloc, input, output, &question, options)))
+            }
         }
     }
 }

@@ -5,6 +5,7 @@ mod addr_words;
 mod code;
 mod command;
 mod compiled;
+mod damages;
 mod debug_file;
 mod located;
 mod locating;
@@ -14,6 +15,7 @@ mod stop;
 mod unit_words;
 mod working;
 
+pub use damages::DamageLines;
 pub use debug_file::with_debug_file;
 pub use located::Located;
 pub use locating::locate;

@@ -6,7 +6,7 @@ ghost use Rattle.dl_work.specs.Located.{is_not_found};
 use crate::stop::Stop;
 use dl_addr::Found;
 use dl_asked::OtherLine;
-use dl_run::{RunFault, Summary};
+use dl_run::{RunFault, Survey};
 
 /// What came of addresses that were looked up.
 #[derive(Debug, Drop)]
@@ -30,13 +30,13 @@ impl Located {
 
     /// By the answer of the command, and the first line that is no address.
     pub(crate) fn by_answer<'a>(
-        answer: Result<Summary, Stop<'a>>,
+        answer: Result<Survey, Stop<'a>>,
         no_address: Option<OtherLine>,
     ) -> Result<Located, Stop<'a>>
         ensures { result ≡ located answer.entry no_address }
     {
         match answer {
-            Ok(_summary) => Ok(Located {
+            Ok(_survey) => Ok(Located {
                 found: Found::All,
                 no_address,
             }),

@@ -19,6 +19,7 @@ use crate::addr_words::{
 use crate::code::{everywhere, live_in};
 use crate::command::Command;
 use crate::compiled::{compiled_in, directories_for};
+use crate::damages::Unheard;
 use crate::located::Located;
 use crate::over_file::on_file;
 use crate::over_input::{Section, on_input};
@@ -87,7 +88,7 @@ fn in_section<'a, F: FileSource, R: Read, W: Write>(
         everywhere(),
         said_directory(words),
     ));
-    let answer = on_input(alloc, files, section, command, input, output);
+    let answer = on_input(alloc, files, section, command, input, output, &mut Unheard);
     Located::by_answer(answer, None)
 }
 
@@ -175,7 +176,16 @@ fn in_file<'a, F: FileSource, R: Read, W: Write>(
         compiled_in(words, &directories),
     ));
     let units = units_of_file(words.units);
-    let answer = on_file(alloc, path, &file, units, words.section, command, output);
+    let answer = on_file(
+        alloc,
+        path,
+        &file,
+        units,
+        words.section,
+        command,
+        output,
+        &mut Unheard,
+    );
     Located::by_answer(over_file(answer), lines.no_address)
 }
 

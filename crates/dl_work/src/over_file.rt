@@ -1,5 +1,5 @@
 //! Commands over an ELF file.
-ghost use Rattle.std.specs.Prelude.{◌≡◌, option_map};
+ghost use Rattle.std.specs.Prelude.{◌≡◌, [], option_map};
 ghost use Rattle.std.specs.Option.{option_copied};
 ghost use Rattle.dl_elf.specs.Source.{ForBytes};
 ghost use Rattle.dl_file.specs.LineTable.{GivesLine, GivesTable, LineTable, Plain};
@@ -15,54 +15,58 @@ use dl_open::{
     FileFault, FileStop, FileUnits, Part, StringSections, file_dialect, kept_bytes, open_table,
     part_of,
 };
-use dl_run::{Options, SECTION_LIMIT, Summary};
+use dl_run::{DamageSink, Options, SECTION_LIMIT, Survey};
 use std::alloc::Global;
 use std::io::Write;
 
 /// Works through the line section of the file at this path.
-fn on_section<'p, S: ReadAt, W: Write>(
+fn on_section<'p, S: ReadAt, W: Write, D: DamageSink>(
     alloc: Global,
     path: &'p str,
     command: Command<'_>,
     line: &mut LineReader<'_, S>,
     options: &Options<'_>,
     output: &mut W,
-) -> Result<Summary, FileStop<'p>>
+    damages: &mut D,
+) -> Result<Survey, FileStop<'p>>
     requires { options.now.limit ≡ SECTION_LIMIT }
     ensures { (units : FileUnits) (t : LineTable) → GivesLine S.all_bytes line.old t.line → options.now.dialect ≡ file_dialect units t
-        → IsWhole t.line_str t.str (strings_in options.now) → RunsOn units path.entry.now command.entry t
-        (W.contents output.old) (W.contents output.new) result }
+        → IsWhole t.line_str t.str (strings_in options.now) → D.hears damages.old damages.old []
+        → RunsOn units path.entry.now command.entry t (W.contents output.old) (W.contents output.new)
+        (D.hears damages.old damages.new) result }
 {
     let stream = line.stream_name();
-    match command.run(alloc, line, output, options) {
-        Ok(summary) => Ok(summary),
+    match command.run(alloc, line, output, options, damages) {
+        Ok(survey) => Ok(survey),
         Err(fault) => Err(FileStop::at(path, stream, fault, line.last_fault())),
     }
 }
 
 /// Works through what is left of the line section of the object file at this path.
-fn on_kept<'p, W: Write>(
+fn on_kept<'p, W: Write, D: DamageSink>(
     alloc: Global,
     path: &'p str,
     command: Command<'_>,
     bytes: &[u8],
     options: &Options<'_>,
     output: &mut W,
-) -> Result<Summary, FileStop<'p>>
+    damages: &mut D,
+) -> Result<Survey, FileStop<'p>>
     requires { options.now.limit ≡ SECTION_LIMIT }
     ensures { (units : FileUnits) (t : LineTable) → t.line ≡ Plain bytes.now → options.now.dialect ≡ file_dialect units t
-        → IsWhole t.line_str t.str (strings_in options.now) → RunsOn units path.entry.now command.entry t
-        (W.contents output.old) (W.contents output.new) result }
+        → IsWhole t.line_str t.str (strings_in options.now) → D.hears damages.old damages.old []
+        → RunsOn units path.entry.now command.entry t (W.contents output.old) (W.contents output.new)
+        (D.hears damages.old damages.new) result }
 {
     let mut input = bytes;
-    match command.run(alloc, &mut input, output, options) {
-        Ok(summary) => Ok(summary),
+    match command.run(alloc, &mut input, output, options, damages) {
+        Ok(survey) => Ok(survey),
         Err(fault) => Err(FileStop::at(path, None, fault, None)),
     }
 }
 
 /// Works through the line section of the file at this path, or through the sequences of a part of it.
-fn on_lines<'p, S: ReadAt, W: Write>(
+fn on_lines<'p, S: ReadAt, W: Write, D: DamageSink>(
     alloc: Global,
     path: &'p str,
     command: Command<'_>,
@@ -70,17 +74,27 @@ fn on_lines<'p, S: ReadAt, W: Write>(
     line: &mut LineReader<'_, S>,
     options: &Options<'_>,
     output: &mut W,
-) -> Result<Summary, FileStop<'p>>
+    damages: &mut D,
+) -> Result<Survey, FileStop<'p>>
     requires { options.now.limit ≡ SECTION_LIMIT }
     ensures { (units : FileUnits) (t : LineTable) → GivesLine S.all_bytes line.old t.line → options.now.dialect ≡ file_dialect units t
-        → IsWhole t.line_str t.str (strings_in options.now) → OnLines units path.entry.now command.entry t
-        (option_copied part.entry) (W.contents output.old) (W.contents output.new) result }
+        → IsWhole t.line_str t.str (strings_in options.now) → D.hears damages.old damages.old []
+        → OnLines units path.entry.now command.entry t (option_copied part.entry) (W.contents output.old)
+        (W.contents output.new) (D.hears damages.old damages.new) result }
 {
     let Some(part) = part else {
-        return on_section(alloc, path, command, line, options, output);
+        return on_section(alloc, path, command, line, options, output, damages);
     };
     match kept_bytes(alloc, path, options.dialect, part, line) {
-        Ok(bytes) => on_kept(alloc, path, command, bytes.as_slice(), options, output),
+        Ok(bytes) => on_kept(
+            alloc,
+            path,
+            command,
+            bytes.as_slice(),
+            options,
+            output,
+            damages,
+        ),
         Err(stop) => {
             command.without_table(alloc, output);
             Err(stop)
@@ -89,7 +103,7 @@ fn on_lines<'p, S: ReadAt, W: Write>(
 }
 
 /// Does what is asked of the line table of the file at this path, which is opened, or of a part of it.
-fn on_table<'p, S: ReadAt, W: Write>(
+fn on_table<'p, S: ReadAt, W: Write, D: DamageSink>(
     alloc: Global,
     path: &'p str,
     command: Command<'_>,
@@ -97,9 +111,11 @@ fn on_table<'p, S: ReadAt, W: Write>(
     table: LineFile<'_, S>,
     part: Option<&Part>,
     output: &mut W,
-) -> Result<Summary, FileStop<'p>>
-    ensures { (t : LineTable) → GivesTable S.all_bytes table.entry t → OnTable units path.entry.now command.entry t
-        (option_copied part.entry) (W.contents output.old) (W.contents output.new) result }
+    damages: &mut D,
+) -> Result<Survey, FileStop<'p>>
+    ensures { (t : LineTable) → GivesTable S.all_bytes table.entry t → D.hears damages.old damages.old []
+        → OnTable units path.entry.now command.entry t (option_copied part.entry) (W.contents output.old)
+        (W.contents output.new) (D.hears damages.old damages.new) result }
 {
     let LineFile {
         order,
@@ -125,12 +141,14 @@ fn on_table<'p, S: ReadAt, W: Write>(
         }
     };
     let options = strings.options(file_dialect(order, class, units));
-    on_lines(alloc, path, command, part, &mut line, &options, output)
+    on_lines(
+        alloc, path, command, part, &mut line, &options, output, damages,
+    )
 }
 
 /// Does what is asked of the line table of the file at this path, whose table was found. Addresses are looked up in the
 /// section of this name.
-fn on_found<'p, S: ReadAt, W: Write>(
+fn on_found<'p, S: ReadAt, W: Write, D: DamageSink>(
     alloc: Global,
     path: &'p str,
     file: &S,
@@ -139,16 +157,27 @@ fn on_found<'p, S: ReadAt, W: Write>(
     command: Command<'_>,
     table: LineFile<'_, S>,
     output: &mut W,
-) -> Result<Summary, FileStop<'p>>
+    damages: &mut D,
+) -> Result<Survey, FileStop<'p>>
     ensures { ForBytes (S.all_bytes file.now) (λ f. (t : LineTable) → GivesTable S.all_bytes table.entry t
-        → OnFound units (S.fails_with file.now) path.entry.now (option_map (λ s. s.now) section.entry) command.entry f t
-        (W.contents output.old) (W.contents output.new) result) }
+        → D.hears damages.old damages.old [] → OnFound units (S.fails_with file.now) path.entry.now
+        (option_map (λ s. s.now) section.entry) command.entry f t (W.contents output.old) (W.contents output.new)
+        (D.hears damages.old damages.new) result) }
 {
     if !command.looks_up() {
-        return on_table(alloc, path, command, units, table, None, output);
+        return on_table(alloc, path, command, units, table, None, output, damages);
     }
     match part_of(alloc, path, file, table.is_object, section) {
-        Ok(part) => on_table(alloc, path, command, units, table, part.as_ref(), output),
+        Ok(part) => on_table(
+            alloc,
+            path,
+            command,
+            units,
+            table,
+            part.as_ref(),
+            output,
+            damages,
+        ),
         Err(stop) => {
             command.without_table(alloc, output);
             Err(stop)
@@ -159,7 +188,7 @@ fn on_found<'p, S: ReadAt, W: Write>(
 /// Does what is asked of the line table of the file at this path, which is open. In an object file addresses are looked
 /// up in the section of this name, or where none is named in that of its code. Where the table can't be had, `addr`
 /// says of each address that it has no answer.
-pub fn on_file<'p, S: ReadAt, W: Write>(
+pub fn on_file<'p, S: ReadAt, W: Write, D: DamageSink>(
     alloc: Global,
     path: &'p str,
     file: &S,
@@ -167,13 +196,16 @@ pub fn on_file<'p, S: ReadAt, W: Write>(
     section: Option<&'p str>,
     command: Command<'_>,
     output: &mut W,
-) -> Result<Summary, FileStop<'p>>
-    ensures { ForBytes (S.all_bytes file.now) (λ f. OnFile units (S.fails_with file.now) path.entry.now
-        (option_map (λ s. s.now) section.entry) command.entry f (W.contents output.old)
-        (W.contents output.new) result) }
+    damages: &mut D,
+) -> Result<Survey, FileStop<'p>>
+    ensures { D.hears damages.old damages.old [] → ForBytes (S.all_bytes file.now) (λ f. OnFile units
+        (S.fails_with file.now) path.entry.now (option_map (λ s. s.now) section.entry) command.entry f
+        (W.contents output.old) (W.contents output.new) (D.hears damages.old damages.new) result) }
 {
     match open_table(alloc, path, file, units, command.sections()) {
-        Ok(table) => on_found(alloc, path, file, units, section, command, table, output),
+        Ok(table) => on_found(
+            alloc, path, file, units, section, command, table, output, damages,
+        ),
         Err(stop) => {
             command.without_table(alloc, output);
             Err(stop)

@@ -1,5 +1,5 @@
 //! Commands over a section that comes on the input.
-ghost use Rattle.std.specs.Prelude.{◌≡◌, ℕ, List};
+ghost use Rattle.std.specs.Prelude.{◌≡◌, ℕ, List, []};
 ghost use Rattle.std.specs.Io.KnownBytes.{Consumes};
 ghost use Rattle.dl_work.specs.Held.{section_seen};
 ghost use Rattle.dl_work.specs.Work.{OnInput, stopped};
@@ -10,7 +10,7 @@ use crate::unit_words::older_by;
 use dl_head::Dialect;
 use dl_num::Order;
 use dl_open::{FileSource, StringSections};
-use dl_run::{RunFault, Summary};
+use dl_run::{DamageSink, RunFault, Survey};
 use std::alloc::Global;
 use std::io::{Read, Write};
 
@@ -42,32 +42,34 @@ impl Section<'_> {
 }
 
 /// A command's answer, its fault being the reason to stop.
-fn stopped<'a>(answer: Result<Summary, RunFault>) -> Result<Summary, Stop<'a>>
+fn stopped<'a>(answer: Result<Survey, RunFault>) -> Result<Survey, Stop<'a>>
     ensures { result ≡ stopped answer }
 {
     match answer {
-        Ok(summary) => Ok(summary),
+        Ok(survey) => Ok(survey),
         Err(fault) => Err(Stop::Run(fault)),
     }
 }
 
 /// Does what is asked of the section on the input. The string sections are read first.
-pub fn on_input<'p, F: FileSource, R: Read, W: Write>(
+pub fn on_input<'p, F: FileSource, R: Read, W: Write, D: DamageSink>(
     alloc: Global,
     files: &F,
     section: Section<'_>,
     command: Command<'_>,
     input: &mut R,
     output: &mut W,
-) -> Result<Summary, Stop<'p>>
+    damages: &mut D,
+) -> Result<Survey, Stop<'p>>
     ensures { (bytes : List ℕ) × Consumes (R.remaining input.old) (R.remaining input.new) bytes
-        × OnInput (F.held files.now) (section_seen section.entry) command.entry bytes (R.remaining input.new)
-        (W.contents output.old) (W.contents output.new) result }
+        × (D.hears damages.old damages.old [] → OnInput (F.held files.now) (section_seen section.entry) command.entry
+        bytes (R.remaining input.new) (W.contents output.old) (W.contents output.new)
+        (D.hears damages.old damages.new) result) }
 {
     match StringSections::of_files(alloc, files, section.line_str, section.strings) {
         Ok(strings) => {
             let options = strings.options(section.dialect());
-            stopped(command.run(alloc, input, output, &options))
+            stopped(command.run(alloc, input, output, &options, damages))
         }
         Err(fault) => Err(Stop::Run(fault)),
     }

@@ -6,7 +6,7 @@ ghost use Rattle.dl_work.specs.Stops.{over_file, stop_of, stop_status, stop_text
 
 use dl_asked::OtherLine;
 use dl_open::{FileFault, FileStop, Shown, ShownBytes};
-use dl_run::{RunFault, Summary};
+use dl_run::{RunFault, Survey};
 use std::io::Write;
 use std::{fmt, io};
 
@@ -62,11 +62,11 @@ impl<'a> From<FileStop<'a>> for Stop<'a> {
 }
 
 /// What a command over a file answered, as the program answers.
-pub fn over_file<'a>(answer: Result<Summary, FileStop<'a>>) -> Result<Summary, Stop<'a>>
+pub fn over_file<'a>(answer: Result<Survey, FileStop<'a>>) -> Result<Survey, Stop<'a>>
     ensures { result ≡ over_file answer.entry }
 {
     match answer {
-        Ok(summary) => Ok(summary),
+        Ok(survey) => Ok(survey),
         Err(stop) => Err(Stop::from(stop)),
     }
 }

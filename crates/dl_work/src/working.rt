@@ -1,5 +1,5 @@
 //! What the program does for a job.
-ghost use Rattle.std.specs.Prelude.{◌≡◌, ℕ, List, option_map};
+ghost use Rattle.std.specs.Prelude.{◌≡◌, ℕ, List, [], option_map};
 ghost use Rattle.std.specs.Io.KnownBytes.{Consumes};
 ghost use Rattle.dl_cmd.specs.Job.{request_made};
 ghost use Rattle.dl_work.specs.Asked.{file_of, looked_into, part_name_of, section_of};
@@ -16,7 +16,7 @@ use crate::stop::{Stop, over_file};
 use crate::unit_words::file_units;
 use dl_cmd::Job;
 use dl_open::{FileSource, FileStop, FileUnits, open_file};
-use dl_run::Summary;
+use dl_run::{DamageSink, Survey};
 use std::alloc::Global;
 use std::io::{Read, Write};
 
@@ -95,7 +95,7 @@ fn section<'a>(job: &Job<'a>) -> Section<'a>
 }
 
 /// Does what is asked of the line table of the file at this path. Addresses are looked up in the section of this name.
-fn on_named<'p, F: FileSource, W: Write>(
+fn on_named<'p, F: FileSource, W: Write, D: DamageSink>(
     alloc: Global,
     files: &F,
     path: &'p str,
@@ -103,12 +103,14 @@ fn on_named<'p, F: FileSource, W: Write>(
     section: Option<&'p str>,
     command: Command<'_>,
     output: &mut W,
-) -> Result<Summary, FileStop<'p>>
-    ensures { ForBytes (F.held files.now path.entry.now) (λ f. OnFile units (F.fails_with files.now path.entry.now)
-        path.entry.now (option_map (λ s. s.now) section.entry) command.entry f (W.contents output.old) (W.contents output.new) result) }
+    damages: &mut D,
+) -> Result<Survey, FileStop<'p>>
+    ensures { D.hears damages.old damages.old [] → ForBytes (F.held files.now path.entry.now) (λ f. OnFile units
+        (F.fails_with files.now path.entry.now) path.entry.now (option_map (λ s. s.now) section.entry) command.entry f
+        (W.contents output.old) (W.contents output.new) (D.hears damages.old damages.new) result) }
 {
     match open_file(files, path) {
-        Ok(file) => on_file(alloc, path, &file, units, section, command, output),
+        Ok(file) => on_file(alloc, path, &file, units, section, command, output, damages),
         Err(fault) => {
             command.without_table(alloc, output);
             Err(FileStop::File { path, fault })
@@ -121,22 +123,24 @@ fn on_named<'p, F: FileSource, W: Write>(
 ///
 /// ADDRESS is read first. Of an ELF file then the sections are found, and the string sections read
 /// by the commands that look into them; else the files of `--line-str` and `--str` are read, in this
-/// order. Then the command works through the section.
+/// order. Then the command works through the section. Of each damaged unit after which it goes on `damages` is told,
+/// where that is asked for, and the answer says how many there are.
 ///
 /// `NotUnderstood` where there is no job, ADDRESS is no address, a size is no size, a section of an object file is named without a file,
 /// or the job is `addr`, which is that of `locate`; then, and at each fault before the command, nothing is written. Of the input nothing is read
 /// then, nor where a file is named.
-pub fn work<'a, F: FileSource, R: Read, W: Write>(
+pub fn work<'a, F: FileSource, R: Read, W: Write, D: DamageSink>(
     alloc: Global,
     job: Option<Job<'a>>,
     files: &F,
     input: &mut R,
     output: &mut W,
-) -> Result<Summary, Stop<'a>>
+    damages: &mut D,
+) -> Result<Survey, Stop<'a>>
     ensures { (bytes : List ℕ) × Consumes (R.remaining input.old) (R.remaining input.new) bytes
-        × Works (F.held files.now) (F.fails_with files.now) (option_map request_made job.entry) bytes
-        (R.remaining input.new)
-        (W.contents output.old) (W.contents output.new) result }
+        × (D.hears damages.old damages.old [] → Works (F.held files.now) (F.fails_with files.now)
+        (option_map request_made job.entry) bytes (R.remaining input.new) (W.contents output.old)
+        (W.contents output.new) (D.hears damages.old damages.new) result) }
 {
     let Some(job) = job else {
         return Err(Stop::NotUnderstood);
@@ -153,7 +157,8 @@ pub fn work<'a, F: FileSource, R: Read, W: Write>(
             part_name(&job),
             command,
             output,
+            damages,
         )),
-        None => on_input(alloc, files, section(&job), command, input, output),
+        None => on_input(alloc, files, section(&job), command, input, output, damages),
     }
 }

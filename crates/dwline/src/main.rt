@@ -6,7 +6,7 @@ use dl_cmd::{Job, read_job, word_status};
 use dl_elf::ReadAt;
 use dl_open::{FileSource, FileUnits, units_not_read};
 use dl_run::{RunFault, read_strings};
-use dl_work::{Stop, file_units, locate, looked_into, with_debug_file, work};
+use dl_work::{DamageLines, Stop, file_units, locate, looked_into, with_debug_file, work};
 use std::alloc::{AllocError, Global};
 use std::fs::File;
 use std::io::{ErrorKind, Write};
@@ -134,7 +134,8 @@ fn tell_not_read(rt: &HostRuntime, path: Option<&str>, read: FileUnits) {
 }
 
 /// Does what the words say, the program's name first, over the system's files and streams, and answers
-/// the program's status. Where an address has no answer, it is said which units of the file aren't read.
+/// the program's status: 1 too where a unit is damaged after which a command goes on. Where an address has no
+/// answer, it is said which units of the file aren't read.
 fn run_words<'a>(rt: &HostRuntime, words: &'a [&'a str]) -> Result<u8, Ending<'a>> {
     let job = read_job(rt.alloc(), words)?;
     let files = System { rt };
@@ -153,8 +154,9 @@ fn run_words<'a>(rt: &HostRuntime, words: &'a [&'a str]) -> Result<u8, Ending<'a
             Found::NotAll => Ok(1),
         };
     }
-    match work(alloc, job, &files, input, output) {
-        Ok(_) => Ok(0),
+    let mut damages = DamageLines::new(rt.stderr());
+    match work(alloc, job, &files, input, output, &mut damages) {
+        Ok(survey) => Ok(if survey.damaged.is_some() { 1 } else { 0 }),
         Err(stop) => {
             if matches!(stop, Stop::Run(RunFault::NotFound)) {
                 tell_not_read(rt, path, read);

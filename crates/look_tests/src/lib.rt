@@ -6,6 +6,8 @@ mod agreement;
 #[cfg(test)]
 mod code;
 #[cfg(test)]
+mod damaged;
+#[cfg(test)]
 mod live;
 #[cfg(test)]
 mod many;

@@ -7,7 +7,7 @@ use std::test::Fail;
 use test_support::{end, row};
 
 /// The places of these numbers have answers of these lines, and the others none.
-fn lines(rt: &impl Abort, finders: &Finders, expected: &[Option<u64>]) {
+pub fn lines(rt: &impl Abort, finders: &Finders, expected: &[Option<u64>]) {
     for (number, line) in expected.iter().enumerate() {
         assert_eq!(rt;
             finders.answer(number).map(|row| row.line),
@@ -19,7 +19,7 @@ fn lines(rt: &impl Abort, finders: &Finders, expected: &[Option<u64>]) {
 }
 
 /// The last unit is the first to answer for just these numbers, in any order.
-fn told(rt: &impl Abort, answered: &[Answered], expected: &[usize]) {
+pub fn told(rt: &impl Abort, answered: &[Answered], expected: &[usize]) {
     assert_eq!(rt; answered.len(), expected.len());
     for number in expected {
         assert!(rt;
@@ -29,7 +29,8 @@ fn told(rt: &impl Abort, answered: &[Answered], expected: &[usize]) {
     }
 }
 
-fn take(finders: &mut Finders, rows: &[Row]) {
+/// Gives the rows to the finders.
+pub fn take(finders: &mut Finders, rows: &[Row]) {
     for row in rows {
         finders.row(row);
     }

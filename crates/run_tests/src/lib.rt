@@ -2,6 +2,8 @@
 #![tactic(auto)]
 
 #[cfg(test)]
+mod around;
+#[cfg(test)]
 mod commands;
 #[cfg(test)]
 mod each_call;

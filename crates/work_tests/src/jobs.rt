@@ -3,7 +3,7 @@ use crate::files::{STRIPPED, TWO_UNITS, UNIT, UNITS, WITH_STRINGS};
 use crate::shelf::Shelf;
 use dl_cmd::{Job, UnitWords};
 use dl_open::FileFault;
-use dl_work::{Stop, with_debug_file, work};
+use dl_work::{DamageLines, Stop, with_debug_file, work};
 use std::alloc::Global;
 use std::process::Abort;
 use std::test::Fail;
@@ -12,7 +12,9 @@ use std::test::Fail;
 #[derive(Clone, Copy)]
 pub enum Command {
     Dump,
+    DumpAround,
     Check,
+    CheckAround,
     Find,
     Copy,
 }
@@ -28,17 +30,19 @@ pub const NOTHING_OF_UNITS: UnitWords<'static> = UnitWords {
 fn job_of(command: Command) -> Job<'static> {
     let file = Some("elf");
     match command {
-        Command::Dump => Job::Dump {
+        Command::Dump | Command::DumpAround => Job::Dump {
             file,
             big: false,
             units: NOTHING_OF_UNITS,
             line_str: None,
             strings: None,
+            keep_going: matches!(command, Command::DumpAround),
         },
-        Command::Check => Job::Check {
+        Command::Check | Command::CheckAround => Job::Check {
             file,
             big: false,
             units: NOTHING_OF_UNITS,
+            keep_going: matches!(command, Command::CheckAround),
         },
         Command::Find => Job::Find {
             file,
@@ -70,7 +74,7 @@ pub fn told_of_stop(shelf: &Shelf<'_>, stop: Stop<'_>, errors: &mut [u8]) -> (u8
     }
 }
 
-/// Does a command's job; the status, and how many bytes of each output's room are left.
+/// Does a command's job over units that are whole; the status, and how many bytes of each output's room are left.
 pub fn told(
     alloc: Global,
     shelf: &Shelf<'_>,
@@ -80,7 +84,10 @@ pub fn told(
 ) -> (u8, usize, usize) {
     let mut room = output;
     let mut input: &[u8] = b"";
-    let (status, left) = match work(alloc, Some(job_of(command)), shelf, &mut input, &mut room) {
+    let job = Some(job_of(command));
+    let nothing: &mut [u8] = &mut [];
+    let mut damages = DamageLines::new(nothing);
+    let (status, left) = match work(alloc, job, shelf, &mut input, &mut room, &mut damages) {
         Ok(_) => (0, errors.len()),
         Err(stop) => told_of_stop(shelf, stop, errors),
     };
@@ -94,6 +101,8 @@ const UNIT_TEXT: &[u8] = b"unit 0x0 dwarf32 version 5 address_size 8\n\
                            row 0x0000000000401006 0 1 3 0 stmt end\n";
 
 const COUNTS: &[u8] = b"units 2 skipped 0 sequences 2 rows 6\n";
+
+const NONE_DAMAGED: &[u8] = b"units 2 skipped 0 sequences 2 rows 6 damaged 0\n";
 
 const BROKEN: &str = "dwline: elf: cannot read: broken pipe\n";
 
@@ -122,11 +131,29 @@ const NOWHERE: (u64, u64) = (0, 0);
 /// What the first unit gave stays written. Only `dump` and `find` read a string section.
 const CASES: &[Case] = &[
     (TWO_UNITS, IN_LINES, Command::Dump, 3, UNIT_TEXT, BROKEN),
+    (
+        TWO_UNITS,
+        IN_LINES,
+        Command::DumpAround,
+        3,
+        UNIT_TEXT,
+        BROKEN,
+    ),
     (TWO_UNITS, IN_LINES, Command::Check, 3, b"", BROKEN),
+    (TWO_UNITS, IN_LINES, Command::CheckAround, 3, b"", BROKEN),
     (TWO_UNITS, IN_LINES, Command::Find, 3, b"", BROKEN),
     (TWO_UNITS, IN_LINES, Command::Copy, 3, UNIT, BROKEN),
     (TWO_UNITS, IN_STRINGS, Command::Dump, 3, b"", BROKEN),
+    (TWO_UNITS, IN_STRINGS, Command::DumpAround, 3, b"", BROKEN),
     (TWO_UNITS, IN_STRINGS, Command::Check, 0, COUNTS, ""),
+    (
+        TWO_UNITS,
+        IN_STRINGS,
+        Command::CheckAround,
+        0,
+        NONE_DAMAGED,
+        "",
+    ),
     (TWO_UNITS, IN_STRINGS, Command::Find, 3, b"", BROKEN),
     (TWO_UNITS, IN_STRINGS, Command::Copy, 0, UNITS, ""),
     (WITH_STRINGS, FIRST, Command::Check, 3, b"", BROKEN),

@@ -4,6 +4,8 @@
 #[cfg(test)]
 mod files;
 #[cfg(test)]
+mod going_on;
+#[cfg(test)]
 mod jobs;
 #[cfg(test)]
 mod memory;

@@ -2,12 +2,14 @@
 ghost use Rattle.std.specs.Prelude.{◌+◌, ◌^◌, ◌<◌, ◌≤◌, OnOk};
 ghost use Rattle.dl_print.specs.Output.{Prints, printed_len};
 ghost use Rattle.dl_print.specs.Text.{row_line, unit_line, foreign_line, open_line, missing_line, summary_line};
+ghost use Rattle.dl_print.specs.Text.{survey_line};
 
 use super::Printer;
 use crate::fault::WriteFault;
 use crate::summary::Summary;
 use crate::text::{
-    write_foreign_line, write_missing_line, write_row, write_summary_line, write_unit_line,
+    write_foreign_line, write_missing_line, write_row, write_summary_line, write_survey_line,
+    write_unit_line,
 };
 use dl_head::Params;
 use dl_rows::Row;
@@ -80,6 +82,21 @@ impl Printer {
     {
         self.make_room(output)?;
         self.held = write_summary_line(&mut self.buffer, self.held, summary);
+        Ok(())
+    }
+
+    /// Prints the counts, with how many units are damaged.
+    pub fn survey<W: Write>(
+        &mut self,
+        output: &mut W,
+        summary: &Summary,
+        damaged: u64,
+    ) -> Result<(), WriteFault>
+        ensures printed { Prints (W.contents output.old) (W.contents output.new)
+            self.old self.new (survey_line summary.now damaged) result }
+    {
+        self.make_room(output)?;
+        self.held = write_survey_line(&mut self.buffer, self.held, summary, damaged);
         Ok(())
     }
 }

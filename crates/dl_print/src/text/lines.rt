@@ -1,7 +1,8 @@
 //! The lines of units, and those of `find` and `check`.
 ghost use Rattle.std.specs.Prelude.{◌≡◌, ◌+◌, ◌≤◌, [], ◌∷◌, ◌++◌, length, take, codes, decimal};
 ghost use Rattle.dl_print.specs.Digits.{hexadecimal};
-ghost use Rattle.dl_print.specs.Text.{format_name, unit_line, foreign_line, missing_line, summary_line};
+ghost use Rattle.dl_print.specs.Text.{format_name, unit_line, foreign_line, missing_line};
+ghost use Rattle.dl_print.specs.Text.{counts_text, summary_line, survey_line};
 
 use crate::summary::Summary;
 use crate::text::digits::{write_byte, write_bytes, write_hexadecimal, write_number};
@@ -67,15 +68,35 @@ pub fn write_missing_line(buffer: &mut [u8], at: usize, file: u64) -> usize
     write_bytes(buffer, at, b" missing\n")
 }
 
-/// Writes the counts, and answers where the line ends.
+/// Writes the counts, and answers where they end.
+fn write_counts(buffer: &mut [u8], at: usize, summary: &Summary) -> usize
+    requires { at + 112 ≤ length buffer.old }
+    ensures written { take result buffer.new ≡ take at buffer.old ++ counts_text summary.now }
+    ensures room { result ≤ at + 112 }
+{
+    let at = write_number(buffer, at, b"units ", summary.units);
+    let at = write_number(buffer, at, b" skipped ", summary.skipped);
+    let at = write_number(buffer, at, b" sequences ", summary.sequences);
+    write_number(buffer, at, b" rows ", summary.rows)
+}
+
+/// Writes the line of the counts, and answers where it ends.
 pub fn write_summary_line(buffer: &mut [u8], at: usize, summary: &Summary) -> usize
     requires { at + 128 ≤ length buffer.old }
     ensures written { take result buffer.new ≡ take at buffer.old ++ summary_line summary.now }
     ensures room { result ≤ at + 128 }
 {
-    let at = write_number(buffer, at, b"units ", summary.units);
-    let at = write_number(buffer, at, b" skipped ", summary.skipped);
-    let at = write_number(buffer, at, b" sequences ", summary.sequences);
-    let at = write_number(buffer, at, b" rows ", summary.rows);
+    let at = write_counts(buffer, at, summary);
+    write_byte(buffer, at, b'\n')
+}
+
+/// Writes the line of the counts with how many units are damaged, and answers where it ends.
+pub fn write_survey_line(buffer: &mut [u8], at: usize, summary: &Summary, damaged: u64) -> usize
+    requires { at + 144 ≤ length buffer.old }
+    ensures written { take result buffer.new ≡ take at buffer.old ++ survey_line summary.now damaged }
+    ensures room { result ≤ at + 144 }
+{
+    let at = write_counts(buffer, at, summary);
+    let at = write_number(buffer, at, b" damaged ", damaged);
     write_byte(buffer, at, b'\n')
 }

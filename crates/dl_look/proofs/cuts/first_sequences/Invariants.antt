@@ -7,7 +7,7 @@ use Rattle.dl_look.proofs.cuts.first_sequences.Given as goal
 abbrev pub invariant-loop-i : goal.invariant-loop-i
 invariant-loop-i l =
     record {
-      linked : IsLinked l.links.next.items;
+      linked : IsLinked l.links;
       links : length l.links.next.items ≡ length l.sequences.items + 1;
       count : length l.sequences.items ≡ length l.slots;
       opens : (j : ℕ) → j < length l.sequences.items

@@ -33,4 +33,5 @@ loop-i-preserved c =
           ∙ sym (ap (option_or old) (row_at-more trail c.args.end l.i j (omega arith))));
       before = λ limit i le. give.before limit i (omega (arith, l.invariant.grown)) ∙ l.invariant.before limit i le;
       grown = omega (arith, l.invariant.grown);
+      sealed = give.sealed ∙ l.invariant.sealed;
     }

@@ -15,4 +15,5 @@ invariant-loop-i l =
       before : (limit i : ℕ) → limit ≤ length l.fn.ledger.log.items
           → answer_upto limit l.ledger i ≡ answer_upto limit l.fn.ledger i;
       grown : length l.fn.ledger.log.items ≤ length l.ledger.log.items;
+      sealed : l.ledger.links.sealed.items ≡ l.fn.ledger.links.sealed.items;
     }

@@ -1,13 +1,12 @@
-use Rattle.dl_run.proofs.Names.{Appends-nil, Dumper, HasPrinted-nothing, refl}
+use Rattle.dl_run.proofs.Names.{Appends-nil, HasPrinted-nothing, refl}
 use Rattle.dl_run.proofs.DumpingLemmas.{dumps}
 use Rattle.dl_run.proofs.dumping.dump.Goals as goal
 
 pub returns : goal.returns
 returns g c =
-    let first : Dumper = record { printer = c.new.result; strings = c.new-strings.result } in
     let start = g.W.Write.contents c.args.output.now in
     let read = c.read_units.ensures in
     let nothing = HasPrinted-nothing start start c.new.result (Appends-nil start) c.new.ensures.nothing_pending
     c.new.ensures.nothing_out in
-    let ran = read.2 (record { strings = refl; printed = nothing }) (Appends-nil start) in
-    (read.0, read.1, rw c.new-strings.ensures at (dumps _ _ _ _ first _ _ _ _ ran))
+    let ran = read.2 (record { strings = refl; damages = refl; heard = tt; printed = nothing }) (Appends-nil start) in
+    (read.0, read.1, rw c.new-strings.ensures at (dumps _ _ _ _ _ _ _ _ _ _ ran))

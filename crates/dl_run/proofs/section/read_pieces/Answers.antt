@@ -1,9 +1,9 @@
-use Rattle.std.proofs.Common.{[], length, arith, sym, ◌∙◌}
+use Rattle.std.proofs.Common.{[], length, arith, refl, sym, ◌∙◌}
 use Rattle.std.proofs.lemmas.Result.{err_from_is_err_and}
 use Rattle.std.proofs.lemmas.Bool.{eqb-true}
 use Rattle.std.proofs.lemmas.List.{nil_from_length}
 use Rattle.std.proofs.KnownBytes.{Consumes-nil}
-use Rattle.dl_run.proofs.SectionLemmas.{none_begins, none_refused}
+use Rattle.dl_run.proofs.SectionLemmas.{none_begins, none_refused, nothing_before}
 use Rattle.dl_run.proofs.ReadLemmas.{failed_read, at_end, stops, wants_no_more, too_long, reads_on}
 use Rattle.dl_run.proofs.section.read_pieces.Goals as goal
 
@@ -15,7 +15,7 @@ pieces-init g c = record {
   told = λ tells out. record {
     units = [];
     b = [];
-    are = c.requires.begun;
+    are = c.requires.begun (nothing_before c.args.options.now.dialect) refl refl;
     none = none_begins c.args.options.now.dialect;
     sound = none_refused c.args.options.now.dialect;
     settled = record { tells = tells; out = out };
@@ -42,7 +42,8 @@ returns-then-is_empty g c =
     (c.in-Ok.ensures.end
     (nil_from_length c.in-Ok.piece.now (eqb-true (length c.in-Ok.piece.now) 0 (sym c.is_empty.ensures
     ∙ c.if-is_empty.true)))) c.finish.result
-    (λ units b are none sound. c.finish.ensures c.args.options.now.dialect l.invariant.t units b are none sound
+    (λ units b are none sound. c.finish.ensures c.args.options.now.dialect
+    (nothing_before c.args.options.now.dialect) l.invariant.t units b are none sound
     (omega (arith, c.requires.limit, l.invariant.within)))
 
 pub returns-in_err-work_through : goal.returns-in_err-work_through
@@ -57,7 +58,8 @@ returns-in_err-work_through g c =
     (g.W.Write.contents c.args.output.now) (g.W.Write.contents l.output) l.units l.left l.invariant
     (g.R.Read.remaining c.next_piece.new.reader) c.in-Ok.piece.now c.in-Ok.ensures.ok c.work_through.new.visitor
     (g.W.Write.contents c.work_through.new.output) c.work_through.new.units _ _ c.front-within.ensures.front
-    (λ told. c.in_err-work_through.ensures c.args.options.now.dialect l.invariant.t told.units told.b
+    (λ told. c.in_err-work_through.ensures c.args.options.now.dialect
+    (nothing_before c.args.options.now.dialect) l.invariant.t told.units told.b
     c.args.visitor.now (g.W.Write.contents c.args.output.now) told.are
     (omega (arith, c.requires.limit, l.invariant.within, c.front-within.ensures.short)) told.settled.tells))
 
@@ -70,7 +72,8 @@ returns-in-Stop g c =
     (g.R.Read.remaining c.next_piece.new.reader) c.in-Ok.piece.now c.in-Ok.ensures.ok c.work_through.new.visitor
     (g.W.Write.contents c.work_through.new.output) c.work_through.new.units c.in_ok-work_through.field-0 _
     c.in-Stop.is c.front-within.ensures.front
-    (λ told. c.in_ok-work_through.ensures c.args.options.now.dialect l.invariant.t told.units told.b
+    (λ told. c.in_ok-work_through.ensures c.args.options.now.dialect
+    (nothing_before c.args.options.now.dialect) l.invariant.t told.units told.b
     c.args.visitor.now (g.W.Write.contents c.args.output.now) told.are
     (omega (arith, c.requires.limit, l.invariant.within, c.front-within.ensures.short)) told.settled.tells)
 
@@ -83,7 +86,8 @@ returns-then-within-piece g c =
     (g.R.Read.remaining c.next_piece.new.reader) c.in-Ok.piece.now c.in-Ok.ensures.ok c.work_through.new.visitor
     (g.W.Write.contents c.work_through.new.output) c.work_through.new.units c.in_ok-work_through.field-0 _
     c.in-On.is c.front-within.ensures.front
-    (λ told. c.in_ok-work_through.ensures c.args.options.now.dialect l.invariant.t told.units told.b
+    (λ told. c.in_ok-work_through.ensures c.args.options.now.dialect
+    (nothing_before c.args.options.now.dialect) l.invariant.t told.units told.b
     c.args.visitor.now (g.W.Write.contents c.args.output.now) told.are
     (omega (arith, c.requires.limit, l.invariant.within, c.front-within.ensures.short)) told.settled.tells)
     c.if-within-piece.true
@@ -97,7 +101,8 @@ pieces-preserved g c =
     (g.R.Read.remaining c.next_piece.new.reader) c.in-Ok.piece.now c.in-Ok.ensures.ok c.work_through.new.visitor
     (g.W.Write.contents c.work_through.new.output) c.work_through.new.units c.in_ok-work_through.field-0 _
     c.in-On.is c.front-within.ensures.front
-    (λ told. c.in_ok-work_through.ensures c.args.options.now.dialect l.invariant.t told.units told.b
+    (λ told. c.in_ok-work_through.ensures c.args.options.now.dialect
+    (nothing_before c.args.options.now.dialect) l.invariant.t told.units told.b
     c.args.visitor.now (g.W.Write.contents c.args.output.now) told.are
     (omega (arith, c.requires.limit, l.invariant.within, c.front-within.ensures.short)) told.settled.tells)
     (c.front-within.ensures.whole (omega (arith, c.if-within-piece.false)))

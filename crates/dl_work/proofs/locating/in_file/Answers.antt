@@ -74,8 +74,9 @@ returns g c =
           ∙ (c.live_in-live.ensures a ∙ ap (λ code. c.args.words.now.all || is_code code a) c.as_ref.ensures.value))
           q.directories c.in-Ok.opened.2 c.compiled_in.ensures c.in-Ok.ensures.directories q.form q.basenames (ap option_copied q.section ∙ c.part_name.ensures)
           c.in-Ok.ensures.code
-          (λ f known short. on_file_as c.units_of_file-units.result _ _ _ c.args.path.now _ (Addr c.question.result) f _ _ _
+          (λ f known short. on_file_as c.units_of_file-units.result _ _ _ c.args.path.now _
+          (Addr c.question.result) f _ _ _ _
           c.units_of_file-units.ensures c.in-Ok.ensures.reads
-          (c.on_file-answer.ensures f (c.in-Ok.ensures.bytes ∙ known) short))
+          (c.on_file-answer.ensures tt f (c.in-Ok.ensures.bytes ∙ known) short))
           (c.by_answer.ensures ∙ ap (λ answer. located answer c.in_ok-lines.lines.no_address) c.over_file.ensures),
     )

@@ -6,10 +6,12 @@ use Rattle.dl_work.proofs.TableLemmas.{plain_known, ran}
 use Rattle.dl_work.proofs.over_file.on_kept.Goals as goal
 
 pub returns-in-Err : goal.returns-in-Err
-returns-in-Err g c units t line ordered whole =
-    ran _ _ _ t _ _ _ (Some c.args.bytes.now) _ _ _ _ _ _ (λ read.
+returns-in-Err g c units t line ordered whole untold =
+    let does = c.in-Err.ensures in
+    ran _ _ _ t _ _ _ (Some c.args.bytes.now) (g.D.DamageSink.hears c.args.damages.now c.run.new.damages) _ _ _ _ _ _
+    (λ read.
     plain_known t.line c.args.bytes.now _ read line) whole ordered refl
-    c.requires c.in-Err.ensures (
+    c.requires (does.0, does.1, does.2 untold) (
       c.at.result,
       refl,
       subst (λ (content : Content). StopsAt c.args.path.now (stream_of content) c.in-Err.fault c.at.result) (sym line)

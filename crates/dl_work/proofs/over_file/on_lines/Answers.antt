@@ -8,10 +8,10 @@ use Rattle.dl_work.proofs.TableLemmas.{of_part}
 use Rattle.dl_work.proofs.over_file.on_lines.Goals as goal
 
 pub returns-in-Ok : goal.returns-in-Ok
-returns-in-Ok g c units t gives ordered whole =
+returns-in-Ok g c units t gives ordered whole untold =
     let kept = c.in-Ok.bytes.items in
-    of_part _ _ _ t c.in-Some.part.now _ _ _ _ (ap option_copied c.in-Some.is) (inr (
+    of_part _ _ _ t c.in-Some.part.now _ _ _ _ _ (ap option_copied c.in-Some.is) (inr (
       kept,
       subst (λ (d : Dialect). IsKept d c.in-Some.part.now t.line kept) ordered (c.in-Ok.ensures t.line gives),
-      c.on_kept.ensures units (with_bytes t kept) (ap Plain (sym c.as_slice.ensures.value)) ordered whole,
+      c.on_kept.ensures units (with_bytes t kept) (ap Plain (sym c.as_slice.ensures.value)) ordered whole untold,
     ))

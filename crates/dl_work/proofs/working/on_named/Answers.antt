@@ -3,6 +3,6 @@ use Rattle.dl_work.proofs.TableLemmas.{on_file_weaker}
 use Rattle.dl_work.proofs.working.on_named.Goals as goal
 
 pub returns-in-Ok : goal.returns-in-Ok
-returns-in-Ok g c f known short =
-    on_file_weaker _ _ _ c.args.path.now _ c.args.command f _ _ _ c.in-Ok.ensures.reads
-    (c.on_file.ensures f (c.in-Ok.ensures.bytes ∙ known) short)
+returns-in-Ok g c untold f known short =
+    on_file_weaker _ _ _ c.args.path.now _ c.args.command f _ _ _ _ c.in-Ok.ensures.reads
+    (c.on_file.ensures untold f (c.in-Ok.ensures.bytes ∙ known) short)

@@ -1,5 +1,5 @@
-use Rattle.std.proofs.Common.{◌∙◌, [], ap, sym, option_map}
-use Rattle.std.proofs.KnownBytes.{Consumes-nil}
+use Rattle.std.proofs.Common.{◌∙◌, [], ap, refl, sym, option_map}
+use Rattle.std.proofs.KnownBytes.{Consumes-nil, Keeps-refl}
 use Rattle.dl_cmd.specs.Job.{request_made}
 use Rattle.dl_work.specs.Asked.{command_seen}
 use Rattle.dl_work.specs.Held.{section_seen}
@@ -11,18 +11,33 @@ returns g c =
     let done = c.on_input.ensures in (
       done.0,
       done.1,
-      works_on_input (g.F.FileSource.held c.args.files.now) (g.F.FileSource.fails_with c.args.files.now) _
-          (request_made c.in-Some.job) c.in-Some-of.command (section_seen c.section.result) done.0 _ _ _ _
+      λ untold. works_on_input (g.F.FileSource.held c.args.files.now) (g.F.FileSource.fails_with c.args.files.now) _
+          (request_made c.in-Some.job) c.in-Some-of.command (section_seen c.section.result) done.0 _ _ _ _ _
           (ap (option_map request_made) c.in-Some.is) (sym c.of.ensures
-          ∙ ap (option_map command_seen) c.in-Some-of.is) (sym c.in-None.ensures) c.section.ensures done.2,
+          ∙ ap (option_map command_seen) c.in-Some-of.is) (sym c.in-None.ensures) c.section.ensures (done.2 untold),
     )
 
 pub returns-in-Some-file : goal.returns-in-Some-file
 returns-in-Some-file g c = (
   [],
   Consumes-nil _,
-  works_on_named (g.F.FileSource.held c.args.files.now) (g.F.FileSource.fails_with c.args.files.now) _
-      (request_made c.in-Some.job) c.in-Some-of.command c.file_units.result c.in-Some-file.path.now _ _ _ _ _ _
+  λ untold. works_on_named (g.F.FileSource.held c.args.files.now) (g.F.FileSource.fails_with c.args.files.now) _
+      (request_made c.in-Some.job) c.in-Some-of.command c.file_units.result c.in-Some-file.path.now _ _ _ _ _ _ _
       (ap (option_map request_made) c.in-Some.is) (sym c.of.ensures ∙ ap (option_map command_seen) c.in-Some-of.is) (sym c.in-Some-file.ensures)
-      c.file_units.ensures c.part_name.ensures c.over_file.ensures c.on_named.ensures,
+      c.file_units.ensures c.part_name.ensures c.over_file.ensures (c.on_named.ensures untold),
 )
+
+pub returns-in_default : goal.returns-in_default
+returns-in_default g c = (
+  [],
+  Consumes-nil _,
+  λ untold. rw c.in_default.is ((refl, refl, Keeps-refl _), untold),
+)
+
+pub returns-in_default-of : goal.returns-in_default-of
+returns-in_default-of g c =
+    let none = sym c.of.ensures ∙ ap (option_map command_seen) c.in_default-of.is in (
+      [],
+      Consumes-nil _,
+      λ untold. rw (c.in-Some.is, none) ((refl, refl, Keeps-refl _), untold),
+    )

@@ -11,6 +11,7 @@ returns-clause-sound c =
     let n = length c.args.slots.now in
     let all = c.in_ok-no_entries.ensures in
     let empty = c.in-Ok.ensures.items in
+    let none = c.in-Ok-with_capacity.ensures.items in
     record {
       linked = c.in_ok-links.ensures.linked;
       links = c.in_ok-links.ensures.count;
@@ -23,4 +24,8 @@ returns-clause-sound c =
       kept = λ e lt. absurd (let z = ap length empty in omega arith);
       room = let z = ap length empty in let u = ap unanswered all ∙ unanswered-replicate n in omega arith;
       capacity = omega (arith, c.in-Ok.ensures.exact);
+      log_slots = ap length none ∙ sym (ap length empty);
+      within = λ e lt. absurd (let z = ap length empty in omega arith);
+      slot = λ e lt. absurd (let z = ap length empty in omega arith);
+      slots_capacity = omega (arith, c.in-Ok-with_capacity.ensures.exact);
     }

@@ -8,5 +8,6 @@ loop-at-preserved c =
     let f = c.first_open-at-in-loop-at in
     given_more c.args.slots.now c.args.self.now l.self a.new.self c.args.low c.args.high l.at f.result c.args.row.now
     c.requires.numbered l.invariant c.loop-at-test.true c.requires.to a.ensures.sound a.ensures.closed
-    a.ensures.others a.ensures.given a.ensures.same a.ensures.before a.ensures.grown f.new.self f.ensures.linked
-    f.ensures.count f.ensures.same f.ensures.ahead f.ensures.within f.ensures.open f.ensures.closed
+    a.ensures.others a.ensures.given a.ensures.same a.ensures.before a.ensures.grown a.ensures.sealed
+    f.new.self f.ensures.linked f.ensures.count f.ensures.same f.ensures.ahead f.ensures.within f.ensures.open
+    f.ensures.closed f.ensures.sealed

@@ -2,12 +2,4 @@ use Rattle.std.proofs.Common.{append_assoc}
 use Rattle.dl_print.proofs.text.lines.write_summary_line.Goals as goal
 
 pub returns-clause-written : goal.returns-clause-written
-returns-clause-written c =
-    rw (
-      c.write_byte.ensures.written,
-      c.write_number-at-4.ensures.written,
-      c.write_number-at-3.ensures.written,
-      c.write_number-at-2.ensures.written,
-      c.write_number-at.ensures.written,
-    )
-    (simp append_assoc)
+returns-clause-written c = rw (c.write_byte.ensures.written, c.write_counts-at.ensures.written) (simp append_assoc)

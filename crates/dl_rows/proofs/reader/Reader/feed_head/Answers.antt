@@ -40,7 +40,7 @@ returns-in-Fault-clause-fed c b s =
       c.offer-used.result.0,
       fails_head h c.in-Fault.fault refused,
       stopped_head h c.in-Fault.fault refused _ refl (c.taken.ensures w h.stands)
-          (cells_at c.args.self.now.dialect c.offer-used.new.self w c.cells.result h.same_dialect
+          (rw h.same_dialect at (c.unit_len.ensures.unit w h.stands)) (cells_at c.args.self.now.dialect c.offer-used.new.self w c.cells.result h.same_dialect
           (c.cells.ensures w h.stands)),
     )
 

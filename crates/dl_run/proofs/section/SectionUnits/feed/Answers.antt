@@ -6,7 +6,7 @@ use Rattle.dl_run.proofs.section.SectionUnits.feed.Goals as goal
 
 pub events-init : goal.events-init
 events-init g c = record {
-  fed = λ dialect t units b first start are short tells. record {
+  fed = λ dialect past t units b first start are short tells. record {
     read = t;
     whole = refl;
     short = omega (arith, length-append t c.args.piece.now);
@@ -18,74 +18,74 @@ events-init g c = record {
 }
 
 pub returns-in_err-fed : goal.returns-in_err-fed
-returns-in_err-fed g c dialect t units b first start are short tells =
+returns-in_err-fed g c dialect past t units b first start are short tells =
     let p = err_from_is_err_and c.from_residual.result c.from_residual.ensures.1 in
-    let so = c.events.invariant.fed dialect t units b first start are short tells in
+    let so = c.events.invariant.fed dialect past t units b first start are short tells in
     rw (p.1, p.2) (stops_at_row so (c.in_err-fed.ensures.told so.b so.are.stands))
 
 pub returns-in-Err : goal.returns-in-Err
-returns-in-Err g c dialect t units b first start are short tells =
-    let so = c.events.invariant.fed dialect t units b first start are short tells in
+returns-in-Err g c dialect past t units b first start are short tells =
+    let so = c.events.invariant.fed dialect past t units b first start are short tells in
     damaged so (c.in_ok-fed.ensures.told so.b so.are.stands) c.in-Err.is c.damage.ensures
 
 pub returns-in-More : goal.returns-in-More
-returns-in-More g c dialect t units b first start are short tells =
-    let so = c.events.invariant.fed dialect t units b first start are short tells in
+returns-in-More g c dialect past t units b first start are short tells =
+    let so = c.events.invariant.fed dialect past t units b first start are short tells in
     idle (turn so (c.in_ok-fed.ensures.told so.b so.are.stands) c.in-Ok.is) c.in-More.is c.if-fed-eq0.true
 
 pub events-preserved-else-fed-eq0 : goal.events-preserved-else-fed-eq0
 events-preserved-else-fed-eq0 g c = record {
-  fed = λ dialect t units b first start are short tells.
-      let so = c.events.invariant.fed dialect t units b first start are short tells in
+  fed = λ dialect past t units b first start are short tells.
+      let so = c.events.invariant.fed dialect past t units b first start are short tells in
       goes_on_quietly (turn so (c.in_ok-fed.ensures.told so.b so.are.stands) c.in-Ok.is) c.in-More.is;
 }
 
 pub returns-in-NoMemory : goal.returns-in-NoMemory
-returns-in-NoMemory g c dialect t units b first start are short tells =
-    let so = c.events.invariant.fed dialect t units b first start are short tells in
+returns-in-NoMemory g c dialect past t units b first start are short tells =
+    let so = c.events.invariant.fed dialect past t units b first start are short tells in
     unmet (turn so (c.in_ok-fed.ensures.told so.b so.are.stands) c.in-Ok.is) c.in-NoMemory.is
 
 pub returns-in_err-end-in-End : goal.returns-in_err-end-in-End
-returns-in_err-end-in-End g c dialect t units b first start are short tells =
+returns-in_err-end-in-End g c dialect past t units b first start are short tells =
     let p = err_from_is_err_and c.from_residual-in_err-end-in-End.result c.from_residual-in_err-end-in-End.ensures.1 in
-    let so = c.events.invariant.fed dialect t units b first start are short tells in
+    let so = c.events.invariant.fed dialect past t units b first start are short tells in
     let t = turn so (c.in_ok-fed.ensures.told so.b so.are.stands) c.in-Ok.is in
     let e = ended t c.in-End.is in
-    rw (p.1, p.2) (stops_at_end t e _ (c.in_err-end-in-End.ensures.heard _ t.stands first start t.visits t.tells e.header))
+    rw (p.1, p.2) (stops_at_end t e _ _ (c.in_err-end-in-End.ensures.heard _ t.stands first start t.visits t.tells e.header))
 
 pub events-preserved-in-On : goal.events-preserved-in-On
 events-preserved-in-On g c = record {
-  fed = λ dialect t units b first start are short tells.
-      let so = c.events.invariant.fed dialect t units b first start are short tells in
+  fed = λ dialect past t units b first start are short tells.
+      let so = c.events.invariant.fed dialect past t units b first start are short tells in
       let t = turn so (c.in_ok-fed.ensures.told so.b so.are.stands) c.in-Ok.is in
       let e = ended t c.in-End.is in
       let end = c.in_ok-end-in-End.ensures in
-      next_unit t e c.in-On.is (end.units dialect _ t.units _ e.are e.unit e.small)
+      next_unit t e c.in-On.is (end.units dialect past _ t.units _ e.are e.unit e.small)
       (end.heard _ t.stands first start t.visits t.tells e.header);
 }
 
 pub returns-in-Stop : goal.returns-in-Stop
-returns-in-Stop g c dialect t units b first start are short tells =
-    let so = c.events.invariant.fed dialect t units b first start are short tells in
+returns-in-Stop g c dialect past t units b first start are short tells =
+    let so = c.events.invariant.fed dialect past t units b first start are short tells in
     let t = turn so (c.in_ok-fed.ensures.told so.b so.are.stands) c.in-Ok.is in
     let e = ended t c.in-End.is in
     let end = c.in_ok-end-in-End.ensures in
-    no_more t e c.in-Stop.is (end.units dialect _ t.units _ e.are e.unit e.small)
+    no_more t e c.in-Stop.is (end.units dialect past _ t.units _ e.are e.unit e.small)
     (end.heard _ t.stands first start t.visits t.tells e.header)
 
 pub events-preserved : goal.events-preserved
 events-preserved g c = record {
-  fed = λ dialect t units b first start are short tells.
-      let so = c.events.invariant.fed dialect t units b first start are short tells in
+  fed = λ dialect past t units b first start are short tells.
+      let so = c.events.invariant.fed dialect past t units b first start are short tells in
       let t = turn so (c.in_ok-fed.ensures.told so.b so.are.stands) c.in-Ok.is in
       goes_on t (c.in_ok-tell-in_default.ensures.heard _ t.no_row t.stands first start t.visits t.tells)
       c.tell.ensures.counted;
 }
 
 pub returns-in_err-tell-in_default : goal.returns-in_err-tell-in_default
-returns-in_err-tell-in_default g c dialect t units b first start are short tells =
+returns-in_err-tell-in_default g c dialect past t units b first start are short tells =
     let p = err_from_is_err_and c.from_residual-in_err-tell-in_default.result
     c.from_residual-in_err-tell-in_default.ensures.1 in
-    let so = c.events.invariant.fed dialect t units b first start are short tells in
+    let so = c.events.invariant.fed dialect past t units b first start are short tells in
     let t = turn so (c.in_ok-fed.ensures.told so.b so.are.stands) c.in-Ok.is in
-    rw (p.1, p.2) (stops_told t _ (c.in_err-tell-in_default.ensures.heard _ t.no_row t.stands first start t.visits t.tells))
+    rw (p.1, p.2) (stops_told t _ _ (c.in_err-tell-in_default.ensures.heard _ t.no_row t.stands first start t.visits t.tells))

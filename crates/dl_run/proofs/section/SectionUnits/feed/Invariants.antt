@@ -1,8 +1,7 @@
 use Rattle.std.proofs.Common.{◌+◌, ◌<◌, ◌++◌, ◌*◌, ◌^◌, length, min, ℕ, List, Option}
 use Rattle.dl_head.specs.declared.dialect.Dialect.{Dialect}
 use Rattle.dl_rows.specs.Progress.{taken_of}
-use Rattle.dl_run.specs.Section.{section_visits}
-use Rattle.dl_run.specs.UnitsRead.{UnitsAre}
+use Rattle.dl_run.specs.UnitsRead.{Before, UnitsAre, visits_since}
 use Rattle.dl_run.proofs.FeedLemmas.{FedUpTo}
 use Rattle.dl_run.proofs.section.SectionUnits.feed.Given as goal
 
@@ -12,9 +11,10 @@ decreases-events g l = 2 * length l.rest + min (taken_of l.self.reader) 1
 
 abbrev pub invariant-events : goal.invariant-events
 invariant-events g l = record {
-  fed : (dialect : Dialect) (t : List ℕ) (units : List (List ℕ)) (b : List ℕ) (first : g.row.V.Denot)
-      (start : Option (List ℕ)) → UnitsAre dialect l.initial.self t units b → length t + length l.piece < 2 ^ 64
+  fed : (dialect : Dialect) (past : Before dialect) (t : List ℕ) (units : List (List ℕ)) (b : List ℕ)
+      (first : g.row.V.Denot) (start : Option (List ℕ)) → UnitsAre past l.initial.self t units b
+      → length past.bytes + (length t + length l.piece) < 2 ^ 64
       → g.V.Visitor.story.tells first l.initial.visitor start (g.W.Write.contents l.initial.output)
-      (section_visits dialect units b)
-      → FedUpTo g.V.Visitor.story dialect (t ++ l.piece) first start l.self l.visitor (g.W.Write.contents l.output) l.rest;
+      (visits_since past units b)
+      → FedUpTo g.V.Visitor.story past (t ++ l.piece) first start l.self l.visitor (g.W.Write.contents l.output) l.rest;
 }

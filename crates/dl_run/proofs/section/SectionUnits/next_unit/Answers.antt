@@ -10,11 +10,11 @@ returns-clause-header c b stands =
     header_is _ _ c.into_header.result b c.replace-reader.ensures.value c.into_header.ensures stands
 
 pub returns-clause-units : goal.returns-clause-units
-returns-clause-units c dialect t units b are is short =
+returns-clause-units c dialect past t units b are is short =
     let u = c.args.self.now in
     let taken = c.taken.ensures.bytes b
     (subst (λ (r : Reader). StandsFor r b) (sym c.replace-reader.ensures.value) are.stands) in
-    left_after dialect u t units b are is short _ are.dialect_is
+    left_after dialect past u t units b are is short _ are.dialect_is
     (subst (λ (r : Reader). StandsFor r []) (sym c.replace-reader.ensures.after) c.of.ensures.stands)
     (ap (λ (r : Reader). r.dialect) c.replace-reader.ensures.after ∙ c.of.ensures.dialect ∙ are.dialect_is)
     (c.saturating_add-self.ensures ∙ ap (λ (n : ℕ). add u.offset n) taken)

@@ -1,0 +1,28 @@
+use Rattle.std.proofs.Common.{subst}
+use Rattle.std.proofs.KnownBytes.{Appends-nil}
+use Rattle.dl_run.specs.Commands.{strings_in}
+use Rattle.dl_addr.specs.Knowing.{Knows}
+use Rattle.dl_addr.proofs.AroundAnswers.{is_told_around}
+use Rattle.dl_addr.proofs.answering.addr_around.Goals as goal
+
+pub returns : goal.returns
+returns g c =
+    let options = c.args.options.now in
+    let q = c.args.question.now in
+    let s = strings_in options in
+    let first = c.in-Ok.locator in
+    let start = g.W.Write.contents c.args.output.now in
+    let mid = g.W.Write.contents c.read_units_around-ended.new.output in
+    let now = g.W.Write.contents c.print_all-printed.new.output in
+    let left = g.R.Read.remaining c.read_units_around-ended.new.input in
+    let read = c.read_units_around-ended.ensures in
+    let ran = read.2 (c.in-Ok.ensures.begins start) (Appends-nil start) in
+    let new = c.read_units_around-ended.new.visitor in
+    let knows = subst (Knows first q) c.new-strings.ensures c.in-Ok.ensures.knows in
+    let locates = is_told_around options.dialect q s first knows options.limit read.0 left new start mid
+    c.in-Ok.ensures.made now c.read_units_around-ended.result c.print_all-printed.result ran
+    (λ visits stands. c.print_all-printed.ensures first start mid visits stands c.in-Ok.ensures.made) in (
+      read.0,
+      read.1,
+      rw c.told_around.ensures locates,
+    )

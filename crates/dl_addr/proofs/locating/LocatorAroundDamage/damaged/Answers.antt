@@ -1,0 +1,5 @@
+use Rattle.dl_addr.proofs.LocatorLemmas.{forgets}
+use Rattle.dl_addr.proofs.locating.LocatorAroundDamage.damaged.Goals as goal
+
+pub returns : goal.returns
+returns g c = forgets c.args.self.now _ _ c.args._damage (search) (search)
