@@ -23,7 +23,7 @@ _dwline() {
     esac
     local options
     case ${COMP_WORDS[1]} in
-        addr) options="-a --addresses -s --basenames --json --hex --base --all -j --section -e --exe --older --address-size --version-5 --comp-dir --big --line-str --str -h --help" ;;
+        addr) options="-a --addresses -s --basenames --json --hex --base --all --stop -j --section -e --exe --older --address-size --version-5 --comp-dir --big --line-str --str -h --help" ;;
         dump) options="--keep-going --older --address-size --version-5 --big --line-str --str -h --help" ;;
         check) options="--keep-going --older --address-size --version-5 --big -h --help" ;;
         copy) options="--to-5 --older --address-size --comp-dir --big -h --help" ;;

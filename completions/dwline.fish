@@ -15,6 +15,7 @@ complete -c dwline -n "__fish_seen_subcommand_from addr" -l json -d "Print a JSO
 complete -c dwline -n "__fish_seen_subcommand_from addr" -l hex -d "Read digits without 0x as hexadecimal too"
 complete -c dwline -n "__fish_seen_subcommand_from addr" -l base -x -d "Load address, which is subtracted from each address first"
 complete -c dwline -n "__fish_seen_subcommand_from addr" -l all -d "Look into sequences too that begin outside executable sections"
+complete -c dwline -n "__fish_seen_subcommand_from addr" -l stop -d "Stop at the first damaged unit"
 complete -c dwline -n "__fish_seen_subcommand_from addr find" -s j -l section -x -d "Section of an object file to look into"
 complete -c dwline -n "__fish_seen_subcommand_from addr" -s e -l exe -r -F -d "The file to read, in place of the first word"
 complete -c dwline -n "__fish_seen_subcommand_from dump check" -l keep-going -d "After a damaged unit go on with the next one"

@@ -125,8 +125,8 @@ with_printing a =
 -- what addresses are asked for, and how they are answered
 abbrev pub with_settings : App → App
 with_settings a =
-    with_rule (with_rule (with_rule (with_rule (with_printing a) (switch_rule (codes "hex"))) base_rule)
-    (switch_rule (codes "all"))) section_rule
+    with_rule (with_rule (with_rule (with_rule (with_rule (with_printing a) (switch_rule (codes "hex"))) base_rule)
+    (switch_rule (codes "all"))) (switch_rule (codes "stop"))) section_rule
 
 abbrev pub with_addresses : App → App
 with_addresses a =
@@ -134,8 +134,9 @@ with_addresses a =
     (with_rule (with_units_of_addr (with_settings a)) (value_rule (codes "comp-dir"))) big_rule) line_str_rule) str_rule)
     exe_rule) addr_file_rule) addresses_rule
 
--- `addr [-a] [-s] [--json] [--hex] [--base ADDRESS] [--all] [-j NAME] [--older SIZE] [--address-size SIZE] [--version-5]
--- [--comp-dir DIR] [--big] [--line-str PATH] [--str PATH] FILE [ADDRESS]..`, or with `-e FILE` in place of `FILE`
+-- `addr [-a] [-s] [--json] [--hex] [--base ADDRESS] [--all] [--stop] [-j NAME] [--older SIZE] [--address-size SIZE]
+-- [--version-5] [--comp-dir DIR] [--big] [--line-str PATH] [--str PATH] FILE [ADDRESS]..`, or with `-e FILE` in place
+-- of `FILE`
 abbrev pub addr_app : App
 addr_app = with_addresses (new_app (codes "addr"))
 

@@ -25,6 +25,7 @@ pub record AddrTexts : Type 0 where
   pub basenames : Bool
   pub json : Bool
   pub all : Bool
+  pub stop : Bool
   pub section : Option Text
   pub big : Bool
   pub units : UnitTexts
@@ -59,6 +60,7 @@ addr_words_made w = record {
   basenames = w.basenames;
   json = w.json;
   all = w.all;
+  stop = w.stop;
   section = option_map (λ s. s.now) w.section;
   big = w.big;
   units = unit_words_made w.units;

@@ -46,6 +46,7 @@ addr_words_of rows = record {
   basenames = flag_of (codes "basenames") rows;
   json = flag_of (codes "json") rows;
   all = flag_of (codes "all") rows;
+  stop = flag_of (codes "stop") rows;
   section = text_of (codes "section") rows;
   big = flag_of (codes "big") rows;
   units = unit_words_of rows;

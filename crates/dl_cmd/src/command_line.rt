@@ -489,6 +489,12 @@ fn add_settings<'a>(
         "Look into sequences too that begin outside executable sections",
     );
     let command = with_arg(command, all);
+    let stop = switch(
+        alloc,
+        "stop",
+        "Stop at the first damaged unit, of which the units before it answer alone",
+    );
+    let command = with_arg(command, stop);
     with_arg(command, section(alloc))
 }
 

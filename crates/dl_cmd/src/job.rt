@@ -85,6 +85,8 @@ pub struct AddrWords<'a> {
     pub json: bool,
     /// Sequences that begin outside executable sections count too.
     pub all: bool,
+    /// After a unit that is damaged the next one isn't read.
+    pub stop: bool,
     /// The name of the section of an object file that is looked into.
     pub section: Option<&'a str>,
     pub big: bool,

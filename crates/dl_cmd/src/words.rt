@@ -89,6 +89,7 @@ fn addr_words<'a>(alloc: Global, matches: &ArgMatches<'a>) -> Result<AddrWords<'
         basenames: flag(matches, "basenames"),
         json: flag(matches, "json"),
         all: flag(matches, "all"),
+        stop: flag(matches, "stop"),
         section: text(matches, "section"),
         big: flag(matches, "big"),
         units: unit_words(matches),

@@ -8,13 +8,14 @@ use Rattle.dl_field.proofs.FieldLemmas.{none_some, some_same}
 use Rattle.dl_head.specs.Header.{IsHeader, foreign_in, header_in, unit_len}
 use Rattle.dl_head.proofs.ForeignLemmas.{foreign_on}
 use Rattle.dl_head.proofs.HeaderLaws.{header_is_found, header_is_not_foreign}
+use Rattle.dl_head.proofs.QuietLemmas.{header_is_not_refused}
 use Rattle.dl_rows.proofs.UnitLemmas.{unit_len_on}
-use Rattle.dl_object.specs.Section.{NoUnitBegins}
-use Rattle.dl_forms.specs.Names.{Names, here, after, after_foreign, named_in, names_str}
+use Rattle.dl_object.specs.Section.{IsUnread, NoneFollows}
+use Rattle.dl_forms.specs.Names.{Names, here, after, after_unread, named_in, names_str}
 
--- a header or a foreign version, which w is
+-- a header, or the front of a unit that isn't read, which w is
 abbrev pub Kind : Dialect → List ℕ → Type 0
-Kind dialect w = ((h : HeaderData) × IsHeader dialect h w) ⊎ ((version : ℕ) × (foreign_in dialect w ≡ Some version))
+Kind dialect w = ((h : HeaderData) × IsHeader dialect h w) ⊎ IsUnread dialect w
 
 -- unnamed header that b begins with names the section
 abbrev NoneHere : Dialect → List ℕ → Type 0
@@ -25,11 +26,13 @@ both : {b : Bool} → b ≡ true → b ≡ false → ⊥
 both e f = let g : ◌≡◌ {A = Bool} true false = sym e ∙ f in absurd cc
 
 -- where unnamed unit begins nothing is named
-pub none_named : (dialect : Dialect) (b : List ℕ) → NoUnitBegins dialect b → Names dialect b → ⊥
-none_named dialect b none (here {h = h} head back e is named) = none.own h head back e is
-none_named dialect b none (after {h = h} head back e is told more) = none.own h head back e is
-none_named dialect b none (after_foreign head back {version = version} {len = len} e is told le more) =
-    none.foreign version head back len e is told le
+pub none_named : (dialect : Dialect) (b : List ℕ) → NoneFollows dialect b → Names dialect b → ⊥
+none_named dialect b none (here {h = h} head back e is named) = none.none.own h head back e is
+none_named dialect b none (after {h = h} head back e is told more) = none.none.own h head back e is
+none_named dialect b none (after_unread head back {len = len} e (inl foreign) told le more) =
+    none.none.foreign foreign.0 head back len e foreign.1 told le
+none_named dialect b none (after_unread head back {len = len} e (inr refused) told le more) =
+    none.refused head back len e refused told
 
 -- the length of the unit that bytes begin with, told by its head
 len_in : (dialect : Dialect) (b head back : List ℕ) (len : ℕ) → b ≡ head ++ back → unit_len dialect head ≡ Some len
@@ -44,7 +47,7 @@ past_unit dialect b len told none (after head back {len = other} e is known more
     subst (λ (n : ℕ). Names dialect (drop n b))
     (some_same other len (sym (len_in dialect b head back other e known) ∙ told))
     more
-past_unit dialect b len told none (after_foreign head back {len = other} e is known le more) =
+past_unit dialect b len told none (after_unread head back {len = other} e is known le more) =
     subst (λ (n : ℕ). Names dialect (drop n b))
     (some_same other len (sym (len_in dialect b head back other e known) ∙ told))
     more
@@ -77,7 +80,10 @@ none_here : (dialect : Dialect) (w rest : List ℕ) (o : Option HeaderData) → 
     → named_in o ≡ false → NoneHere dialect (w ++ rest)
 none_here dialect w rest (Some h) kind some none unnamed = none_here_own dialect h w rest (some h refl) unnamed
 none_here dialect w rest None (inl own) some none unnamed = absurd (none refl own.0 own.1)
-none_here dialect w rest None (inr foreign) some none unnamed = none_here_foreign dialect foreign.0 w rest foreign.1
+none_here dialect w rest None (inr (inl foreign)) some none unnamed =
+    none_here_foreign dialect foreign.0 w rest foreign.1
+none_here dialect w rest None (inr (inr r)) some none unnamed =
+    λ h head back e is named. header_is_not_refused dialect h head back w rest r.place r.kind is (sym e) r.refused
 
 -- the head w of a unit of `len` bytes
 module _ (dialect : Dialect) (w : List ℕ) (len : ℕ) (kind : Kind dialect w) (told : unit_len dialect w ≡ Some len)
@@ -90,8 +96,7 @@ module _ (dialect : Dialect) (w : List ℕ) (len : ℕ) (kind : Kind dialect w) 
 
   named_after : (kind : Kind dialect w) → Names dialect (drop len (w ++ rest)) → Names dialect (w ++ rest)
   named_after (inl own) more = after {h = own.0} w rest {len = len} refl own.1 told more
-  named_after (inr foreign) more =
-      after_foreign w rest {version = foreign.0} {len = len} refl foreign.1 told le more
+  named_after (inr unread) more = after_unread w rest {len = len} refl unread told le more
 
   -- what follows the head names what follows the unit
   pub past_head : (o : Option HeaderData) → ((h : HeaderData) → o ≡ Some h → IsHeader dialect h w)

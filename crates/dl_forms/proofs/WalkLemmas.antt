@@ -18,13 +18,29 @@ use Rattle.dl_head.specs.Runs.{Offered, Took, so_far}
 use Rattle.dl_head.specs.Standing.{StandsFor as HeadStandsFor}
 use Rattle.dl_rows.proofs.ReaderFeeds.{nothing_yet}
 use Rattle.dl_rows.proofs.UnitKnown.{foreign_known, header_known}
-use Rattle.dl_object.specs.Section.{NoUnitBegins}
-use Rattle.dl_object.proofs.HeadLemmas.{none_begins}
+use Rattle.dl_head.specs.declared.fault.Fault.{Fault}
+use Rattle.dl_object.specs.Section.{NoneFollows}
+use Rattle.dl_object.proofs.HeadLemmas.{none_after_refused, none_more}
 use Rattle.dl_forms.specs.declared.state.State.{State}
 use Rattle.dl_forms.specs.declared.state.State.TheVariants as state
 use Rattle.dl_forms.specs.Names.{AddsCellFrom, Names, named_in}
 use Rattle.dl_forms.specs.Standing.{Begins, IsHead, Onward, StandsAt}
 use Rattle.dl_forms.proofs.NamesLemmas.{Kind, named_here, none_named, past_head}
+
+-- a step after which the header isn't gone on with
+abbrev Ends : HeadStep → Type 0
+Ends step =
+    (step ≡ answer.Done) ⊎ (((version : ℕ) × (step ≡ answer.Foreign version)) ⊎ ((f : Fault) × (step ≡ answer.Fault f)))
+
+not_more : (step : HeadStep) → Ends step → step ≡ answer.More → ⊥
+not_more step (inl e) more = let g : answer.Done ≡ answer.More = sym e ∙ more in absurd cc
+not_more step (inr (inl e)) more = let g : answer.Foreign e.0 ≡ answer.More = sym e.1 ∙ more in absurd cc
+not_more step (inr (inr e)) more = let g : answer.Fault e.0 ≡ answer.More = sym e.1 ∙ more in absurd cc
+
+not_refused : (step : HeadStep) → Ends step → step ≡ answer.NoMemory → ⊥
+not_refused step (inl e) refused = let g : answer.Done ≡ answer.NoMemory = sym e ∙ refused in absurd cc
+not_refused step (inr (inl e)) refused = let g : answer.Foreign e.0 ≡ answer.NoMemory = sym e.1 ∙ refused in absurd cc
+not_refused step (inr (inr e)) refused = let g : answer.Fault e.0 ≡ answer.NoMemory = sym e.1 ∙ refused in absurd cc
 
 -- each front of u leaves the header going on
 abbrev IsOpen : Dialect → List ℕ → Type 0
@@ -46,8 +62,8 @@ onward_more dialect b u x onward = record {
 
 -- ---- the header goes on after u
 
--- so u begins unnamed unit
-open_begins_none : (dialect : Dialect) (u : List ℕ) → IsOpen dialect u → NoUnitBegins dialect u
+-- so u begins no unit whose length is known
+open_begins_none : (dialect : Dialect) (u : List ℕ) → IsOpen dialect u → NoneFollows dialect u
 open_begins_none dialect u goes =
     let took : Took dialect [] u (length u) answer.More = record {
       within = omega arith;
@@ -55,7 +71,7 @@ open_begins_none dialect u goes =
       before = λ i lt. goes i (omega (arith, lt));
       unfed = λ e. absurd cc;
     } in
-    none_begins dialect u (length u) answer.More took (inl refl) (λ e. refl)
+    none_more dialect u (length u) answer.More took refl refl
 
 pub open_names_none : (dialect : Dialect) (u : List ℕ) → IsOpen dialect u → Names dialect u → ⊥
 open_names_none dialect u goes = none_named dialect u (open_begins_none dialect u goes)
@@ -105,25 +121,6 @@ module _ (dialect : Dialect) (u piece : List ℕ) (goes : IsOpen dialect u) (use
         (subst (λ (s : HeadStep). Answers dialect w (so_far s)) more took.answers)
   ]
 
-  -- all bytes, whatever follows
-  whole : (step ≡ answer.NoMemory → ⊥) → (rest : List ℕ) → Took dialect [] (w ++ rest) (length w) step
-  whole fed rest = record {
-    within = (let n = length-append w rest in omega (arith, n));
-    answers = subst (λ (z : List ℕ). Answers dialect z (so_far step))
-        (sym (take_at w rest (length w) refl)) took.answers;
-    before = λ i lt. subst (λ (z : List ℕ). Answers dialect z answer.More)
-        (sym (take-append-le i w rest (omega (arith, lt)))) (before i lt);
-    unfed = λ e. absurd (fed e);
-  }
-
-  -- a fault: unnamed unit begins, whatever follows
-  pub fault_names_none : (f : _) → step ≡ answer.Fault f → (rest : List ℕ) → Names dialect (w ++ rest) → ⊥
-  fault_names_none f e rest =
-      none_named dialect (w ++ rest)
-      (none_begins dialect (w ++ rest) (length w) step
-      (whole (λ refused. let g : answer.Fault f ≡ answer.NoMemory = sym e ∙ refused in absurd cc) rest) (inr (f, e))
-      (λ more. let g : answer.Fault f ≡ answer.More = sym e ∙ more in absurd cc))
-
   -- memory is refused
   pub adds_cell : step ≡ answer.NoMemory → (before b : List ℕ) → b ≡ before ++ u
       → AddsCellFrom dialect (length b) (b ++ piece)
@@ -142,17 +139,19 @@ module _ (dialect : Dialect) (u piece : List ℕ) (goes : IsOpen dialect u) (use
         cell.3,
       )
 
-  -- a header, or a foreign version
-  pub kind_is : (step ≡ answer.Done) ⊎ ((version : ℕ) × (step ≡ answer.Foreign version)) → Kind dialect w
+  -- a header, a foreign version, or a fault
+  pub kind_is : Ends step → Kind dialect w
   kind_is (inl done) = inl (subst (λ (s : HeadStep). Answers dialect w (so_far s)) done took.answers)
-  kind_is (inr foreign) =
-      inr (foreign.0, subst (λ (s : HeadStep). Answers dialect w (so_far s)) foreign.1 took.answers)
+  kind_is (inr (inl foreign)) =
+      inr (inl (foreign.0, subst (λ (s : HeadStep). Answers dialect w (so_far s)) foreign.1 took.answers))
+  kind_is (inr (inr fault)) =
+      inr (inr (record {
+        place = fault.0.offset;
+        kind = fault.0.kind;
+        refused = subst (λ (s : HeadStep). Answers dialect w (so_far s)) fault.1 took.answers;
+      }))
 
 -- ---- after the head of a unit
-
-unit_known : (dialect : Dialect) (w : List ℕ) → Kind dialect w → (n : ℕ) × (unit_len dialect w ≡ Some n)
-unit_known dialect w (inl own) = header_known dialect own.0 w own.1
-unit_known dialect w (inr foreign) = foreign_known dialect w foreign.0 foreign.1
 
 -- what the reader gives is what the bytes are
 gives_some : (dialect : Dialect) (reader : HeadReader) (w : List ℕ) (o : Option HeaderData) → HeadStandsFor reader w
@@ -186,9 +185,20 @@ module _ (reader : HeadReader) (b w : List ℕ) (is : IsHead reader w) (onward :
         λ named. (onward.same rest).1 (past.1 (subst (Names reader.dialect) same named)),
       )
 
-pub len_told : (reader : HeadReader) (w : List ℕ) → IsHead reader w
-    → ◌≡◌ {A = Option ℕ} None (unit_len reader.dialect w) → ⊥
-len_told reader w is none = none_some (sym none) (unit_known reader.dialect w is.kind).1
+-- a head of which the length isn't known names nothing, whatever follows
+none_after : (dialect : Dialect) (w rest : List ℕ) → Kind dialect w → unit_len dialect w ≡ None
+    → Names dialect (w ++ rest) → ⊥
+none_after dialect w rest (inl own) unknown named =
+    none_some unknown (header_known dialect own.0 w own.1).1
+none_after dialect w rest (inr (inl foreign)) unknown named =
+    none_some unknown (foreign_known dialect w foreign.0 foreign.1).1
+none_after dialect w rest (inr (inr r)) unknown named =
+    none_named dialect (w ++ rest) (none_after_refused dialect w rest r unknown) named
+
+pub ended : (reader : HeadReader) (b w : List ℕ) → IsHead reader w → Onward reader.dialect b w
+    → ◌≡◌ {A = Option ℕ} None (unit_len reader.dialect w) → (rest : List ℕ) → Names reader.dialect (b ++ rest) → ⊥
+ended reader b w is onward none rest named =
+    none_after reader.dialect w rest is.kind (sym none) ((onward.same rest).0 named)
 
 -- ---- after a piece of the rest of a unit
 
@@ -236,21 +246,8 @@ begins_none reader stands = record { stands = stands; goes = nil_open reader.dia
 -- what ends the header has a byte
 module _ (reader : HeadReader) (u piece : List ℕ) (used : ℕ) (step : HeadStep) (begins : Begins reader u)
     (progress : Answers reader.dialect u answer.More → step ≢ answer.More → step ≢ answer.NoMemory → 1 ≤ used) where
-  pub fault_some : (f : _) → step ≡ answer.Fault f → 1 ≤ used
-  fault_some f e =
-      progress (begun_more reader u begins)
-      (λ more. let g : answer.Fault f ≡ answer.More = sym e ∙ more in absurd cc)
-      (λ refused. let g : answer.Fault f ≡ answer.NoMemory = sym e ∙ refused in absurd cc)
-
-  pub ended_some : (step ≡ answer.Done) ⊎ ((version : ℕ) × (step ≡ answer.Foreign version)) → 1 ≤ used
-  ended_some (inl e) =
-      progress (begun_more reader u begins)
-      (λ more. let g : answer.Done ≡ answer.More = sym e ∙ more in absurd cc)
-      (λ refused. let g : answer.Done ≡ answer.NoMemory = sym e ∙ refused in absurd cc)
-  ended_some (inr e) =
-      progress (begun_more reader u begins)
-      (λ more. let g : answer.Foreign e.0 ≡ answer.More = sym e.1 ∙ more in absurd cc)
-      (λ refused. let g : answer.Foreign e.0 ≡ answer.NoMemory = sym e.1 ∙ refused in absurd cc)
+  pub ended_some : Ends step → 1 ≤ used
+  ended_some ends = progress (begun_more reader u begins) (not_more step ends) (not_refused step ends)
 
 module _ (reader new : HeadReader) (b u piece : List ℕ) (used : ℕ) (step : HeadStep) (begins : Begins reader u)
     (offered : Answers reader.dialect u answer.More → Offered reader.dialect u piece used step new)
@@ -287,8 +284,8 @@ module _ (reader new : HeadReader) (b u piece : List ℕ) (used : ℕ) (step : H
   pub all_taken : step ≡ answer.More → 1 ≤ length piece → 1 ≤ used
   all_taken more some = let n = given.answered.whole more in omega (arith, n, some)
 
-  -- it ends, or the version isn't 5
-  module _ (ends : (step ≡ answer.Done) ⊎ ((version : ℕ) × (step ≡ answer.Foreign version))) where
+  -- it ends, or the unit isn't read
+  module _ (ends : Ends step) where
     pub is_head : IsHead new head
     is_head = record {
       stands = given.stands;
@@ -301,11 +298,6 @@ module _ (reader new : HeadReader) (b u piece : List ℕ) (used : ℕ) (step : H
     stands_after after at =
         subst (λ (d : Dialect). StandsAt d after taken) same
         (at taken head is_head (subst (λ (d : Dialect). Onward d taken head) (sym same) later))
-
-  -- it is damaged
-  pub ended : (f : _) → step ≡ answer.Fault f → (rest : List ℕ) → Names reader.dialect (taken ++ rest) → ⊥
-  ended f fault rest named =
-      fault_names_none reader.dialect u piece begins.goes used step took f fault rest ((later.same rest).0 named)
 
   -- memory is refused
   pub wants_cell : step ≡ answer.NoMemory → AddsCellFrom reader.dialect (length b) (b ++ piece)

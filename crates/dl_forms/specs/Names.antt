@@ -7,8 +7,9 @@ use Rattle.dl_table.specs.declared.form.Form.{Form}
 use Rattle.dl_table.specs.declared.form.Form.TheVariants as form
 use Rattle.dl_table.specs.declared.table.Pair.{Pair}
 use Rattle.dl_field.specs.HeaderData.{HeaderData}
-use Rattle.dl_head.specs.Header.{IsHeader, foreign_in, unit_len}
+use Rattle.dl_head.specs.Header.{IsHeader, unit_len}
 use Rattle.dl_head.specs.Reading.{AddsCell}
+use Rattle.dl_object.specs.Section.{IsUnread}
 
 abbrev pub is_strp : Form → Bool
 is_strp form.Strp = true
@@ -27,7 +28,7 @@ named_in None = false
 named_in (Some h) = names_str h
 
 -- The header of a unit in b names the section. The units are cut by their lengths alone: their programs aren't looked
--- into, and a unit that is cut short is followed by nothing. After a header that isn't one no unit stands.
+-- into, and a unit that is cut short is followed by nothing, as is one whose length isn't known.
 pub data Names (dialect : Dialect) : List ℕ → Type 0 where
   -- b begins with such a header
   here : {h : HeaderData} {b : List ℕ} (head back : List ℕ) → b ≡ head ++ back → IsHeader dialect h head
@@ -35,10 +36,9 @@ pub data Names (dialect : Dialect) : List ℕ → Type 0 where
   -- b begins with a header, and a unit after that one has such a header
   after : {h : HeaderData} {b : List ℕ} (head back : List ℕ) {len : ℕ} → b ≡ head ++ back → IsHeader dialect h head
       → unit_len dialect head ≡ Some len → Names dialect (drop len b) → Names dialect b
-  -- the same after a unit of another version, which b begins with up to that version
-  after_foreign : {b : List ℕ} (head back : List ℕ) {version len : ℕ} → b ≡ head ++ back
-      → foreign_in dialect head ≡ Some version → unit_len dialect head ≡ Some len → length head ≤ len
-      → Names dialect (drop len b) → Names dialect b
+  -- the same after a unit that isn't read, with the front of which b begins
+  after_unread : {b : List ℕ} (head back : List ℕ) {len : ℕ} → b ≡ head ++ back → IsUnread dialect head
+      → unit_len dialect head ≡ Some len → length head ≤ len → Names dialect (drop len b) → Names dialect b
 
 -- with a byte after the first n of b the header of a unit in b holds a cell more, for which memory may be refused
 abbrev pub AddsCellFrom : Dialect → (n : ℕ) (b : List ℕ) → Type 0

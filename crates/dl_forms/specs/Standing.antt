@@ -1,12 +1,13 @@
 -- Which bytes a walk over the units of a section has taken. No promise rests on how this is said.
-use Rattle.std.specs.Prelude.{◌≡◌, ◌≤◌, ◌⊎◌, ◌↔◌, ℕ, List, ◌++◌, length, take, drop, Some}
+use Rattle.std.specs.Prelude.{◌≡◌, ◌≤◌, ◌⊎◌, ◌↔◌, ℕ, List, ◌++◌, length, take, drop}
 use Rattle.dl_head.specs.declared.dialect.Dialect.{Dialect}
 use Rattle.dl_field.specs.HeaderData.{HeaderData}
 use Rattle.dl_head.specs.declared.reader.HeadReader.{HeadReader}
 use Rattle.dl_head.specs.declared.reader.HeadStep.TheVariants as answer
-use Rattle.dl_head.specs.Header.{IsHeader, foreign_in}
+use Rattle.dl_head.specs.Header.{IsHeader}
 use Rattle.dl_head.specs.Reading.{Answers}
 use Rattle.dl_head.specs.Standing.{StandsFor as HeadStandsFor}
+use Rattle.dl_object.specs.Section.{IsUnread}
 use Rattle.dl_forms.specs.declared.state.State.{State}
 use Rattle.dl_forms.specs.declared.state.State.TheVariants as state
 use Rattle.dl_forms.specs.declared.walk.StringWalk.{StringWalk}
@@ -23,11 +24,10 @@ pub record Begins (reader : HeadReader) (u : List ℕ) : Type 0 where
   pub stands : HeadStandsFor reader u
   pub goes : (i : ℕ) → i ≤ length u → Answers reader.dialect (take i u) answer.More
 
--- w is the header of a unit, or the first bytes of one of another version, up to that version
+-- w is the header of a unit, or the front of one that isn't read
 pub record IsHead (reader : HeadReader) (w : List ℕ) : Type 0 where
   pub stands : HeadStandsFor reader w
-  pub kind : ((h : HeaderData) × IsHeader reader.dialect h w)
-      ⊎ ((version : ℕ) × (foreign_in reader.dialect w ≡ Some version))
+  pub kind : ((h : HeaderData) × IsHeader reader.dialect h w) ⊎ IsUnread reader.dialect w
 
 abbrev pub StandsAt : Dialect → State → List ℕ → Type 0
 StandsAt dialect (state.Head reader) b = (u : List ℕ) × (reader.dialect ≡ dialect) × Begins reader u

@@ -19,7 +19,7 @@ pub enum State {
     Body(u64),
     /// After a header that names the section.
     Named,
-    /// Where no unit begins. Nothing after it is read.
+    /// Where no unit begins whose length is known. Nothing after it is read.
     Ended,
 }
 
@@ -48,7 +48,7 @@ fn is_named(header: Option<&Header>) -> bool
     }
 }
 
-/// Where a walk is after the head of a unit.
+/// Where a walk is after the head of a unit, or after the byte that decides that it is damaged.
 fn after_head(reader: &HeadReader) -> State
     ensures { (b w : List ℕ) → IsHead reader.now w → Onward reader.now.dialect b w
         → StandsAt reader.now.dialect result b }
@@ -75,8 +75,9 @@ fn read_head(reader: HeadReader, piece: &[u8]) -> Result<(State, usize), NoMemor
     let (used, step) = reader.offer(piece);
     match step {
         HeadStep::More => Ok((State::Head(reader), used)),
-        HeadStep::Done | HeadStep::Foreign(_) => Ok((after_head(&reader), used)),
-        HeadStep::Fault(_) => Ok((State::Ended, used)),
+        HeadStep::Done | HeadStep::Foreign(_) | HeadStep::Fault(_) => {
+            Ok((after_head(&reader), used))
+        }
         HeadStep::NoMemory => Err(NoMemory),
     }
 }

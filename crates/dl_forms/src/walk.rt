@@ -13,7 +13,8 @@ use std::alloc::Global;
 /// format of its directories or files has DW_FORM_strp.
 ///
 /// Of each unit it reads the header, and passes over what follows by the unit's length, as over units of other
-/// versions. Where no unit begins, as at a fault in a header, it ends. Memory is taken for a header at a time.
+/// versions and over what follows a fault in a header. Where that length isn't good, it ends. Memory is taken for a
+/// header at a time.
 #[derive(Drop)]
 pub struct StringWalk {
     alloc: Global,

@@ -9,12 +9,12 @@ use Rattle.dl_field.proofs.FieldLemmas.{none_some, some_same}
 use Rattle.dl_head.specs.Header.{IsHeader, foreign_in, unit_len}
 use Rattle.dl_head.proofs.ForeignLemmas.{foreign_on}
 use Rattle.dl_head.proofs.HeaderLaws.{one_header, header_is_not_foreign}
+use Rattle.dl_head.proofs.QuietLemmas.{header_is_not_refused}
 use Rattle.dl_reloc.specs.declared.placed.Placed.{Placed}
 use Rattle.dl_rows.proofs.FirstLemmas.{split_front}
 use Rattle.dl_rows.proofs.UnitLemmas.{unit_len_on}
-use Rattle.dl_object.specs.Sequences.{spelled_in}
 use Rattle.dl_object.specs.Kept.{program_kept}
-use Rattle.dl_object.specs.Section.{IsBody, NoUnitBegins, Keeps, ends, foreign, whole, damaged}
+use Rattle.dl_object.specs.Section.{IsBody, IsUnread, NoneFollows, Keeps, ends, unread, own}
 use Rattle.dl_object.specs.Laws.{OneKeeping}
 
 -- bytes cut at one place
@@ -96,28 +96,37 @@ module _ (dialect : Dialect) (head body after head2 body2 after2 : List ℕ)
       let same = one_header dialect h h2 head q.0 one (subst (IsHeader dialect h2) q.1 two) in
       (sym (q.1 ∙ ap (λ (u : List ℕ). head ++ u) same.0 ∙ append-nil head), same.1)
 
-  not_both : (version : ℕ) (h2 : HeaderData) → foreign_in dialect head ≡ Some version → IsHeader dialect h2 head2
+  -- a header is read
+  not_foreign : (version : ℕ) (h2 : HeaderData) → foreign_in dialect head ≡ Some version → IsHeader dialect h2 head2
       → Fronts head head2 → ⊥
-  not_both version h2 f two (inl p) =
+  not_foreign version h2 f two (inl p) =
       none_some (header_is_not_foreign dialect h2 head2 (p.0 ∷ p.1) two) (ap (foreign_in dialect) (sym p.2) ∙ f)
-  not_both version h2 f two (inr q) =
+  not_foreign version h2 f two (inr q) =
       none_some (ap (foreign_in dialect) (sym (append-nil head2)) ∙ header_is_not_foreign dialect h2 head2 [] two)
       (ap (foreign_in dialect) q.1 ∙ foreign_on dialect head q.0 version f)
+
+  not_both : (h2 : HeaderData) → IsUnread dialect head → IsHeader dialect h2 head2 → Fronts head head2 → ⊥
+  not_both h2 (inl f) two front = not_foreign f.0 h2 f.1 two front
+  not_both h2 (inr r) two front =
+      header_is_not_refused dialect h2 head2 (body2 ++ after2) head (body ++ after) r.place r.kind two
+      (sym (regroup head body after _ e ∙ append_assoc head2 body2 after2)) r.refused
 
   -- its program
   same_body : head ≡ head2 → head ++ body ≡ head2 ++ body2 → body ≡ body2
   same_body h u = (same_cut head body head2 body2 u (ap length h)).1
 
 -- no unit begins where one does
-none_own : (dialect : Dialect) (b : List ℕ) (h : HeaderData) (head body after : List ℕ) → NoUnitBegins dialect b
+none_own : (dialect : Dialect) (b : List ℕ) (h : HeaderData) (head body after : List ℕ) → NoneFollows dialect b
     → b ≡ (head ++ body) ++ after → IsHeader dialect h head → ⊥
 none_own dialect b h head body after none e is =
-    none.own h head (body ++ after) (e ∙ append_assoc head body after) is
+    none.none.own h head (body ++ after) (e ∙ append_assoc head body after) is
 
-none_foreign : (dialect : Dialect) (b : List ℕ) (version : ℕ) (head body after : List ℕ) → NoUnitBegins dialect b
-    → b ≡ (head ++ body) ++ after → foreign_in dialect head ≡ Some version → IsBody dialect head body after → ⊥
-none_foreign dialect b version head body after none e f is =
-    none.foreign version head (body ++ after) is.len (e ∙ append_assoc head body after) f is.told is.head_within
+none_unread : (dialect : Dialect) (b head body after : List ℕ) → NoneFollows dialect b → b ≡ (head ++ body) ++ after
+    → IsUnread dialect head → IsBody dialect head body after → ⊥
+none_unread dialect b head body after none e (inl f) is =
+    none.none.foreign f.0 head (body ++ after) is.len (e ∙ append_assoc head body after) f.1 is.told is.head_within
+none_unread dialect b head body after none e (inr r) is =
+    none.refused head (body ++ after) is.len (e ∙ append_assoc head body after) r is.told
 
 left_same : (order : Order) (places : List Placed) (section at : ℕ) (h h2 : HeaderData) (head head2 body body2 : List ℕ)
     → head ≡ head2 → h ≡ h2 → body ≡ body2
@@ -128,46 +137,34 @@ left_same order places section at h h2 head head2 body body2 s t u =
     ∙ ap (λ (z : HeaderData). head2 ++ program_kept order z.params places section (at + length head2) body) t
     ∙ ap (λ (z : List ℕ). head2 ++ program_kept order h2.params places section (at + length head2) z) u
 
-rest_same : (order : Order) (h h2 : HeaderData) (body body2 : List ℕ) → h ≡ h2 → body ≡ body2
-    → (spelled_in order h.params body).rest ≡ (spelled_in order h2.params body2).rest
-rest_same order h h2 body body2 t u =
-    ap (λ (z : HeaderData). (spelled_in order z.params body).rest) t
-    ∙ ap (λ (z : List ℕ). (spelled_in order h2.params z).rest) u
-
 module _ (dialect : Dialect) (places : List Placed) (section : ℕ) where
   one : {at : ℕ} {b new b2 new2 : List ℕ} → Keeps dialect places section at b new
       → Keeps dialect places section at b2 new2 → b ≡ b2 → new ≡ new2
   one (ends n) (ends m) e = e
-  one (ends {b = b} n) (foreign {version = version} {head = head} {body = body} {after = after} f is k) e =
-      absurd (none_foreign dialect b version head body after n e f is)
-  one (ends {b = b} n) (whole {h = h} {head = head} {body = body} {after = after} a is good k) e =
+  one (ends {b = b} n) (unread {head = head} {body = body} {after = after} f is k) e =
+      absurd (none_unread dialect b head body after n e f is)
+  one (ends {b = b} n) (own {h = h} {head = head} {body = body} {after = after} a is k) e =
       absurd (none_own dialect b h head body after n e a)
-  one (ends {b = b} n) (damaged {h = h} {head = head} {body = body} {after = after} a is bad) e =
-      absurd (none_own dialect b h head body after n e a)
-  one (foreign {version = version} {head = head} {body = body} {after = after} f is k) (ends {b = b} n) e =
-      absurd (none_foreign dialect b version head body after n (sym e) f is)
-  one (foreign {at = at} {head = head} {body = body} {after = after} {new = new} f is k)
-      (foreign {head = head2} {body = body2} {after = after2} {new = new2} f2 is2 k2) e =
+  one (unread {head = head} {body = body} {after = after} f is k) (ends {b = b} n) e =
+      absurd (none_unread dialect b head body after n (sym e) f is)
+  one (unread {at = at} {head = head} {body = body} {after = after} {new = new} f is k)
+      (unread {head = head2} {body = body2} {after = after2} {new = new2} f2 is2 k2) e =
       let u = same_unit dialect head body after head2 body2 after2 e is is2 in
       let later : new ≡ new2 =
       one k (subst (λ (z : List ℕ). Keeps dialect places section (at + length z) after2 new2) (sym u.0) k2) u.1 in
       ap (λ (z : List ℕ). z ++ new) u.0 ∙ ap (λ (z : List ℕ). (head2 ++ body2) ++ z) later
-  one (foreign {version = version} {head = head} {body = body} {after = after} f is k)
-      (whole {h = h2} {head = head2} {body = body2} {after = after2} a2 is2 good2 k2) e =
-      absurd (not_both dialect head body after head2 body2 after2 e version h2 f a2
+  one (unread {head = head} {body = body} {after = after} f is k)
+      (own {h = h2} {head = head2} {body = body2} {after = after2} a2 is2 k2) e =
+      absurd (not_both dialect head body after head2 body2 after2 e h2 f a2
       (both dialect head body after head2 body2 after2 e))
-  one (foreign {version = version} {head = head} {body = body} {after = after} f is k)
-      (damaged {h = h2} {head = head2} {body = body2} {after = after2} a2 is2 bad2) e =
-      absurd (not_both dialect head body after head2 body2 after2 e version h2 f a2
-      (both dialect head body after head2 body2 after2 e))
-  one (whole {h = h} {head = head} {body = body} {after = after} a is good k) (ends {b = b} n) e =
+  one (own {h = h} {head = head} {body = body} {after = after} a is k) (ends {b = b} n) e =
       absurd (none_own dialect b h head body after n (sym e) a)
-  one (whole {h = h} {head = head} {body = body} {after = after} a is good k)
-      (foreign {version = version} {head = head2} {body = body2} {after = after2} f2 is2 k2) e =
-      absurd (not_both dialect head2 body2 after2 head body after (sym e) version h f2 a
+  one (own {h = h} {head = head} {body = body} {after = after} a is k)
+      (unread {head = head2} {body = body2} {after = after2} f2 is2 k2) e =
+      absurd (not_both dialect head2 body2 after2 head body after (sym e) h f2 a
       (both dialect head2 body2 after2 head body after (sym e)))
-  one (whole {at = at} {h = h} {head = head} {body = body} {after = after} {new = new} a is good k)
-      (whole {h = h2} {head = head2} {body = body2} {after = after2} {new = new2} a2 is2 good2 k2) e =
+  one (own {at = at} {h = h} {head = head} {body = body} {after = after} {new = new} a is k)
+      (own {h = h2} {head = head2} {body = body2} {after = after2} {new = new2} a2 is2 k2) e =
       let u = same_unit dialect head body after head2 body2 after2 e is is2 in
       let s = same_header dialect head body after head2 body2 after2 e h h2 a a2
       (both dialect head body after head2 body2 after2 e) in
@@ -177,35 +174,6 @@ module _ (dialect : Dialect) (places : List Placed) (section : ℕ) where
       ap (λ (z : List ℕ). z ++ new) (left_same dialect.order places section at h h2 head head2 body body2 s.0 s.1 t)
       ∙ ap (λ (z : List ℕ). (head2 ++ program_kept dialect.order h2.params places section (at + length head2)
       body2) ++ z) later
-  one (whole {h = h} {head = head} {body = body} {after = after} a is good k)
-      (damaged {h = h2} {head = head2} {body = body2} {after = after2} a2 is2 bad2) e =
-      let u = same_unit dialect head body after head2 body2 after2 e is is2 in
-      let s = same_header dialect head body after head2 body2 after2 e h h2 a a2
-      (both dialect head body after head2 body2 after2 e) in
-      let t = same_body dialect head body after head2 body2 after2 e s.0 u.0 in
-      absurd (bad2 (sym (rest_same dialect.order h h2 body body2 s.1 t) ∙ good))
-  one (damaged {h = h} {head = head} {body = body} {after = after} a is bad) (ends {b = b} n) e =
-      absurd (none_own dialect b h head body after n (sym e) a)
-  one (damaged {h = h} {head = head} {body = body} {after = after} a is bad)
-      (foreign {version = version} {head = head2} {body = body2} {after = after2} f2 is2 k2) e =
-      absurd (not_both dialect head2 body2 after2 head body after (sym e) version h f2 a
-      (both dialect head2 body2 after2 head body after (sym e)))
-  one (damaged {h = h} {head = head} {body = body} {after = after} a is bad)
-      (whole {h = h2} {head = head2} {body = body2} {after = after2} a2 is2 good2 k2) e =
-      let u = same_unit dialect head body after head2 body2 after2 e is is2 in
-      let s = same_header dialect head body after head2 body2 after2 e h h2 a a2
-      (both dialect head body after head2 body2 after2 e) in
-      let t = same_body dialect head body after head2 body2 after2 e s.0 u.0 in
-      absurd (bad (rest_same dialect.order h h2 body body2 s.1 t ∙ good2))
-  one (damaged {at = at} {h = h} {head = head} {body = body} {after = after} a is bad)
-      (damaged {h = h2} {head = head2} {body = body2} {after = after2} a2 is2 bad2) e =
-      let u = same_unit dialect head body after head2 body2 after2 e is is2 in
-      let s = same_header dialect head body after head2 body2 after2 e h h2 a a2
-      (both dialect head body after head2 body2 after2 e) in
-      let t = same_body dialect head body after head2 body2 after2 e s.0 u.0 in
-      ap (λ (z : List ℕ). z ++ after) (left_same dialect.order places section at h h2 head head2 body body2 s.0 s.1 t)
-      ∙ ap (λ (z : List ℕ). (head2 ++ program_kept dialect.order h2.params places section (at + length head2)
-      body2) ++ z) u.1
 
 pub one_keeping : OneKeeping
 one_keeping dialect places section at b new new2 k k2 = one dialect places section k k2 refl

@@ -1,5 +1,5 @@
 -- A program of which the first bytes are replaced.
-use Rattle.std.proofs.Common.{◌≡◌, ◌≢◌, ℕ, ◌+◌, ◌-◌, Bool, true, false, cond, List, [], ◌∷◌, ◌++◌, length, take, drop, Option}
+use Rattle.std.proofs.Common.{◌≡◌, ◌⊎◌, inl, inr, ℕ, ◌+◌, ◌-◌, Bool, true, false, cond, List, [], ◌∷◌, ◌++◌, length, take, drop, Option}
 use Rattle.std.proofs.Common.{Some, None, refl, sym, ap, subst, ◌∙◌, arith, append_assoc, take-add}
 use Rattle.std.proofs.lemmas.List.{take-append-drop, drop-drop, take_at}
 use Rattle.dl_num.specs.declared.fixed.Order.{Order}
@@ -9,11 +9,12 @@ use Rattle.dl_reloc.specs.declared.placed.Placed.{Placed}
 use Rattle.dl_rows.specs.Matrix.{is_address}
 use Rattle.dl_rows.proofs.FirstLemmas.{nil_front}
 use Rattle.dl_object.specs.declared.sequence.Sequence.{Sequence}
+use Rattle.dl_object.specs.declared.sequence.Front.{Front}
 use Rattle.dl_object.specs.declared.sequence.Front.TheVariants as front
-use Rattle.dl_object.specs.Sequences.{Spelled, spelled, spelled_in, bytes_of}
+use Rattle.dl_object.specs.Sequences.{Spelled, spelled, bytes_of}
 use Rattle.dl_object.specs.Kept.{address_place, section_at_any, is_same, passed_over, sequence_kept, program_kept}
 use Rattle.dl_object.specs.Fronts.{Runs, FrontIs, place_from}
-use Rattle.dl_object.proofs.KeptLemmas.{kept_sequence, rest_after, kept_rest, rest_is}
+use Rattle.dl_object.proofs.KeptLemmas.{kept_sequence, kept_rest}
 use Rattle.dl_object.proofs.RunLemmas.{runs_bytes}
 
 -- what begins at a later place
@@ -42,13 +43,11 @@ module _ (order : Order) (h : Params) (places : List Placed) (section offset : �
     pub rest : drop at new ≡ drop at old
     pub kept : program_kept order h places section offset old
         ≡ take at new ++ program_kept order h places section (offset + at) (drop at old)
-    pub whole : (spelled_in order h old).rest ≡ (spelled_in order h (drop at old)).rest
 
   pub none_replaced : Replaced old 0
   none_replaced = record {
     rest = refl;
     kept = ap (λ (n : ℕ). program_kept order h places section n old) (omega arith);
-    whole = refl;
   }
 
   module _ (new : List ℕ) (at : ℕ) (so : Replaced new at) where
@@ -79,10 +78,6 @@ module _ (order : Order) (h : Params) (places : List Placed) (section offset : �
                 (sym front)
                 ∙ ap (λ (n : ℕ). take end next ++ program_kept order h places section n (drop q.len (drop at old))) place
                 ∙ ap (λ (b : List ℕ). take end next ++ program_kept order h places section (offset + end) b) later;
-            whole =
-                so.whole
-                ∙ rest_after order h places section (offset + at) (drop at old) f.0 (drop q.len (drop at old)) r
-                ∙ ap (λ (b : List ℕ). (spelled_in order h b).rest) later;
           }
 
       -- its section
@@ -123,27 +118,29 @@ module _ (order : Order) (h : Params) (places : List Placed) (section offset : �
           (front ∙ ap (λ (z : List ℕ). take at new ++ z) (sym (wanted_is q there false e)))
 
     -- no sequence more
-    pub all_replaced : (b : List ℕ) → b ≡ drop at new → FrontIs order h b front.Open
-        → (new ≡ program_kept order h places section offset old) × ((spelled_in order h old).rest ≡ [])
+    all_replaced : (b : List ℕ) → b ≡ drop at new → FrontIs order h b front.Open
+        → new ≡ program_kept order h places section offset old
     all_replaced b same f =
         let r : Runs order h (drop at old) f.0 [] =
         subst (λ (b : List ℕ). Runs order h b f.0 []) (same ∙ so.rest) f.2 in
-        let none = nothing_nowhere order h in (
-          sym (so.kept
-              ∙ ap (λ (b : List ℕ). take at new ++ b)
-              (kept_rest order h places section (offset + at) (drop at old) f.0 [] r f.1 none ∙ sym so.rest)
-              ∙ take-append-drop at new),
-          so.whole ∙ rest_is order h places section (offset + at) (drop at old) f.0 [] r f.1 none,
-        )
+        sym (so.kept
+        ∙ ap (λ (b : List ℕ). take at new ++ b)
+        (kept_rest order h places section (offset + at) (drop at old) f.0 [] r f.1 (nothing_nowhere order h)
+        ∙ sym so.rest)
+        ∙ take-append-drop at new)
 
-    pub damaged_replaced : (b : List ℕ) → b ≡ drop at new → FrontIs order h b front.Damaged
-        → (new ≡ program_kept order h places section offset old) × ((spelled_in order h old).rest ≢ [])
+    damaged_replaced : (b : List ℕ) → b ≡ drop at new → FrontIs order h b front.Damaged
+        → new ≡ program_kept order h places section offset old
     damaged_replaced b same f =
         let r : Runs order h (drop at old) f.0 f.1 =
-        subst (λ (b : List ℕ). Runs order h b f.0 f.1) (same ∙ so.rest) f.3 in (
-          sym (so.kept
-              ∙ ap (λ (b : List ℕ). take at new ++ b)
-              (kept_rest order h places section (offset + at) (drop at old) f.0 f.1 r f.2 f.4 ∙ sym so.rest)
-              ∙ take-append-drop at new),
-          λ e. f.5 (sym (rest_is order h places section (offset + at) (drop at old) f.0 f.1 r f.2 f.4) ∙ sym so.whole ∙ e),
-        )
+        subst (λ (b : List ℕ). Runs order h b f.0 f.1) (same ∙ so.rest) f.3 in
+        sym (so.kept
+        ∙ ap (λ (b : List ℕ). take at new ++ b)
+        (kept_rest order h places section (offset + at) (drop at old) f.0 f.1 r f.2 f.4 ∙ sym so.rest)
+        ∙ take-append-drop at new)
+
+    -- no whole sequence more
+    pub rest_stays : (b : List ℕ) → b ≡ drop at new → (found : Front) → (found ≡ front.Open) ⊎ (found ≡ front.Damaged)
+        → FrontIs order h b found → new ≡ program_kept order h places section offset old
+    rest_stays b same found (inl e) f = all_replaced b same (subst (FrontIs order h b) e f)
+    rest_stays b same found (inr e) f = damaged_replaced b same (subst (FrontIs order h b) e f)

@@ -7,7 +7,7 @@ use Rattle.dl_reloc.specs.declared.placed.Placed.{Placed}
 use Rattle.dl_object.specs.Sequences.{Spelled, spelled_in, bytes_of, sequences}
 use Rattle.dl_object.specs.Kept.{address_place, section_at, section_at_any, is_same, passed_over, sequence_kept}
 use Rattle.dl_object.specs.Kept.{sequences_kept, program_kept}
-use Rattle.dl_object.specs.Section.{Keeps, ends, foreign, whole, damaged}
+use Rattle.dl_object.specs.Section.{Keeps, ends, unread, own}
 
 module _ (places sorted : List Placed) (section : ℕ)
     (same : (at : ℕ) → section_at sorted at ≡ section_at places at) where
@@ -39,11 +39,7 @@ module _ (places sorted : List Placed) (section : ℕ)
   pub same_kept : (dialect : Dialect) {at : ℕ} {b new : List ℕ} → Keeps dialect sorted section at b new
       → Keeps dialect places section at b new
   same_kept dialect (ends none) = ends none
-  same_kept dialect (foreign f body k) = foreign f body (same_kept dialect k)
-  same_kept dialect (whole {at = at} {h = h} {head = head} {body = program} {after = after} {new = new} header
-      body good k) =
+  same_kept dialect (unread f body k) = unread f body (same_kept dialect k)
+  same_kept dialect (own {at = at} {h = h} {head = head} {body = program} {after = after} {new = new} header body k) =
       subst (λ (z : List ℕ). Keeps dialect places section at ((head ++ program) ++ after) ((head ++ z) ++ new))
-      (sym (same_program dialect h.params (at + length head) program)) (whole header body good (same_kept dialect k))
-  same_kept dialect (damaged {at = at} {h = h} {head = head} {body = program} {after = after} header body bad) =
-      subst (λ (z : List ℕ). Keeps dialect places section at ((head ++ program) ++ after) ((head ++ z) ++ after))
-      (sym (same_program dialect h.params (at + length head) program)) (damaged header body bad)
+      (sym (same_program dialect h.params (at + length head) program)) (own header body (same_kept dialect k))

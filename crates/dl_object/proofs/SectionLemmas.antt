@@ -1,7 +1,7 @@
 -- A section of which the units at the front are worked through.
-use Rattle.std.proofs.Common.{◌≡◌, ◌≢◌, ◌⊎◌, inl, inr, ℕ, ◌+◌, ◌-◌, ◌<◌, ◌≤◌, min, List, [], ◌++◌, length, take, drop}
+use Rattle.std.proofs.Common.{◌≡◌, ◌⊎◌, inl, inr, ℕ, ◌+◌, ◌-◌, ◌<◌, ◌≤◌, min, List, [], ◌++◌, length, take, drop}
 use Rattle.std.proofs.Common.{Option, Some}
-use Rattle.std.proofs.Common.{None, Bool, true, false}
+use Rattle.std.proofs.Common.{None}
 use Rattle.std.proofs.Common.{refl, sym, ap, subst, ◌∙◌, arith, append_assoc, length-drop, length-take-le}
 use Rattle.std.proofs.lemmas.Bool.{cases_lt}
 use Rattle.std.proofs.lemmas.List.{take-append-drop, take-take, drop-drop, drop_all}
@@ -9,17 +9,13 @@ use Rattle.std.proofs.lemmas.Slice.{between_to_end}
 use borrow.Rule.Slice.PartMut.{put_mid}
 use Rattle.dl_head.specs.declared.dialect.Dialect.{Dialect}
 use Rattle.dl_field.specs.HeaderData.{HeaderData}
-use Rattle.dl_head.specs.Header.{IsHeader, foreign_in, unit_len}
+use Rattle.dl_head.specs.Header.{IsHeader, unit_len}
 use Rattle.dl_reloc.specs.declared.placed.Placed.{Placed}
-use Rattle.dl_object.specs.Sequences.{spelled_in}
 use Rattle.dl_object.specs.Kept.{program_kept}
-use Rattle.dl_object.specs.Section.{IsBody, NoUnitBegins, Keeps, ends, foreign, whole, damaged, AddsCell, WantsCell}
+use Rattle.dl_object.specs.Section.{IsBody, IsUnread, NoneFollows, Keeps, ends, unread, own, AddsCell, WantsCell}
 use Rattle.dl_object.specs.declared.head.UnitHead.{UnitHead}
-use Rattle.dl_object.specs.Fronts.{KindIs, HeadIs, HeadWithin, UnitKept}
+use Rattle.dl_object.specs.Fronts.{KindIs, HeadIs, HeadWithin, unit_kept}
 use Rattle.dl_object.proofs.PartLemmas.{PutIn, part_len, put_in}
-
-true_is : {b : Bool} → b ≡ true → b ≡ false → ⊥
-true_is e f = let g : ◌≡◌ {A = Bool} true false = sym e ∙ f in absurd cc
 
 module _ (dialect : Dialect) (places : List Placed) (section : ℕ) (old : List ℕ) where
   -- what is left of the whole, by what is left from a place on
@@ -33,11 +29,11 @@ module _ (dialect : Dialect) (places : List Placed) (section : ℕ) (old : List 
 
   module _ (bytes : List ℕ) (at : ℕ) (so : UnitsReplaced bytes at) (b : List ℕ) (same : b ≡ drop at bytes) where
     -- no unit more
-    pub no_more : NoUnitBegins dialect b → Keeps dialect places section 0 old bytes
+    pub no_more : NoneFollows dialect b → Keeps dialect places section 0 old bytes
     no_more none =
         subst (Keeps dialect places section 0 old)
         (ap (λ (z : List ℕ). take at bytes ++ z) (sym so.rest) ∙ take-append-drop at bytes)
-        (so.kept (drop at old) (ends (subst (NoUnitBegins dialect) (same ∙ so.rest) none)))
+        (so.kept (drop at old) (ends (subst (NoneFollows dialect) (same ∙ so.rest) none)))
 
     pub cell_wanted : AddsCell dialect b → WantsCell dialect old
     cell_wanted cell =
@@ -117,61 +113,42 @@ module _ (dialect : Dialect) (places : List Placed) (section : ℕ) (old : List 
             (sym (append_assoc (take at bytes) new z) ∙ ap (λ (y : List ℕ). y ++ z) (sym front))
             (so.kept (new ++ z) (subst (λ (y : List ℕ). Keeps dialect places section at y (new ++ z)) split k))
 
-        -- of another version
-        foreign_more : (version : ℕ) → foreign_in dialect head ≡ Some version → new ≡ u
-            → UnitsReplaced next (at + unit)
-        foreign_more version f e = record {
+        -- one that isn't read
+        unread_more : IsUnread dialect head → new ≡ u → UnitsReplaced next (at + unit)
+        unread_more f e = record {
           rest = rest_is;
           kept = λ z k. joined z (subst (λ (y : List ℕ). Keeps dialect places section at
               ((head ++ body) ++ after) (y ++ z))
-              (front_is ∙ sym e) (foreign f body_is (after_it z k)));
+              (front_is ∙ sym e) (unread f body_is (after_it z k)));
         }
 
-        -- of version 5, whose program is replaced
+        -- one with a header, whose program is replaced
         module _ (h : HeaderData) (header : IsHeader dialect h head)
             (e : new ≡ head ++ program_kept dialect.order h.params places section (at + len) body) where
           left_is : head ++ program_kept dialect.order h.params places section (at + length head) body ≡ new
           left_is =
               ap (λ (n : ℕ). head ++ program_kept dialect.order h.params places section (at + n) body) head_len ∙ sym e
 
-          whole_more : (spelled_in dialect.order h.params body).rest ≡ [] → UnitsReplaced next (at + unit)
-          whole_more good = record {
+          own_more : UnitsReplaced next (at + unit)
+          own_more = record {
             rest = rest_is;
             kept = λ z k. joined z (subst (λ (y : List ℕ). Keeps dialect places section at
                 ((head ++ body) ++ after) (y ++ z))
-                left_is (whole header body_is good (after_it z k)));
+                left_is (own header body_is (after_it z k)));
           }
 
-          damaged_last : (spelled_in dialect.order h.params body).rest ≢ [] → Keeps dialect places section 0 old next
-          damaged_last bad =
-              subst (Keeps dialect places section 0 old)
-              (ap (λ (z : List ℕ). take (at + unit) next ++ z) (later ∙ sym rest_is)
-              ∙ take-append-drop (at + unit) next)
-              (joined after (subst (λ (y : List ℕ). Keeps dialect places section at
-              ((head ++ body) ++ after) (y ++ after))
-              left_is (damaged header body_is bad)))
-
         -- by its kind
-        pub unit_more : (o : Option HeaderData) (on : Bool) → KindIs dialect (take len b) o
-            → UnitKept dialect.order places section at o len u new on → on ≡ true → UnitsReplaced next (at + unit)
-        unit_more None on kind kept go =
-            foreign_more kind.0 (ap (foreign_in dialect) (sym head_is) ∙ kind.1) kept.0
-        unit_more (Some h) on kind kept go =
-            whole_more h (subst (IsHeader dialect h) head_is kind) kept.0 (kept.1.0 go)
-
-        pub unit_last : (o : Option HeaderData) (on : Bool) → KindIs dialect (take len b) o
-            → UnitKept dialect.order places section at o len u new on → on ≡ false
-            → Keeps dialect places section 0 old next
-        unit_last None on kind kept stop = absurd (true_is kept.1 stop)
-        unit_last (Some h) on kind kept stop =
-            damaged_last h (subst (IsHeader dialect h) head_is kind) kept.0 (λ good. true_is (kept.1.1 good) stop)
+        pub unit_more : (o : Option HeaderData) → KindIs dialect (take len b) o
+            → new ≡ unit_kept dialect.order places section at o len u → UnitsReplaced next (at + unit)
+        unit_more None kind kept = unread_more (subst (IsUnread dialect) head_is kind) kept
+        unit_more (Some h) kind kept = own_more h (subst (IsHeader dialect h) head_is kind) kept
 
   -- the unit whose head a reader has found, as it is in the bytes
   module _ (bytes : List ℕ) (at : ℕ) (so : UnitsReplaced bytes at) (le : at ≤ length bytes) (found : UnitHead)
       (is : HeadIs dialect (take (length bytes - at) (drop at bytes)) found)
-      (within : HeadWithin (length (take (length bytes - at) (drop at bytes))) (Some found)) (new : List ℕ) (on : Bool)
-      (kept : UnitKept dialect.order places section at found.header found.len
-      (take (at + found.unit_len - at) (drop at bytes)) new on)
+      (within : HeadWithin (length (take (length bytes - at) (drop at bytes))) (Some found)) (new : List ℕ)
+      (kept : new ≡ unit_kept dialect.order places section at found.header found.len
+      (take (at + found.unit_len - at) (drop at bytes)))
       (size : length new ≡ length (take (at + found.unit_len - at) (drop at bytes))) where
     abbrev b : List ℕ
     b = take (length bytes - at) (drop at bytes)
@@ -196,8 +173,8 @@ module _ (dialect : Dialect) (places : List Placed) (section : ℕ) (old : List 
         let k : at + unit - at ≡ unit = omega arith in
         ap (λ (n : ℕ). take n (drop at bytes)) k ∙ ap (take unit) (sym same)
 
-    kept_so : UnitKept dialect.order places section at found.header found.len (take unit b) new on
-    kept_so = subst (λ (z : List ℕ). UnitKept dialect.order places section at found.header found.len z new on) part kept
+    kept_so : new ≡ unit_kept dialect.order places section at found.header found.len (take unit b)
+    kept_so = kept ∙ ap (unit_kept dialect.order places section at found.header found.len) part
 
     pub unit_size : length next ≡ length bytes
     unit_size = put.size
@@ -205,12 +182,7 @@ module _ (dialect : Dialect) (places : List Placed) (section : ℕ) (old : List 
     pub unit_within : at + unit ≤ length next
     unit_within = let n = put.size in let m = length-drop at bytes in omega (arith, n, m, room, le)
 
-    pub unit_goes : on ≡ true → UnitsReplaced next (at + unit)
-    unit_goes go =
+    pub unit_goes : UnitsReplaced next (at + unit)
+    unit_goes =
         unit_more bytes at so b same found.len unit is.len within.1 within.2 is.told is.unit new next put.rest put.front
-        found.header on is.kind kept_so go
-
-    pub unit_stops : on ≡ false → Keeps dialect places section 0 old next
-    unit_stops stop =
-        unit_last bytes at so b same found.len unit is.len within.1 within.2 is.told is.unit new next put.rest put.front
-        found.header on is.kind kept_so stop
+        found.header is.kind kept_so

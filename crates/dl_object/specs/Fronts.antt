@@ -1,20 +1,21 @@
 -- What stands at the front of bytes. No promise rests on this file.
 use Rattle.dl_head.specs.declared.dialect.Dialect.{Dialect}
 use Rattle.std.specs.Prelude.{◌≡◌, ◌≢◌, ℕ, ◌+◌, ◌≤◌, min, true, false, List, [], ◌∷◌, ◌++◌, length, take, drop}
-use Rattle.std.specs.Prelude.{Bool, IsTrue, ◌↔◌, Option, Some, None, if◌then◌else◌}
+use Rattle.std.specs.Prelude.{Option, Some, None, if◌then◌else◌}
 use Rattle.std.specs.List.{AllByRecursion}
 use Rattle.dl_num.specs.declared.fixed.Order.{Order}
 use Rattle.dl_num.specs.Front.{SpellsNowhere, SpellsFirst}
 use Rattle.dl_field.specs.HeaderData.{HeaderData}
 use Rattle.dl_field.specs.declared.params.Params.{Params}
-use Rattle.dl_head.specs.Header.{IsHeader, foreign_in, unit_len}
+use Rattle.dl_head.specs.Header.{IsHeader, unit_len}
 use Rattle.dl_reloc.specs.declared.placed.Placed.{Placed}
 use Rattle.dl_rows.specs.declared.operation.Operation.{Operation}
 use Rattle.dl_rows.specs.Matrix.{is_end, is_address}
 use Rattle.dl_object.specs.declared.sequence.Front.{Front}
 use Rattle.dl_object.specs.declared.sequence.Front.TheVariants as front
 use Rattle.dl_object.specs.declared.head.UnitHead.{UnitHead}
-use Rattle.dl_object.specs.Sequences.{Spelled, spelled, spelled_in, bytes_of}
+use Rattle.dl_object.specs.Section.{IsUnread}
+use Rattle.dl_object.specs.Sequences.{Spelled, spelled, bytes_of}
 use Rattle.dl_object.specs.Kept.{address_place, program_kept}
 
 -- no operation ends a sequence
@@ -67,7 +68,7 @@ IsWithin n other = Unit {0}
 -- the head of a unit at the front of b
 abbrev pub KindIs : Dialect → List ℕ → Option HeaderData → Type 0
 KindIs dialect head (Some h) = IsHeader dialect h head
-KindIs dialect head None = (version : ℕ) × (foreign_in dialect head ≡ Some version)
+KindIs dialect head None = IsUnread dialect head
 
 pub record HeadIs (dialect : Dialect) (b : List ℕ) (u : UnitHead) : Type 0 where
   pub kind : KindIs dialect (take u.len b) u.header
@@ -79,9 +80,8 @@ abbrev pub HeadWithin : ℕ → Option UnitHead → Type 0
 HeadWithin n None = Unit {0}
 HeadWithin n (Some u) = (1 ≤ u.len) × (u.len ≤ u.unit_len) × (u.unit_len ≤ n)
 
--- what is left of a unit at an offset, whose head has `len` bytes, and whether the unit after it is read
-abbrev pub UnitKept : Order → List Placed → ℕ → ℕ → Option HeaderData → ℕ → (old new : List ℕ) → Bool → Type 0
-UnitKept order places section offset None len old new on = (new ≡ old) × (on ≡ true)
-UnitKept order places section offset (Some h) len old new on =
-    (new ≡ take len old ++ program_kept order h.params places section (offset + len) (drop len old))
-    × (IsTrue on ↔ ((spelled_in order h.params (drop len old)).rest ≡ []))
+-- what is left of a unit at an offset, whose head has `len` bytes
+abbrev pub unit_kept : Order → List Placed → ℕ → ℕ → Option HeaderData → ℕ → List ℕ → List ℕ
+unit_kept order places section offset None len unit = unit
+unit_kept order places section offset (Some h) len unit =
+    take len unit ++ program_kept order h.params places section (offset + len) (drop len unit)

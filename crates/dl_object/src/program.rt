@@ -1,8 +1,7 @@
 //! The sequences of a program. Sections 6.2.5 and 6.2.5.3.
 
-ghost use Rattle.std.specs.Prelude.{◌≡◌, ◌+◌, ◌<◌, ◌^◌, ◌↔◌, [], length, IsTrue, IfSome};
+ghost use Rattle.std.specs.Prelude.{◌≡◌, ◌+◌, ◌<◌, ◌^◌, length, IfSome};
 ghost use Rattle.dl_field.specs.Usable.{IsUsable};
-ghost use Rattle.dl_object.specs.Sequences.{spelled_in};
 ghost use Rattle.dl_object.specs.Kept.{Rises, program_kept, section_at_any, is_same};
 ghost use Rattle.dl_object.specs.Fronts.{place_from};
 
@@ -23,20 +22,19 @@ pub struct Wanted<'a> {
 }
 
 /// Makes operations that are passed over of the whole sequences of a program, which begins at this offset of its
-/// section, that aren't of the wanted section. Whether all its operations are good and whole.
+/// section, that aren't of the wanted section. From the first damaged operation on all stays.
 pub fn keep_sequences(
     order: Order,
     params: &Params,
     program: &mut [u8],
     offset: usize,
     wanted: &Wanted<'_>,
-) -> bool
+)
     requires usable { IsUsable params.now }
     requires rises { Rises wanted.now.places.now }
     requires fits { offset + length program.old < 2 ^ 64 }
-    ensures kept { program.new
+    ensures { program.new
         ≡ program_kept order params.now wanted.now.places.now wanted.now.section offset program.old }
-    ensures whole { IsTrue result ↔ ((spelled_in order params.now program.old).rest ≡ []) }
 {
     let mut at = 0;
     loop {
@@ -48,8 +46,7 @@ pub fn keep_sequences(
                 }
                 at = end;
             }
-            Front::Open => return true,
-            Front::Damaged => return false,
+            Front::Open | Front::Damaged => return,
         }
     }
 }

@@ -3,7 +3,7 @@
 ghost use Rattle.std.specs.Prelude.{ℕ, List, ◌≡◌, ◌⊎◌, IfOk, IfErr, length, ◌<◌, ◌≤◌, ◌+◌, ◌^◌};
 ghost use Rattle.dl_object.specs.Section.{Keeps, WantsCell};
 ghost use Rattle.dl_object.specs.Kept.{Rises};
-ghost use Rattle.dl_object.specs.Fronts.{UnitKept};
+ghost use Rattle.dl_object.specs.Fronts.{unit_kept};
 
 use crate::head::{UnitHead, head_at_front};
 use crate::places::{are_rising, sorted};
@@ -22,6 +22,7 @@ pub struct NoMemory;
 ///
 /// `places` are those that the relocations of the section changed, in the order of the relocations: of several at one
 /// place the first counts. A sequence that sets no address, or whose first one no relocation changed, is of no section.
+/// Of a damaged unit the operations from the first damaged one on stay as they are.
 /// Memory is taken for a header at a time, and for a copy of the places where these aren't in rising order. Where that
 /// is refused, some of the sequences are replaced.
 pub fn keep_section(
@@ -64,30 +65,21 @@ fn keep_units(
             return Ok(());
         };
         let end = at + head.unit_len;
-        if !keep_unit(dialect.order, &head, &mut bytes[at..end], at, wanted) {
-            return Ok(());
-        }
+        keep_unit(dialect.order, head, &mut bytes[at..end], at, wanted);
         at = end;
     }
 }
 
-/// The same in a unit, which begins at this offset of the section. Whether the unit after it is read.
-fn keep_unit(
-    order: Order,
-    head: &UnitHead,
-    unit: &mut [u8],
-    offset: usize,
-    wanted: &Wanted<'_>,
-) -> bool
+/// The same in a unit, which begins at this offset of the section.
+fn keep_unit(order: Order, head: UnitHead, unit: &mut [u8], offset: usize, wanted: &Wanted<'_>)
     requires rises { Rises wanted.now.places.now }
-    requires within { head.now.len ≤ length unit.old }
+    requires within { head.len ≤ length unit.old }
     requires fits { offset + length unit.old < 2 ^ 64 }
-    ensures { UnitKept order wanted.now.places.now wanted.now.section offset head.now.header head.now.len
-        unit.old unit.new result }
+    ensures { unit.new ≡ unit_kept order wanted.now.places.now wanted.now.section offset head.header
+        head.len unit.old }
 {
-    let Some(header) = &head.header else {
-        return true;
-    };
-    let program = &mut unit[head.len..];
-    keep_sequences(order, header.params(), program, offset + head.len, wanted)
+    if let Some(header) = &head.header {
+        let program = &mut unit[head.len..];
+        keep_sequences(order, header.params(), program, offset + head.len, wanted);
+    }
 }

@@ -1,5 +1,6 @@
 -- What the program does for the words of `addr`.
-use Rattle.std.proofs.Common.{◌≡◌, ◌⊎◌, inl, inr, ℕ, ◌||◌, Bool, true, false, List, [], Option, Some, None, Result, Ok}
+use Rattle.std.proofs.Common.{◌≡◌, ◌==◌, ◌⊎◌, inl, inr, ℕ, ◌||◌, Bool, true, false, List, [], length, map, Option, Some, None}
+use Rattle.std.proofs.Common.{Result, Ok}
 use Rattle.std.proofs.Common.{Err, refl, sym, ap, ◌∙◌, subst}
 use Rattle.std.specs.Option.{option_copied, option_or}
 use Rattle.std.specs.declared.io.Error.{Error}
@@ -8,7 +9,7 @@ use Rattle.dl_elf.specs.Source.{ForBytes}
 use Rattle.dl_file.specs.Code.{IsCode}
 use Rattle.dl_file.specs.declared.code.Code.{Code}
 use Rattle.dl_look.specs.declared.code_ranges.CodeRanges.{CodeRanges}
-use Rattle.dl_cmd.specs.Job.{AddrTexts, Text}
+use Rattle.dl_cmd.specs.Job.{AddrTexts, Text, addr}
 use Rattle.dl_run.specs.declared.around.Survey.{Survey}
 use Rattle.dl_addr.specs.Code.{is_code}
 use Rattle.dl_dirs.specs.Compilation.{directory_by}
@@ -16,19 +17,21 @@ use Rattle.dl_dirs.specs.Directories.{directory_at}
 use Rattle.dl_dirs.specs.declared.directories.Directories.{Directories}
 use Rattle.dl_dirs.specs.declared.compilation.CompilationDirectories.{CompilationDirectories}
 use Rattle.dl_look.specs.declared.asked.Asked.{Asked}
+use Rattle.dl_asked.specs.AskedLines.{address_by}
 use Rattle.dl_asked.specs.declared.asked_lines.AskedLines.{AskedLines}
 use Rattle.dl_addr.specs.declared.question.Question.{Question}
 use Rattle.dl_open.specs.declared.fault.FileFault.{FileFault}
 use Rattle.dl_open.specs.declared.stop.FileStop.{FileStop}
 use Rattle.dl_open.specs.Code.{AreLive, live_by}
 use Rattle.dl_open.specs.Stops.{IsAt}
-use Rattle.dl_work.specs.declared.command.Command.TheVariants.{Addr}
+use Rattle.dl_work.specs.declared.command.Command.{Command}
 use Rattle.dl_work.specs.declared.located.Located.{Located}
 use Rattle.dl_work.specs.declared.stop.Stop.{Stop}
 use Rattle.dl_work.specs.declared.stop.Stop.TheVariants.{NotUnderstood}
 use Rattle.dl_work.specs.Locate.{HasAsked, InputStops, IsNoQuestion, LocatesInFile, LocatesInSection, WordsStop}
 use Rattle.dl_work.specs.Locate.{Asks, Unanswered, are_addresses, asked_in_words, base_in, form_in}
-use Rattle.dl_work.specs.Locate.{RefusesOpening, said_directory, suits_file}
+use Rattle.dl_work.specs.Asked.{SectionWords, section_of}
+use Rattle.dl_work.specs.Locate.{RefusesOpening, asking, said_directory, suits_file, suits_input}
 use Rattle.dl_work.specs.Damages.{unheard}
 use Rattle.dl_work.specs.Compiled.{AreFound}
 use Rattle.dl_work.specs.Understood.{IsUnderstood}
@@ -37,6 +40,7 @@ use Rattle.dl_work.specs.Located.{located}
 use Rattle.dl_work.specs.Stops.{over_file, stop_of}
 use Rattle.dl_work.specs.Tables.{OnFile}
 use Rattle.dl_work.specs.Units.{file_units}
+use Rattle.dl_work.specs.Work.{OnInput}
 
 -- ---- where a file has code
 
@@ -51,17 +55,9 @@ all_live : (all : Bool) (code : Code) (a : ℕ) → (all || live_by false code a
 all_live true code a = refl
 all_live false code a = refl
 
--- ---- a section on the input
+-- ---- what is asked
 
-pub section_stops : (held : Text → Option (List ℕ)) (w : AddrTexts) (left start : Option (List ℕ))
-    (result : Result Located Stop) (stop : Stop) → result ≡ Err stop → WordsStop w stop
-    ⊎ (IsNoQuestion w × (stop ≡ NotUnderstood))
-    → LocatesInSection held w [] left start start result
-section_stops held w left start result stop is why = inl (stop, why, (is, refl, Keeps-refl start))
-
--- ---- a file
-
--- what is asked of each address, wherever there is code
+-- of each address, wherever there is code
 pub asks_all : (w : AddrTexts) (u : AskedWords) (these slice : List Asked) (said : CompilationDirectories) (q : Question)
     → IsUnderstood w u
     → q.asked.now ≡ slice → slice ≡ these → q.base ≡ u.base → q.code ≡ None → q.directories ≡ said
@@ -78,6 +74,46 @@ asks_all w u these slice said q i asked sliced own code directories comp_dir for
   basenames = basenames;
   section = section;
 }
+
+-- ---- a section on the input
+
+pub section_stops : (held : Text → Option (List ℕ)) (w : AddrTexts) (left start : Option (List ℕ))
+    (result : Result Located Stop) (stop : Stop) → result ≡ Err stop → WordsStop w stop
+    ⊎ (IsNoQuestion w × (stop ≡ NotUnderstood))
+    → LocatesInSection held w [] left start start result
+section_stops held w left start result stop is why = inl (stop, why, (is, refl, Keeps-refl start))
+
+some_asked : (asked : List Asked) → (length asked == 0) ≡ false → asked ≡ [] → ⊥
+some_asked asked some none =
+    let g : ◌≡◌ {A = Bool} true false = sym (ap (λ (l : List Asked). length l == 0) none) ∙ some in absurd cc
+
+is_question : (w : AddrTexts) (asked : List Asked) → suits_input w ≡ true → asked ≡ asked_in_words w
+    → (length asked == 0) ≡ false → IsNoQuestion w → ⊥
+is_question w asked suits words some (inl not) = let g : ◌≡◌ {A = Bool} true false = sym suits ∙ not in absurd cc
+is_question w asked suits words some (inr none) =
+    some_asked asked some
+    (words ∙ ap (map (λ text. record { address = address_by w.hex text })) none)
+
+pub section_done : (held : Text → Option (List ℕ)) (w : AddrTexts) (asked : List Asked) (q : Question)
+    (bytes : List ℕ) (left start now : Option (List ℕ)) (section : SectionWords) (command : Command)
+    (answer : Result Survey Stop) (result : Result Located Stop)
+    → suits_input w ≡ true → asked ≡ asked_in_words w → (length asked == 0) ≡ false
+    → Asks w asked (λ a. true) (said_directory w) q → section ≡ section_of (addr w) → command ≡ asking w q
+    → OnInput held section command bytes left start now unheard answer → result ≡ located answer None
+    → LocatesInSection held w bytes left start now result
+section_done held w asked q bytes left start now section command answer result suits words some asks said commanded does
+    is =
+    inr (
+      q,
+      answer,
+      is_question w asked suits words some,
+      subst (λ (these : List Asked). Asks w these (λ a. true) (said_directory w) q) words asks,
+      subst (λ (s : SectionWords). OnInput held s (asking w q) bytes left start now unheard answer) said
+          (subst (λ (c : Command). OnInput held section c bytes left start now unheard answer) commanded does),
+      is,
+    )
+
+-- ---- a file
 
 module _ (held : Text → Option (List ℕ)) (fails : Text → Error → Type 0) (path : Text) (w : AddrTexts) where
   pub file_stops : (left start : Option (List ℕ)) (result : Result Located Stop) (stop : Stop) → result ≡ Err stop
@@ -118,11 +154,13 @@ module _ (held : Text → Option (List ℕ)) (fails : Text → Error → Type 0)
       → q.style.basenames ≡ w.basenames → option_copied q.style.section ≡ w.section
       → ForBytes (held path) (λ f. (code : Code) × IsCode f (Ok code)
       × AreLive ranges code)
+      → (command : Command) → command ≡ asking w q
       → ForBytes (held path) (λ f. OnFile (file_units w.units) (fails path) path w.section
-      (Addr q) f start now unheard answer)
+      command f start now unheard answer)
       → result ≡ located (over_file answer) lines.no_address → LocatesInFile held fails path w bytes left start now result
   file_done ranges given slice base bytes left start now lines said q answer result says words has understood based asked
-      sliced own live directories found comp_dir are_found form basenames section codes does is = λ f known short.
+      sliced own live directories found comp_dir are_found form basenames section codes command asked_by does is =
+      λ f known short.
       let k = codes f known short in
       inr (inr (inr (
         k.0,
@@ -144,6 +182,7 @@ module _ (held : Text → Option (List ℕ)) (fails : Text → Error → Type 0)
           basenames = basenames;
           section = section;
         },
-        does f known short,
+        subst (λ (c : Command). OnFile (file_units w.units) (fails path) path w.section c f start now unheard answer)
+            asked_by (does f known short),
         is,
       )))

@@ -15,6 +15,7 @@ use Rattle.dl_look.specs.declared.place.Place.{Place}
 use Rattle.dl_run.specs.declared.options.TheConstants.{SECTION_LIMIT}
 use Rattle.dl_run.specs.declared.fault.RunFault.{RunFault}
 use Rattle.dl_run.specs.declared.around.Damage.{Damage}
+use Rattle.dl_run.specs.declared.around.DamagedUnits.{DamagedUnits}
 use Rattle.dl_run.specs.declared.around.Survey.{Survey}
 use Rattle.dl_print.specs.declared.summary.Summary.{Summary}
 use Rattle.dl_cmd.specs.Address.{address_in}
@@ -27,11 +28,13 @@ use Rattle.dl_open.specs.declared.named.Sections.TheVariants.{Lines, LinesAndTex
 use Rattle.dl_work.specs.Units.{are_sizes, older_by, units_of}
 use Rattle.dl_work.specs.declared.command.Command.{Command}
 use Rattle.dl_work.specs.declared.command.Command.TheVariants.{Addr, Dump, DumpAround, Check, CheckAround, Find, Copy}
-use Rattle.dl_work.specs.declared.command.Command.TheVariants.{CopyTo5}
+use Rattle.dl_work.specs.declared.command.Command.TheVariants.{AddrAround, CopyTo5}
 use Rattle.dl_work.specs.declared.command.TheConstants.{NOTHING}
 use Rattle.dl_addr.specs.declared.question.Found.{Found}
+use Rattle.dl_addr.specs.declared.question.FoundAround.{FoundAround}
 use Rattle.dl_addr.specs.declared.question.Question.{Question}
 use Rattle.dl_addr.specs.declared.question.Found.TheVariants as found
+use Rattle.dl_addr.specs.AroundCommands.{LocatesAround}
 use Rattle.dl_addr.specs.Commands.{Locates}
 use Rattle.dl_run.specs.declared.fault.RunFault.TheVariants.{NotFound}
 
@@ -49,6 +52,7 @@ pub data CommandData : Type 0 where
   copies : CommandData
   copies_to_5 : (comp_dir : Option Text) → CommandData
   answers : Question → CommandData
+  answers_around : Question → CommandData
 
 abbrev pub command_seen : Command → CommandData
 command_seen Dump = dumps
@@ -59,6 +63,7 @@ command_seen (Find place) = finds place
 command_seen Copy = copies
 command_seen (CopyTo5 comp_dir) = copies_to_5 (option_map (λ s. s.now) comp_dir)
 command_seen (Addr question) = answers question
+command_seen (AddrAround question) = answers_around question
 
 -- the command; none where ADDRESS is no address, where a section of an object file is named without FILE, and of
 -- `addr`, which asks for many
@@ -144,6 +149,7 @@ sections_of other = LinesAndTexts
 abbrev pub looks_up : Command → Bool
 looks_up (Find place) = true
 looks_up (Addr question) = true
+looks_up (AddrAround question) = true
 looks_up other = false
 
 -- what `addr` answered, as the other commands answer
@@ -162,11 +168,26 @@ abbrev pub all_whole : Result Summary RunFault → Result Survey RunFault
 all_whole (Ok summary) = Ok (record { summary = summary; damaged = None })
 all_whole (Err f) = Err f
 
+-- where units are damaged their number is answered, else this
+abbrev pub unless_damaged : Option DamagedUnits → Result Survey RunFault → Result Survey RunFault
+unless_damaged (Some units) answer = Ok (record { summary = NOTHING; damaged = Some units })
+unless_damaged None answer = answer
+
+-- what `addr_around` answered, as the other commands answer
+abbrev pub answered_around : Result FoundAround RunFault → Result Survey RunFault
+answered_around (Ok around) = unless_damaged around.damaged (all_whole (answered (Ok around.found)))
+answered_around (Err f) = Err f
+
 -- the command ends at the first damaged unit, of which its answer tells: it tells of none beside that
 abbrev pub EndsThere : (Answers : Result Summary RunFault → Type 0) (hears : List Damage → Type 0)
     → Result Survey RunFault → Type 0
 EndsThere Answers hears result =
     hears [] × (answer : Result Summary RunFault) × (result ≡ all_whole answer) × Answers answer
+
+-- the command goes on after damaged units, of which its answer tells: it tells of none beside that
+abbrev pub GoesOn : (Answers : Result Survey RunFault → Type 0) (hears : List Damage → Type 0)
+    → Result Survey RunFault → Type 0
+GoesOn Answers hears result = hears [] × Answers result
 
 -- what the command answers, writes and tells. bytes: what was read of a section, which has `left` left
 abbrev pub Does : Command → Dialect → Strings → (limit : ℕ) (bytes : List ℕ) (left : Option (List ℕ)) → Outcome RunFault
@@ -184,12 +205,19 @@ Does (CopyTo5 comp_dir) dialect s limit bytes left start now = EndsThere (λ ans
 Does (Addr question) dialect s limit bytes left start now = EndsThere (λ answer.
     (found : Result Found RunFault) × (answer ≡ answered found)
     × Locates dialect s question limit bytes left start now found)
+Does (AddrAround question) dialect s limit bytes left start now = GoesOn (λ answer.
+    (found : Result FoundAround RunFault) × (answer ≡ answered_around found)
+    × LocatesAround dialect s question limit bytes left start now found)
 
--- what a command writes where there is no line table: `addr` what it writes of a section without bytes, so that each
--- address has no answer; the others nothing
-abbrev pub WithoutTable : Command → (start now : Option (List ℕ)) → Type 0
-WithoutTable (Addr question) start now =
+-- what `addr` writes of a section without bytes, so that each address has no answer
+abbrev pub Unfound : Question → (start now : Option (List ℕ)) → Type 0
+Unfound question start now =
     (bytes : List ℕ) × (left : Option (List ℕ)) × (found : Result Found RunFault) × Consumes (Some []) left bytes
     × Locates (version_5 Little) (record { line_strings = None; strings = None }) question SECTION_LIMIT bytes left
     start now found
+
+-- what a command writes where there is no line table; only those that look addresses up write something
+abbrev pub WithoutTable : Command → (start now : Option (List ℕ)) → Type 0
+WithoutTable (Addr question) start now = Unfound question start now
+WithoutTable (AddrAround question) start now = Unfound question start now
 WithoutTable other start now = Keeps start now

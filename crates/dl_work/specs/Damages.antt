@@ -1,6 +1,5 @@
 -- Which damaged units were told of, after which a command goes on.
-use Rattle.std.specs.Prelude.{⊤, ◌≡◌, ℕ, false, List, Option, flat_map}
-use Rattle.std.specs.Io.KnownBytes.{Appends}
+use Rattle.std.specs.Prelude.{⊤, ℕ, List}
 use Rattle.dl_run.specs.declared.around.Damage.{Damage}
 use Rattle.dl_run.specs.declared.fault.RunFault.TheVariants as fault
 use Rattle.dl_run.specs.RunText.{run_fault_text}

@@ -27,7 +27,8 @@ use Rattle.dl_open.specs.declared.fault.FileFault.{FileFault}
 use Rattle.dl_open.specs.declared.stop.FileStop.{FileStop}
 use Rattle.dl_open.specs.Code.{RefusesCode, live_by}
 use Rattle.dl_open.specs.Stops.{IsAt}
-use Rattle.dl_work.specs.declared.command.Command.TheVariants.{Addr}
+use Rattle.dl_work.specs.declared.command.Command.{Command}
+use Rattle.dl_work.specs.declared.command.Command.TheVariants.{Addr, AddrAround}
 use Rattle.dl_work.specs.declared.located.Located.{Located}
 use Rattle.dl_work.specs.declared.stop.Stop.{Stop}
 use Rattle.dl_work.specs.declared.stop.Stop.TheVariants.{NotAddress, NotUnderstood, Run}
@@ -74,6 +75,10 @@ pub record Asks (w : AddrTexts) (these : List Asked) (live : ℕ → Bool) (comp
   pub basenames : q.style.basenames ≡ w.basenames
   pub section : option_copied q.style.section ≡ w.section
 
+-- the command that answers it: after a damaged unit it goes on, unless the words say that it stops
+abbrev pub asking : AddrTexts → Question → Command
+asking w q = if w.stop then Addr q else AddrAround q
+
 -- the first of the words that is no address, that of `--base` before the others
 abbrev pub first_other : (hex : Bool) → List Text → Option Text
 first_other hex [] = None
@@ -114,7 +119,8 @@ LocatesInSection held w bytes left start now result =
     × StopsBefore bytes start now result stop)
     ⊎ ((q : Question) × (answer : Result Survey Stop) × (IsNoQuestion w → ⊥) × Asks w (asked_in_words w) (λ a. true)
     (said_directory w) q
-    × OnInput held (section_of (addr w)) (Addr q) bytes left start now unheard answer × (result ≡ located answer None))
+    × OnInput held (section_of (addr w)) (asking w q) bytes left start now unheard answer
+    × (result ≡ located answer None))
 
 -- ---- the ELF file of a path. f: its bytes
 
@@ -159,7 +165,7 @@ LocatesInFile held fails path w bytes left start now result = ForBytes (held pat
     × (suits_file w ≡ true) × IsCode f (Ok code) × HasAsked w (asked_in_words w) bytes left lines
     × (found : ℕ → Option (List ℕ)) × AreFound w f found
     × Asks w lines.asked.items (live_by w.all code) (compiled_by w found) q
-    × OnFile (file_units w.units) (fails path) path w.section (Addr q) f start now unheard answer
+    × OnFile (file_units w.units) (fails path) path w.section (asking w q) f start now unheard answer
     × (result ≡ located (over_file answer) lines.no_address)))
 
 -- ---- by the words; a path `-` stands for a section on the input

@@ -1,13 +1,28 @@
 -- How the program stops: its text, its status, and the stops at an ELF file.
-use Rattle.std.specs.Prelude.{ℕ, List, ◌++◌, codes, decimal, Option, Some, option_map, Result, Ok, Err}
+use Rattle.std.specs.Prelude.{ℕ, ◌==◌, if◌then◌else◌, List, [], ◌++◌, codes, decimal, Option, Some, option_map, Result, Ok}
+use Rattle.std.specs.Prelude.{Err}
 use Rattle.dl_run.specs.RunText.{run_fault_text, status}
+use Rattle.dl_run.specs.declared.around.DamagedUnits.{DamagedUnits}
 use Rattle.dl_run.specs.declared.around.Survey.{Survey}
+use Rattle.dl_run.specs.declared.fault.RunFault.TheVariants as fault
 use Rattle.dl_open.specs.declared.stop.FileStop.{FileStop}
 use Rattle.dl_open.specs.declared.stop.FileStop.TheVariants as at
 use Rattle.dl_open.specs.Shown.{shown_bytes, shown_word}
 use Rattle.dl_open.specs.Stops.{file_fault_status, file_fault_text}
 use Rattle.dl_work.specs.declared.stop.Stop.{Stop}
-use Rattle.dl_work.specs.declared.stop.Stop.TheVariants.{NoAddress, NoSection, NotAddress, NotUnderstood, Run, File}
+use Rattle.dl_work.specs.declared.stop.Stop.TheVariants.{Damaged, NoAddress, NoSection, NotAddress, NotUnderstood, Run}
+use Rattle.dl_work.specs.declared.stop.Stop.TheVariants.{File}
+
+-- how many units are damaged beside the first
+abbrev pub others_text : ℕ → List ℕ
+others_text n =
+    if n == 0 then [] else if n == 1 then codes ", and 1 more damaged unit"
+    else codes ", and " ++ (decimal n ++ codes " more damaged units")
+
+-- the text of the first one's fault, and how many others there are
+abbrev pub damaged_text : DamagedUnits → List ℕ
+damaged_text units =
+    run_fault_text (fault.Damage units.first.offset units.first.kind) ++ others_text units.others
 
 -- the text of a stop; None where the system words it
 abbrev pub stop_text : Stop → Option (List ℕ)
@@ -16,6 +31,7 @@ stop_text (NotAddress word) = Some (shown_word word.now ++ codes " is no address
 stop_text (Run f) = Some (run_fault_text f)
 stop_text (File path f) = option_map (λ text. shown_word path.now ++ codes ": " ++ text) (file_fault_text f)
 stop_text (NoSection path name) = Some (shown_word path.now ++ (codes ": no section " ++ shown_word name.now))
+stop_text (Damaged units) = Some (damaged_text units)
 stop_text (NoAddress line) =
     Some (codes "line " ++ (decimal line.number ++ (codes ": " ++ (shown_bytes line.word ++ codes " is no address"))))
 
@@ -25,6 +41,7 @@ stop_status (NotAddress word) = 2
 stop_status (Run f) = status f
 stop_status (File path f) = file_fault_status f
 stop_status (NoSection path name) = 1
+stop_status (Damaged units) = 1
 stop_status (NoAddress line) = 1
 
 -- ---- over an ELF file

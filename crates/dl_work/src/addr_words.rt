@@ -7,9 +7,9 @@ ghost use Rattle.dl_dirs.specs.Compilation.{directory_by};
 ghost use Rattle.dl_asked.specs.AskedLines.{address_by};
 ghost use Rattle.dl_work.specs.Asked.{unless_input};
 ghost use Rattle.dl_work.specs.Locate.{AddressesStop, IsFirstOther, WordsStop, are_addresses, asked_in_words, base_in};
-ghost use Rattle.dl_work.specs.Locate.{form_in, suits_file, suits_input};
+ghost use Rattle.dl_work.specs.Locate.{asking, form_in, suits_file, suits_input};
 
-use crate::command::directory_said;
+use crate::command::{Command, directory_said};
 use crate::stop::Stop;
 use crate::unit_words::is_size;
 use dl_addr::{Asked, CompilationDirectories, Form, Question, Style};
@@ -173,5 +173,16 @@ pub fn question<'q>(
             basenames: words.basenames,
             section,
         },
+    }
+}
+
+/// The command that answers what is asked: after a damaged unit it goes on, unless the words say that it stops.
+pub fn asking<'q>(words: &AddrWords<'_>, question: Question<'q>) -> Command<'q>
+    ensures { result ≡ asking (addr_words_made words.now) question.entry }
+{
+    if words.stop {
+        Command::Addr(question)
+    } else {
+        Command::AddrAround(question)
     }
 }

@@ -6,10 +6,10 @@ ghost use Rattle.dl_run.specs.Commands.{strings_in};
 ghost use Rattle.dl_cmd.specs.Job.{request_made};
 ghost use Rattle.dl_dirs.specs.Compilation.{directory_by};
 ghost use Rattle.dl_work.specs.Asked.{Does, WithoutTable, answered, command_asked, command_seen, command_of, is_copy, looks_up, place_of};
-ghost use Rattle.dl_work.specs.Asked.{all_whole, sections_of};
+ghost use Rattle.dl_work.specs.Asked.{all_whole, answered_around, sections_of};
 
 use crate::unit_words::{are_sizes, units_of};
-use dl_addr::{Found, Question, addr};
+use dl_addr::{Found, FoundAround, Question, addr, addr_around};
 use dl_cmd::{Job, read_address};
 use dl_dirs::CompilationDirectories;
 use dl_head::{Dialect, Older};
@@ -61,6 +61,8 @@ pub enum Command<'a> {
     CopyTo5(Option<&'a str>),
     /// Print where addresses are in the source.
     Addr(Question<'a>),
+    /// Print where they are, by all units that are whole.
+    AddrAround(Question<'a>),
 }
 
 /// The place that the words name; None where ADDRESS is no address.
@@ -91,6 +93,21 @@ fn answered(found: Result<Found, RunFault>) -> Result<Summary, RunFault>
         Ok(Found::All) => Ok(NOTHING),
         Ok(Found::NotAll) => Err(RunFault::NotFound),
         Err(fault) => Err(fault),
+    }
+}
+
+/// What `addr_around` answered, as the other commands answer. Where a unit is damaged it isn't said whether each address
+/// has an answer.
+fn answered_around(found: Result<FoundAround, RunFault>) -> Result<Survey, RunFault>
+    ensures { result ≡ answered_around found }
+{
+    let FoundAround { found, damaged } = found?;
+    match damaged {
+        Some(units) => Ok(Survey {
+            summary: NOTHING,
+            damaged: Some(units),
+        }),
+        None => all_whole(answered(Ok(found))),
     }
 }
 
@@ -155,9 +172,11 @@ impl<'a> Command<'a> {
         ensures { result ≡ sections_of self.entry }
     {
         match self {
-            Command::Dump | Command::DumpAround | Command::Find(_) | Command::Addr(_) => {
-                Sections::LinesAndTexts
-            }
+            Command::Dump
+            | Command::DumpAround
+            | Command::Find(_)
+            | Command::Addr(_)
+            | Command::AddrAround(_) => Sections::LinesAndTexts,
             Command::Check | Command::CheckAround | Command::Copy | Command::CopyTo5(_) => {
                 Sections::Lines
             }
@@ -168,7 +187,10 @@ impl<'a> Command<'a> {
     pub fn looks_up(self) -> bool
         ensures { result ≡ looks_up self.entry }
     {
-        matches!(self, Command::Find(_) | Command::Addr(_))
+        matches!(
+            self,
+            Command::Find(_) | Command::Addr(_) | Command::AddrAround(_)
+        )
     }
 
     /// Whether it would lose what belongs to a file: `copy` would lose the relocations of an object
@@ -184,7 +206,7 @@ impl<'a> Command<'a> {
     pub fn without_table<W: Write>(self, alloc: Global, output: &mut W)
         ensures { WithoutTable self.entry (W.contents output.old) (W.contents output.new) }
     {
-        if let Command::Addr(question) = self {
+        if let Command::Addr(question) | Command::AddrAround(question) = self {
             let mut nothing: &[u8] = &[];
             let _ = addr(alloc, &mut nothing, output, &question, &NO_STRINGS);
         }
@@ -218,6 +240,9 @@ impl<'a> Command<'a> {
             }
             Command::Addr(question) => {
                 all_whole(answered(addr(alloc, input, output, &question, options)))
+            }
+            Command::AddrAround(question) => {
+                answered_around(addr_around(alloc, input, output, &question, options))
             }
         }
     }

@@ -28,7 +28,7 @@ impl Located {
     ghost use Rattle.std.specs.Prelude.{◌≡◌};
     ghost use Rattle.dl_work.specs.Located.{located, unless_no_address};
 
-    /// By the answer of the command, and the first line that is no address.
+    /// By the answer of the command, and the first line that is no address. Damaged units are told before that line.
     pub(crate) fn by_answer<'a>(
         answer: Result<Survey, Stop<'a>>,
         no_address: Option<OtherLine>,
@@ -36,10 +36,13 @@ impl Located {
         ensures { result ≡ located answer.entry no_address }
     {
         match answer {
-            Ok(_survey) => Ok(Located {
-                found: Found::All,
-                no_address,
-            }),
+            Ok(survey) => match survey.damaged {
+                Some(units) => Err(Stop::Damaged { units }),
+                None => Ok(Located {
+                    found: Found::All,
+                    no_address,
+                }),
+            },
             Err(stop) => {
                 if is_not_found(&stop) {
                     Ok(Located {

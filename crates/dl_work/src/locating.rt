@@ -14,7 +14,8 @@ ghost use Rattle.dl_work.specs.Locate.{RefusesOpening, Unanswered};
 ghost use Rattle.dl_work.specs.Understood.{IsUnderstood};
 
 use crate::addr_words::{
-    AskedWords, INPUT, asked_words, part_name, question, said_directory, suits_file, suits_input,
+    AskedWords, INPUT, asked_words, asking, part_name, question, said_directory, suits_file,
+    suits_input,
 };
 use crate::code::{everywhere, live_in};
 use crate::command::Command;
@@ -79,15 +80,15 @@ fn in_section<'a, F: FileSource, R: Read, W: Write>(
         line_str: words.line_str,
         strings: words.strings,
     };
-    let part = part_name(words);
-    let command = Command::Addr(question(
+    let question = question(
         words,
-        part,
+        part_name(words),
         base,
         lines.asked.as_slice(),
         everywhere(),
         said_directory(words),
-    ));
+    );
+    let command = asking(words, question);
     let answer = on_input(alloc, files, section, command, input, output, &mut Unheard);
     Located::by_answer(answer, None)
 }
@@ -166,15 +167,15 @@ fn in_file<'a, F: FileSource, R: Read, W: Write>(
     };
     let AskedWords { base, lines } = understood;
     let lines = given_or_read(alloc, words, lines, input)?;
-    let live = live_in(words.all, code.as_ref());
-    let command = Command::Addr(question(
+    let question = question(
         words,
         part_name(words),
         base,
         lines.asked.as_slice(),
-        live,
+        live_in(words.all, code.as_ref()),
         compiled_in(words, &directories),
-    ));
+    );
+    let command = asking(words, question);
     let units = units_of_file(words.units);
     let answer = on_file(
         alloc,
@@ -197,6 +198,9 @@ fn in_file<'a, F: FileSource, R: Read, W: Write>(
 /// an ELF file the words say neither an order nor string sections, nor the size of an address on the input. In a linked file that has code the sequences count that begin in it,
 /// unless all are asked for. Where the file can't be read for its line table, each address has no answer, and its
 /// fault is told.
+///
+/// After a damaged unit the next one is read, unless the words say that it stops there: each address is answered by the
+/// units that are whole, and `Damaged` tells of the others.
 ///
 /// The answer says whether each address has one, and names the first line of the input that is no address.
 pub fn locate<'a, F: FileSource, R: Read, W: Write>(

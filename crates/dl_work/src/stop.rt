@@ -6,7 +6,7 @@ ghost use Rattle.dl_work.specs.Stops.{over_file, stop_of, stop_status, stop_text
 
 use dl_asked::OtherLine;
 use dl_open::{FileFault, FileStop, Shown, ShownBytes};
-use dl_run::{RunFault, Survey};
+use dl_run::{Damage, DamagedUnits, RunFault, Survey};
 use std::io::Write;
 use std::{fmt, io};
 
@@ -23,6 +23,8 @@ pub enum Stop<'a> {
     File { path: &'a str, fault: FileFault },
     /// The ELF file at this path has no section of this name, in which addresses are to be looked up.
     NoSection { path: &'a str, name: &'a str },
+    /// These units are damaged, and the others answered. Only `locate` answers it.
+    Damaged { units: DamagedUnits },
     /// This line of the input is no address. Only `Located::told` answers it.
     NoAddress { line: OtherLine },
 }
@@ -36,7 +38,7 @@ impl<'a> Stop<'a> {
             Stop::NotUnderstood | Stop::NotAddress { .. } => 2,
             Stop::Run(fault) => fault.status(),
             Stop::File { fault, .. } => fault.status(),
-            Stop::NoSection { .. } | Stop::NoAddress { .. } => 1,
+            Stop::NoSection { .. } | Stop::Damaged { .. } | Stop::NoAddress { .. } => 1,
         }
     }
 
@@ -46,6 +48,30 @@ impl<'a> Stop<'a> {
             Appends (W.contents errors.old) (W.contents errors.new) (stop_line text))) }
     {
         writeln!(errors, "dwline: {self}")
+    }
+}
+
+/// Damaged units as they are printed: the fault of the first, and how many others there are.
+#[derive(Clone, Copy)]
+struct ShownUnits(DamagedUnits);
+
+impl fmt::Display for ShownUnits {
+    ghost use Rattle.std.specs.Prelude.{Some};
+    ghost use Rattle.dl_work.specs.Stops.{damaged_text};
+
+    ghost output = { λ shown. Some (damaged_text shown.0) };
+
+    fn fmt<W: fmt::Write>(&self, f: &mut fmt::Formatter<W>) -> fmt::Result {
+        let DamagedUnits { first, others } = self.0;
+        let Damage { offset, kind } = first;
+        let fault = RunFault::Damage { offset, kind };
+        if others == 0 {
+            return write!(f, "{fault}");
+        }
+        if others == 1 {
+            return write!(f, "{fault}, and 1 more damaged unit");
+        }
+        write!(f, "{fault}, and {others} more damaged units")
     }
 }
 
@@ -83,6 +109,7 @@ impl fmt::Display for Stop<'_> {
             Stop::NoSection { path, name } => {
                 write!(f, "{}: no section {}", Shown(path), Shown(name))
             }
+            Stop::Damaged { units } => write!(f, "{}", ShownUnits(*units)),
             Stop::NoAddress { line } => write!(
                 f,
                 "line {}: {} is no address",

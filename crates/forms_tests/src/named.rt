@@ -77,8 +77,11 @@ fn units_are_cut_by_their_lengths(rt: HostRuntime) -> Result<(), Fail> {
     assert!(rt; both(alloc, &[(4, 4)], &[])? == YES);
     assert!(rt; both(alloc, &[(4, 4)], &none)? == NO);
     assert!(rt; both(alloc, &[(4, 4), (0, 0x92)], &[])? == NO);
-    // An address of three bytes, and a length that is reserved.
-    assert!(rt; both(alloc, &[(6, 3)], &[])? == NO);
+    // An address of three bytes, alone and with a length that is above that of both units.
+    assert!(rt; both(alloc, &[(6, 3)], &[])? == YES);
+    assert!(rt; both(alloc, &[(6, 3)], &none)? == NO);
+    assert!(rt; both(alloc, &[(6, 3), (0, 0x92)], &[])? == NO);
+    // A length that is reserved.
     assert!(rt; both(alloc, &[(0, 0xf0), (1, 0xff), (2, 0xff), (3, 0xff)], &[])? == NO);
     Ok(())
 }

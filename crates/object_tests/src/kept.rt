@@ -97,19 +97,51 @@ fn rows_of_other_sections_do_not_come(rt: HostRuntime) -> Result<(), Fail> {
     Ok(())
 }
 
-/// A unit, a fault in a unit after it, and a unit after that.
-fn damaged(alloc: Global, first: &str) -> Result<Vec<u8>, Fail> {
-    let mut section = unit(alloc, first)?;
-    section.extend_from_slice(&unit(alloc, "00 01 80 00 00")?)?;
+/// These bytes between two units of this program.
+fn between(alloc: Global, program: &str, bytes: &[u8]) -> Result<Vec<u8>, Fail> {
+    let mut section = unit(alloc, program)?;
+    section.extend_from_slice(bytes)?;
+    section.extend_from_slice(&unit(alloc, program)?)?;
+    Ok(section)
+}
+
+/// Whether of a section with these bytes between two units they stay, and the sequence of both units is passed over.
+fn passes_by(alloc: Global, bytes: &[u8]) -> Result<bool, Fail> {
+    let left = kept(alloc, between(alloc, THREE_ROWS, bytes)?, &[])?;
+    Ok(left == between(alloc, PASSED_OVER, bytes)?)
+}
+
+#[test]
+fn a_unit_after_a_damaged_operation_is_worked_through(rt: HostRuntime) -> Result<(), Fail> {
+    let alloc = rt.alloc();
+    assert!(rt; passes_by(alloc, &unit(alloc, "00 01 80 00 00")?)?);
+    Ok(())
+}
+
+#[test]
+fn a_unit_after_a_damaged_header_is_worked_through(rt: HostRuntime) -> Result<(), Fail> {
+    let alloc = rt.alloc();
+    let mut bad = unit(alloc, THREE_ROWS)?;
+    // The size of an address.
+    if let Some(byte) = bad.get_mut(6) {
+        *byte = 3;
+    }
+    assert!(rt; passes_by(alloc, &bad)?);
+    Ok(())
+}
+
+/// A unit after a number that is no initial length.
+fn after_a_reserved_length(alloc: Global) -> Result<Vec<u8>, Fail> {
+    let mut section = bytes(alloc, "f0 ff ff ff")?;
     section.extend_from_slice(&unit(alloc, THREE_ROWS)?)?;
     Ok(section)
 }
 
 #[test]
-fn after_a_fault_all_stays(rt: HostRuntime) -> Result<(), Fail> {
+fn after_a_reserved_length_all_stays(rt: HostRuntime) -> Result<(), Fail> {
     let alloc = rt.alloc();
-    let left = kept(alloc, damaged(alloc, THREE_ROWS)?, &[])?;
-    assert!(rt; left == damaged(alloc, PASSED_OVER)?);
+    let left = kept(alloc, after_a_reserved_length(alloc)?, &[])?;
+    assert!(rt; left == after_a_reserved_length(alloc)?);
     Ok(())
 }
 

@@ -1,11 +1,11 @@
-//! Jobs over the section on the input that go on after a damaged unit.
+//! Jobs and addresses over the section on the input, and what comes after a damaged unit.
 use crate::files::UNITS;
 use crate::jobs::NOTHING_OF_UNITS;
 use crate::shelf::Shelf;
-use dl_cmd::Job;
+use dl_cmd::{AddrWords, Job};
 use dl_run::RunFault;
-use dl_work::{DamageLines, Stop, work};
-use std::alloc::Global;
+use dl_work::{DamageLines, Stop, locate, work};
+use std::alloc::{AllocError, Global};
 use std::process::Abort;
 use std::test::Fail;
 
@@ -172,5 +172,98 @@ fn going_on_without_room(rt: HostRuntime) -> Result<(), Fail> {
         }
     }
     assert!(&rt; errors.get(..SECOND_LINE.len()) == Some(SECOND_LINE));
+    Ok(())
+}
+
+/// Both are in each unit.
+const ADDRESSES: [&str; 2] = ["0x401000", "0x401004"];
+
+/// The words of these addresses in the section on the input.
+fn words(alloc: Global, stop: bool) -> Result<AddrWords<'static>, AllocError> {
+    Ok(AddrWords {
+        file: Some("-"),
+        addresses: Vec::from_slice(alloc, &ADDRESSES)?,
+        hex: false,
+        base: None,
+        with_addresses: false,
+        basenames: false,
+        json: false,
+        all: false,
+        stop,
+        section: None,
+        big: false,
+        units: NOTHING_OF_UNITS,
+        comp_dir: None,
+        line_str: None,
+        strings: None,
+    })
+}
+
+/// A section, whether the work stops at its first damaged unit, what is written of it, and the line of what stops it.
+type Looked = (&'static [u8], bool, &'static [u8], &'static [u8]);
+
+/// The rows have no file: 0 isn't in their tables.
+const LOOKED: &[Looked] = &[
+    (SECOND_DAMAGED, false, b"??:2\n??:3\n", SECOND_LINE),
+    (SECOND_DAMAGED, true, b"??:2\n??:3\n", SECOND_LINE),
+    (
+        ALL_DAMAGED,
+        false,
+        b"??:0\n??:0\n",
+        b"dwline: damage at 0x6: bad address size, and 1 more damaged unit\n",
+    ),
+    (
+        ALL_DAMAGED,
+        true,
+        b"??:0\n??:0\n",
+        b"dwline: damage at 0x6: bad address size\n",
+    ),
+    (UNITS, false, b"??:2\n??:3\n", b""),
+    (UNITS, true, b"??:2\n??:3\n", b""),
+];
+
+/// Looks the addresses up: how many bytes of the output's room and of the line's room are left, and the status.
+fn looked(
+    alloc: Global,
+    section: &[u8],
+    stop: bool,
+    output: &mut [u8],
+    errors: &mut [u8],
+) -> Result<(usize, usize, u8), Fail> {
+    let shelf = Shelf {
+        elf: b"",
+        failing: (0, 0),
+    };
+    let words = words(alloc, stop)?;
+    let mut input = section;
+    let mut room = output;
+    let mut line = errors;
+    let status = match locate(alloc, &words, &shelf, &mut input, &mut room) {
+        Ok(_) => 0,
+        Err(stop) => {
+            stop.write_line(&mut line)?;
+            stop.status()
+        }
+    };
+    Ok((room.len(), line.len(), status))
+}
+
+#[test]
+fn addresses_around(rt: HostRuntime) -> Result<(), Fail> {
+    for (number, case) in LOOKED.iter().enumerate() {
+        let (section, stop, text, line) = *case;
+        let mut output = [0; 64];
+        let mut errors = [0; 128];
+        let (left, unsaid, status) = looked(rt.alloc(), section, stop, &mut output, &mut errors)?;
+        assert!(&rt;
+            output.get(..64usize.saturating_sub(left)) == Some(text),
+            "{number}"
+        );
+        assert!(&rt;
+            errors.get(..128usize.saturating_sub(unsaid)) == Some(line),
+            "{number}"
+        );
+        assert_eq!(&rt; status == 0, line.is_empty(), "{number}");
+    }
     Ok(())
 }

@@ -64,6 +64,7 @@ fn words(alloc: Global, addresses: &[&'static str]) -> Result<AddrWords<'static>
         basenames: false,
         json: false,
         all: false,
+        stop: false,
         section: None,
         big: false,
         units: NOTHING_OF_UNITS,

@@ -5,4 +5,5 @@ returns c = λ a made.
     let one = c.with_arg-command.ensures _ _ (c.add_printing-command.ensures a made) c.switch-hex.ensures in
     let two = c.with_arg-command-2.ensures _ _ one c.base.ensures in
     let three = c.with_arg-command-3.ensures _ _ two c.switch-all.ensures in
-    c.with_arg.ensures _ _ three c.section.ensures.rule
+    let four = c.with_arg-command-4.ensures _ _ three c.switch-stop.ensures in
+    c.with_arg.ensures _ _ four c.section.ensures.rule

@@ -1,7 +1,7 @@
 use Rattle.std.proofs.Common.{ℕ, List, sym, subst, ◌∙◌, ◌++◌, ◌↔◌, drop}
 use Rattle.std.specs.Option.{option_copied}
 use Rattle.dl_forms.specs.Names.{Names}
-use Rattle.dl_forms.proofs.WalkLemmas.{in_body, is_named, len_told}
+use Rattle.dl_forms.proofs.WalkLemmas.{ended, in_body, is_named}
 use Rattle.dl_forms.proofs.state.after_head.Goals as goal
 
 pub returns-then-is_named : goal.returns-then-is_named
@@ -20,5 +20,4 @@ returns-in-Some c b w is onward =
     (sym c.is_named.ensures ∙ c.if-is_named.false))
 
 pub returns-in-None : goal.returns-in-None
-returns-in-None c b w is onward rest named =
-    absurd (len_told c.args.reader.now w is (c.in-None.ensures.unit w is.stands))
+returns-in-None c b w is onward = ended c.args.reader.now b w is onward (c.in-None.ensures.unit w is.stands)

@@ -1,4 +1,4 @@
-use Rattle.dl_forms.proofs.WalkLemmas.{all_taken, ended, ended_some, fault_some, goes_on, stands_after, wants_cell}
+use Rattle.dl_forms.proofs.WalkLemmas.{all_taken, ended_some, goes_on, stands_after, wants_cell}
 use Rattle.dl_forms.proofs.state.read_head.Goals as goal
 
 pub returns-in-More-clause-stands : goal.returns-in-More-clause-stands
@@ -19,16 +19,6 @@ returns-in-Done-clause-stands c b u begins onward =
       stands_after c.args.reader offer.new.self b u c.args.piece.now offer.result.0 offer.result.1 begins
           (offer.ensures.offered u begins.stands) offer.ensures.dialect onward c.in-Done.is c.after_head.result
           c.after_head.ensures,
-    )
-
-pub returns-in-Fault-clause-stands : goal.returns-in-Fault-clause-stands
-returns-in-Fault-clause-stands c b u begins onward =
-    let offer = c.offer-used in (
-      fault_some c.args.reader u c.args.piece.now offer.result.0 offer.result.1 begins
-          (offer.ensures.progress u begins.stands)
-          c.in-Fault.field-0 c.in-Fault.is,
-      ended c.args.reader offer.new.self b u c.args.piece.now offer.result.0 offer.result.1 begins
-          (offer.ensures.offered u begins.stands) offer.ensures.dialect onward c.in-Fault.field-0 c.in-Fault.is,
     )
 
 pub returns-in-NoMemory-clause-memory : goal.returns-in-NoMemory-clause-memory

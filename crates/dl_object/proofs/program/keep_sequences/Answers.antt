@@ -1,6 +1,6 @@
-use Rattle.std.proofs.Common.{◌≡◌, true, false, ◌≤◌, ◌∙◌, length, length-drop, drop, refl, sym, ap, arith}
+use Rattle.std.proofs.Common.{◌≤◌, ◌∙◌, length, length-drop, drop, sym, ap, arith}
 use Rattle.std.proofs.lemmas.Slice.{between_to_end}
-use Rattle.dl_object.proofs.ProgramLemmas.{wanted_stays, other_passed, all_replaced, damaged_replaced}
+use Rattle.dl_object.proofs.ProgramLemmas.{wanted_stays, other_passed, rest_stays}
 use Rattle.dl_object.proofs.PassedOver.{passed_in}
 use Rattle.dl_object.proofs.program.keep_sequences.Goals as goal
 
@@ -43,34 +43,10 @@ loop-sequence-preserved c =
           (sym c.if-not-is_wanted.false ∙ c.is_wanted.ensures);
     }
 
-pub returns-in-Open-clause-kept : goal.returns-in-Open-clause-kept
-returns-in-Open-clause-kept c =
+pub returns-in-Open : goal.returns-in-Open
+returns-in-Open c =
     let program = c.loop-sequence.program in
-    (all_replaced c.args.order c.args.params.now c.args.wanted.now.places.now c.args.wanted.now.section c.args.offset
+    rest_stays c.args.order c.args.params.now c.args.wanted.now.places.now c.args.wanted.now.section c.args.offset
     c.args.program.now program c.loop-sequence.at c.loop-sequence.invariant.so_far _
-    (between_to_end program c.loop-sequence.at (length program) (omega arith)) c.in-Open.ensures.front).0
-
-pub returns-in-Open-clause-whole : goal.returns-in-Open-clause-whole
-returns-in-Open-clause-whole c =
-    let program = c.loop-sequence.program in
-    let all =
-    all_replaced c.args.order c.args.params.now c.args.wanted.now.places.now c.args.wanted.now.section c.args.offset
-    c.args.program.now program c.loop-sequence.at c.loop-sequence.invariant.so_far _
-    (between_to_end program c.loop-sequence.at (length program) (omega arith)) c.in-Open.ensures.front in
-    (λ t. all.1, λ e. refl)
-
-pub returns-in-Damaged-clause-kept : goal.returns-in-Damaged-clause-kept
-returns-in-Damaged-clause-kept c =
-    let program = c.loop-sequence.program in
-    (damaged_replaced c.args.order c.args.params.now c.args.wanted.now.places.now c.args.wanted.now.section c.args.offset
-    c.args.program.now program c.loop-sequence.at c.loop-sequence.invariant.so_far _
-    (between_to_end program c.loop-sequence.at (length program) (omega arith)) c.in-Damaged.ensures.front).0
-
-pub returns-in-Damaged-clause-whole : goal.returns-in-Damaged-clause-whole
-returns-in-Damaged-clause-whole c =
-    let program = c.loop-sequence.program in
-    let all =
-    damaged_replaced c.args.order c.args.params.now c.args.wanted.now.places.now c.args.wanted.now.section c.args.offset
-    c.args.program.now program c.loop-sequence.at c.loop-sequence.invariant.so_far _
-    (between_to_end program c.loop-sequence.at (length program) (omega arith)) c.in-Damaged.ensures.front in
-    (λ (t : false ≡ true). absurd cc, λ e. absurd (all.1 e))
+    (between_to_end program c.loop-sequence.at (length program) (omega arith)) c.sequence_at_front.result c.in-Open.is
+    c.sequence_at_front.ensures.front

@@ -5,7 +5,6 @@ use Rattle.std.proofs.lemmas.Result.{err_from_is_err_and}
 use Rattle.dl_cmd.specs.Job.{addr_words_made}
 use Rattle.dl_addr.specs.Code.{is_code}
 use Rattle.dl_open.specs.declared.stop.FileStop.TheVariants as at
-use Rattle.dl_work.specs.declared.command.Command.TheVariants.{Addr}
 use Rattle.dl_work.specs.Located.{located}
 use Rattle.dl_work.proofs.LocateLemmas.{file_done, file_refused, file_stops, input_stops}
 use Rattle.dl_work.proofs.TableLemmas.{on_file_as}
@@ -62,20 +61,21 @@ pub returns : goal.returns
 returns g c =
     let told = c.in_ok-understood.ensures in
     let e = c.in_ok-lines.ensures in
-    let q = c.question.ensures in (
+    let q = c.question-question.ensures in (
       e.0,
       e.1,
       file_done (g.F.FileSource.held c.args.files.now) (g.F.FileSource.fails_with c.args.files.now) c.args.path.now
-          (addr_words_made c.args.words.now) c.in-Ok.opened.1 _ _ _ e.0 _ _ _ c.in_ok-lines.lines c.compiled_in.result c.question.result
+          (addr_words_made c.args.words.now) c.in-Ok.opened.1 _ _ _ e.0 _ _ _ c.in_ok-lines.lines c.compiled_in.result c.question-question.result
           c.on_file-answer.result _ (sym c.suits_file.ensures ∙ c.if-not-suits_file.false) told.asked
           (e.2 told.no_lines) told.understood told.base q.asked
           c.as_slice.ensures.value q.base
           (λ a. ap (λ code. is_code (option_copied code) a) q.code
-          ∙ (c.live_in-live.ensures a ∙ ap (λ code. c.args.words.now.all || is_code code a) c.as_ref.ensures.value))
+          ∙ (c.live_in.ensures a ∙ ap (λ code. c.args.words.now.all || is_code code a) c.as_ref.ensures.value))
           q.directories c.in-Ok.opened.2 c.compiled_in.ensures c.in-Ok.ensures.directories q.form q.basenames (ap option_copied q.section ∙ c.part_name.ensures)
           c.in-Ok.ensures.code
+          c.asking-command.result c.asking-command.ensures
           (λ f known short. on_file_as c.units_of_file-units.result _ _ _ c.args.path.now _
-          (Addr c.question.result) f _ _ _ _
+          c.asking-command.result f _ _ _ _
           c.units_of_file-units.ensures c.in-Ok.ensures.reads
           (c.on_file-answer.ensures tt f (c.in-Ok.ensures.bytes ∙ known) short))
           (c.by_answer.ensures ∙ ap (λ answer. located answer c.in_ok-lines.lines.no_address) c.over_file.ensures),

@@ -1,9 +1,11 @@
-use Rattle.std.proofs.Common.{◌≡◌, rules, arith, length, vec_len, [], Err, inl, inr, refl, sym, ap, ◌∙◌}
+use Rattle.std.proofs.Common.{◌≡◌, ◌==◌, ℕ, rules, arith, length, vec_len, [], Err, inl, inr, refl, sym, ap, ◌∙◌}
+use Rattle.std.specs.Option.{option_copied}
 use Rattle.std.proofs.lemmas.Bool.{eqb-true}
 use Rattle.std.proofs.lemmas.Grind.{common_steps}
 use Rattle.std.proofs.KnownBytes.{Consumes-nil}
 use Rattle.std.proofs.lemmas.Result.{err_from_is_err_and}
-use Rattle.dl_work.proofs.LocateLemmas.{section_stops}
+use Rattle.dl_cmd.specs.Job.{addr_words_made}
+use Rattle.dl_work.proofs.LocateLemmas.{asks_all, section_done, section_stops}
 use Rattle.dl_work.proofs.WordsLemmas.{map_none}
 use Rattle.dl_work.proofs.locating.in_section.Goals as goal
 
@@ -31,4 +33,23 @@ returns-then-is_empty g c =
       [],
       Consumes-nil _,
       section_stops _ _ _ _ _ _ refl (inr (inr (map_none _ _ _ c.in_ok-base.ensures.asked empty), refl)),
+    )
+
+pub returns : goal.returns
+returns g c =
+    let told = c.in_ok-base.ensures in
+    let q = c.question-question.ensures in
+    let e = c.on_input-answer.ensures in
+    let asked = c.in_ok-base.field-0.lines.asked in
+    let len : vec_len asked ≡ length asked.items = first_of (omega arith, search rules, grind (arith, common_steps)) in (
+      e.0,
+      e.1,
+      section_done (g.F.FileSource.held c.args.files.now) (addr_words_made c.args.words.now) _ c.question-question.result e.0
+          _ _ _ _ c.asking-command.result c.on_input-answer.result _ (sym c.suits_input.ensures ∙ c.if-not-suits_input.false)
+          told.asked (ap (λ (n : ℕ). n == 0) (sym len) ∙ sym c.is_empty.ensures ∙ c.if-is_empty.false)
+          (asks_all (addr_words_made c.args.words.now) c.in_ok-base.field-0 _ _ c.said_directory.result c.question-question.result
+          (record { base = told.base; asked = told.asked; understood = told.understood; no_lines = told.no_lines }) q.asked
+          c.as_slice.ensures.value q.base (q.code ∙ c.everywhere.ensures) q.directories c.said_directory.ensures q.form
+          q.basenames (ap option_copied q.section ∙ c.part_name.ensures))
+          refl c.asking-command.ensures (e.2 tt) c.by_answer.ensures,
     )
