@@ -27,16 +27,19 @@ extern "C" {
 #endif
 
 /*
- * What the bytes of a section don't say: the sum of DL_BIG, where its numbers stand with the highest byte first, and of one
- * of the others, where units of versions 2 to 4 are read too, whose headers don't have the size of an address. Of 0 numbers
- * stand with the lowest byte first, and version 5 alone is read; of another number its lowest bit counts alone.
+ * What the bytes of a section don't say: the sum of DL_BIG, where its numbers stand with the highest byte first, of one of
+ * DL_OLDER_1 to DL_OLDER_8, where units of versions 2 to 4 are read too, whose headers don't have the size of an address,
+ * and of DL_KEEP_GOING. Of 0 numbers stand with the lowest byte first, and version 5 alone is read. Where what is left
+ * without DL_BIG and DL_KEEP_GOING is none of these sizes, version 5 alone is read too.
  */
 enum {
     DL_BIG = 1,
-    DL_OLDER_1 = 2, /* versions 2 to 4 with addresses of one byte */
-    DL_OLDER_2 = 4, /* of two */
-    DL_OLDER_4 = 8, /* of four */
-    DL_OLDER_8 = 16 /* of eight */
+    DL_OLDER_1 = 2,     /* versions 2 to 4 with addresses of one byte */
+    DL_OLDER_2 = 4,     /* of two */
+    DL_OLDER_4 = 8,     /* of four */
+    DL_OLDER_8 = 16,    /* of eight */
+    DL_KEEP_GOING = 128 /* dl_check and dl_find_all go on after a damaged unit whose initial length is good, with the unit
+                           that begins where this length says; the other calls take no notice of it */
 };
 
 /* How a call ends. */
@@ -55,6 +58,7 @@ typedef struct {
     uint64_t skipped;   /* units that are passed over, for their version */
     uint64_t sequences; /* rows that end a sequence (section 6.2.5.3) */
     uint64_t rows;      /* rows, those among them */
+    uint64_t damaged;   /* units that are damaged, with DL_KEEP_GOING; else 0 */
 } dl_counts;
 
 /* What is wrong with a section. */
@@ -94,7 +98,8 @@ size_t dl_fault_text(const dl_fault *fault, uint8_t *text, size_t room);
 
 /*
  * Reads all units, and counts them, their sequences and their rows.
- * DL_DONE: the section is units to its end, and *counts is written. DL_FAULT: *fault is the first fault.
+ * DL_DONE: the section is units to its end, and *counts is written. DL_FAULT: *fault is the first fault; with
+ * DL_KEEP_GOING *counts is written too: what the units that aren't damaged come to, and how many are damaged.
  */
 uint32_t dl_check(const uint8_t *section, size_t len, uint8_t how, dl_counts *counts, dl_fault *fault);
 
@@ -193,8 +198,9 @@ uint32_t dl_find(const uint8_t *section, size_t len, uint8_t how, uint64_t addre
  * 200 bytes for each address, and of the units one header at a time.
  * DL_DONE: for each address rows[i] is its row, and units[i] the offset of that row's unit; where no unit answers for
  * it, units[i] is 2^64 - 1, and rows[i] stays as it was. DL_FAULT: *fault is the first fault of the section, and the
- * units before it answer, as if the section ended there. DL_NO_MEMORY: the same of the units before one whose header
- * wants memory; or, where memory is refused for the addresses, nothing is written.
+ * units before it answer, as if the section ended there; with DL_KEEP_GOING all units that aren't damaged answer, those
+ * after a damaged one too. DL_NO_MEMORY: the same of the units before one whose header wants memory; or, where memory is
+ * refused for the addresses, nothing is written.
  */
 uint32_t dl_find_all(const uint8_t *section, size_t len, uint8_t how, const uint64_t *addresses, size_t count,
                      dl_row *rows, uint64_t *units, dl_fault *fault);

@@ -77,6 +77,12 @@ static size_t *ends_end;
 static size_t len;
 static uint8_t how;
 
+/* The same, where dl_check and dl_find_all stop at the first fault. */
+static uint8_t up_to_fault(void)
+{
+    return (uint8_t)(how & ~DL_KEEP_GOING);
+}
+
 /* Fills what the calls write. */
 static void fill(void)
 {
@@ -122,11 +128,12 @@ static void check_text(dl_fault told, size_t room)
 static uint32_t check_counts(void)
 {
     fill();
-    uint32_t status = dl_check(section, len, how, counts, fault);
+    uint32_t status = dl_check(section, len, up_to_fault(), counts, fault);
     check_fault(status);
     wanted(status == DL_DONE || status == DL_FAULT || status == DL_NO_MEMORY, "a status of no count");
     if (status == DL_DONE)
-        wanted(counts->sequences <= counts->rows && counts->rows <= len, "counts beyond the section");
+        wanted(counts->sequences <= counts->rows && counts->rows <= len && counts->damaged == 0,
+               "counts beyond the section");
     else
         wanted(is_filled(counts, sizeof *counts), "counts that aren't told");
     return status;
@@ -147,18 +154,30 @@ static void check_find(uint32_t counted, uint64_t address)
         wanted(status == (counted == DL_DONE ? (uint32_t)DL_NO_ANSWER : counted), "another end than that of the count");
 }
 
-/* Looks addresses up, where counting ended with this status: each as dl_find does, but where a fault comes first. */
-static void check_find_all(uint32_t counted, size_t asked)
+/* Some addresses that are asked for. */
+static void choose_addresses(size_t asked)
 {
     for (size_t i = 0; i < asked; i++)
         (addresses_end - asked)[i] = below(2) ? 0x401000 + below(256) : next();
+}
+
+static bool is_same_row(const dl_row *row, const dl_row *other)
+{
+    return row->address == other->address && row->line == other->line && row->file == other->file
+        && row->flags == other->flags;
+}
+
+/* Looks addresses up, where counting ended with this status: each as dl_find does, but where a fault comes first. */
+static void check_find_all(uint32_t counted, size_t asked)
+{
+    choose_addresses(asked);
     fill();
     memset(units_end - MOST_ASKED, FILL, MOST_ASKED * sizeof *units_end);
     dl_row *rows = rows_end - asked;
     uint64_t *units = units_end - asked;
     const uint64_t *addresses = addresses_end - asked;
-    uint32_t status = dl_find_all(section, len, how, or_null(addresses_end - asked, asked), asked, or_null(rows, asked),
-                                  or_null(units, asked), fault);
+    uint32_t status = dl_find_all(section, len, up_to_fault(), or_null(addresses_end - asked, asked), asked,
+                                  or_null(rows, asked), or_null(units, asked), fault);
     check_fault(status);
     wanted(status == counted, "another end than that of the count");
     wanted(is_filled(rows_end - MOST_ROWS, (MOST_ROWS - asked) * sizeof *rows), "a row before its room");
@@ -170,10 +189,109 @@ static void check_find_all(uint32_t counted, size_t asked)
         uint32_t alone = dl_find(section, len, how, addresses[i], 0, &found, &at, &other);
         wanted((units[i] != UINT64_MAX) == (alone == DL_DONE), "an answer that isn't that of one look-up");
         if (alone == DL_DONE)
-            wanted(units[i] == at && rows[i].address == found.address && rows[i].line == found.line
-                   && rows[i].file == found.file && rows[i].flags == found.flags, "another answer");
+            wanted(units[i] == at && is_same_row(&rows[i], &found), "another answer");
         else
             wanted(is_filled(rows + i, sizeof *rows), "a row of no answer");
+    }
+}
+
+/* The units of the section that aren't damaged, side by side. */
+static uint8_t whole[MOST];
+static size_t whole_len;
+/* For the offset of such a unit in `whole`, that in the section. */
+static uint64_t moved[MOST];
+
+/* The number of this size at an offset; 0 where the section hasn't all bytes of it. */
+static uint64_t number_at(uint64_t offset, uint64_t size)
+{
+    uint64_t number = 0;
+    for (uint64_t i = 0; i < size && size <= len - offset; i++)
+        number = number << 8 | section[offset + (how & DL_BIG ? i : size - 1 - i)];
+    return number;
+}
+
+/* How many bytes the unit at an offset has by its initial length (section 7.4); 0 where that isn't good. */
+static uint64_t length_at(uint64_t offset)
+{
+    uint64_t length = number_at(offset, 4);
+    if (length != 0xffffffff)
+        return length < 0xfffffff0 ? 4 + length : 0;
+    length = len - offset < 12 ? 0 : number_at(offset + 4, 8);
+    return length <= (uint64_t)1 << 40 ? 12 + length : 0;
+}
+
+/* Parts the section into the units that aren't damaged and others. The answer is how many of the latter there are. */
+static uint64_t part_section(void)
+{
+    uint64_t damaged = 0;
+    whole_len = 0;
+    for (uint64_t offset = 0, length; offset < len; offset += length) {
+        dl_unit read;
+        dl_fault other;
+        uint32_t status = dl_unit_at(section, len, how, offset, &read, &other);
+        length = status == DL_DONE ? read.length : length_at(offset);
+        if (status == DL_DONE) {
+            memcpy(whole + whole_len, section + offset, length);
+            moved[whole_len] = offset;
+            whole_len += length;
+        } else {
+            damaged++;
+            if (length == 0)
+                break;
+        }
+    }
+    return damaged;
+}
+
+/* Counts the section around damaged units, where counting ended with this status up to the first fault: the same status
+   and fault, and the counts of a section of the units alone that aren't damaged. */
+static void check_counts_around(uint32_t counted, uint64_t damaged)
+{
+    dl_counts alone, up_to;
+    dl_fault other, first;
+    fill();
+    uint32_t status = dl_check(section, len, how | DL_KEEP_GOING, counts, fault);
+    check_fault(status);
+    wanted(status == counted, "another status around damaged units");
+    wanted(dl_check(section, len, up_to_fault(), &up_to, &first) == counted, "another status the second time");
+    if (status == DL_NO_MEMORY) {
+        wanted(is_filled(counts, sizeof *counts), "counts that aren't told");
+        return;
+    }
+    if (status == DL_FAULT)
+        wanted(fault->offset == first.offset && fault->kind == first.kind && fault->detail == first.detail,
+               "another fault than the first");
+    wanted((status == DL_FAULT) == (damaged > 0) && counts->damaged == damaged, "another number of damaged units");
+    wanted(dl_check(whole, whole_len, up_to_fault(), &alone, &other) == DL_DONE, "whole units that are at fault");
+    wanted(counts->units == alone.units && counts->skipped == alone.skipped && counts->sequences == alone.sequences
+           && counts->rows == alone.rows, "counts that aren't those of the whole units");
+}
+
+/* Looks addresses up around damaged units: each as in a section of the units alone that aren't damaged. */
+static void check_find_all_around(uint32_t counted, size_t asked)
+{
+    choose_addresses(asked);
+    fill();
+    memset(units_end - MOST_ASKED, FILL, MOST_ASKED * sizeof *units_end);
+    dl_row *rows = rows_end - asked, alone_rows[MOST_ASKED];
+    uint64_t *units = units_end - asked, alone_units[MOST_ASKED];
+    uint64_t *addresses = addresses_end - asked;
+    dl_fault other;
+    uint32_t status = dl_find_all(section, len, how | DL_KEEP_GOING, or_null(addresses, asked), asked,
+                                  or_null(rows, asked), or_null(units, asked), fault);
+    check_fault(status);
+    wanted(status == counted, "another end around damaged units");
+    wanted(is_filled(rows_end - MOST_ROWS, (MOST_ROWS - asked) * sizeof *rows), "a row before its room");
+    wanted(is_filled(units_end - MOST_ASKED, (MOST_ASKED - asked) * sizeof *units), "an offset before its room");
+    if (status == DL_NO_MEMORY)
+        return;
+    wanted(dl_find_all(whole, whole_len, up_to_fault(), addresses, asked, alone_rows, alone_units, &other) == DL_DONE,
+           "whole units that are at fault");
+    for (size_t i = 0; i < asked; i++) {
+        bool answers = alone_units[i] != UINT64_MAX;
+        wanted(units[i] == (answers ? moved[alone_units[i]] : UINT64_MAX), "another unit around damaged ones");
+        wanted(answers ? is_same_row(&rows[i], &alone_rows[i]) : is_filled(rows + i, sizeof *rows),
+               "another row around damaged units");
     }
 }
 
@@ -378,6 +496,8 @@ int main(int words_count, char **words)
         uint32_t counted = check_counts();
         check_find(counted, below(2) ? 0x401000 + below(256) : next());
         check_find_all(counted, below(MOST_ASKED + 1));
+        check_counts_around(counted, part_section());
+        check_find_all_around(counted, below(MOST_ASKED + 1));
         check_copy(counted, below(below(2) ? 64 : MOST_COPY + 1));
         dl_fault told;
         memset(&told, 0, sizeof told);

@@ -38,7 +38,9 @@ static void without_section(void)
     size_t length = 7;
     uint64_t at;
     wanted(dl_check(NULL, 0, false, &counts, &fault) == DL_DONE, "dl_check of nothing");
-    wanted(counts.units + counts.skipped + counts.sequences + counts.rows == 0, "counts of nothing");
+    wanted(counts.units + counts.skipped + counts.sequences + counts.rows + counts.damaged == 0, "counts of nothing");
+    wanted(dl_check(NULL, 0, DL_KEEP_GOING, &counts, &fault) == DL_DONE && counts.damaged == 0,
+           "dl_check of nothing around damaged units");
     wanted(dl_unit_at(NULL, 0, false, 0, &unit, &fault) == DL_NO_ANSWER, "dl_unit_at of nothing");
     wanted(dl_rows_at(NULL, 0, false, 0, NULL, 0, &length, &fault) == DL_NO_ANSWER, "dl_rows_at of nothing");
     wanted(dl_path_at(NULL, 0, false, 0, 1, NULL, 0, NULL, 0, NULL, 0, &length, &fault) == DL_NO_ANSWER,
@@ -47,6 +49,8 @@ static void without_section(void)
            "dl_paths_at of nothing");
     wanted(dl_find(NULL, 0, false, 0, 0, &row, &at, &fault) == DL_NO_ANSWER, "dl_find in nothing");
     wanted(dl_find_all(NULL, 0, false, NULL, 0, NULL, NULL, &fault) == DL_DONE, "dl_find_all in nothing");
+    wanted(dl_find_all(NULL, 0, DL_KEEP_GOING, NULL, 0, NULL, NULL, &fault) == DL_DONE,
+           "dl_find_all in nothing around damaged units");
     wanted(length == 7, "a length that isn't told");
     wanted(dl_copy(NULL, 0, false, NULL, 0, &length, &fault) == DL_DONE && length == 0, "dl_copy of nothing");
 }

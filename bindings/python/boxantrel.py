@@ -2,7 +2,7 @@
 
     >>> section = Section(open("examples/gcc-O2/debug_line", "rb").read())
     >>> section.check()
-    Counts(units=2, skipped=0, sequences=3, rows=91)
+    Counts(units=2, skipped=0, sequences=3, rows=91, damaged=0, first=None)
     >>> section.find(0x401008).row.line
     8
     >>> [found and found.row.line for found in section.find_all([0x401008, 0])]
@@ -31,10 +31,11 @@ __all__ = ["Counts", "Damage", "Found", "OtherVersion", "Row", "Section", "Unit"
 
 _DONE, _FAULT, _NO_ANSWER, _NO_MEMORY, _OTHER_VERSION, _NO_ROOM = range(6)
 _NO_UNIT = 2**64 - 1
+_KEEP_GOING = 128
 
 
 class _Counts(ctypes.Structure):
-    _fields_ = [(name, ctypes.c_uint64) for name in ("units", "skipped", "sequences", "rows")]
+    _fields_ = [(name, ctypes.c_uint64) for name in ("units", "skipped", "sequences", "rows", "damaged")]
 
 
 class _Fault(ctypes.Structure):
@@ -74,12 +75,16 @@ class _Buffer(ctypes.Structure):
 
 
 class Counts(NamedTuple):
-    """What the units of a section come to: units of version 5, those of another one, end rows, and rows."""
+    """What the units of a section come to: units that are read, those that are passed over for their version, end rows,
+    and rows. Where the reading went on after damaged units, `damaged` is how many there are, and `first` what is wrong
+    with the first of them; else 0 and None."""
 
     units: int
     skipped: int
     sequences: int
     rows: int
+    damaged: int = 0
+    first: Optional[Damage] = None
 
 
 class Row(NamedTuple):
@@ -244,13 +249,21 @@ class Section:
         self._held = _Bytes(data)
         self._bytes = (*self._held.pointer, 2 * older + bool(big))
 
-    def check(self) -> Counts:
-        """Reads all units, and counts them, their sequences and their rows."""
+    def check(self, keep_going: bool = False) -> Counts:
+        """Reads all units, and counts them, their sequences and their rows. A damaged section is raised; but with
+        `keep_going` the reading goes on with the unit that begins where the initial length of the damaged one says, and
+        the counts are those of the units that aren't damaged, with how many are and the first fault."""
         counts, fault = _Counts(), _Fault()
-        status = _calls.dl_check(*self._bytes, ctypes.byref(counts), ctypes.byref(fault))
-        if status != _DONE:
+        status = _calls.dl_check(*self._how(keep_going), ctypes.byref(counts), ctypes.byref(fault))
+        if status != _DONE and not (keep_going and status == _FAULT):
             _refuse(status, fault)
-        return Counts(counts.units, counts.skipped, counts.sequences, counts.rows)
+        first = Damage(fault.offset, fault.kind, fault.detail) if status == _FAULT else None
+        return Counts(counts.units, counts.skipped, counts.sequences, counts.rows, counts.damaged, first)
+
+    def _how(self, keep_going: bool) -> tuple[Any, int, int]:
+        """The bytes, and what the calls are told besides."""
+        pointer, length, how = self._bytes
+        return pointer, length, how + _KEEP_GOING * bool(keep_going)
 
     def unit_at(self, offset: int) -> Optional[Unit]:
         """The unit that begins at an offset; None where the section has no byte there. What comes before the offset
@@ -357,25 +370,26 @@ class Section:
             _refuse(status, fault)
         return Found(_row(row), unit.value)
 
-    def find_all(self, addresses: Sequence[int]) -> List[Optional[Found]]:
+    def find_all(self, addresses: Sequence[int], keep_going: bool = False) -> List[Optional[Found]]:
         """For each address the row that answers for it, in the first unit that has one, in one pass over the section. A
-        damaged section is raised; the units before the fault answer by `find_before`."""
-        found, status, fault = self._find_all(addresses)
-        if status != _DONE:
+        damaged section is raised; the units before the fault answer by `find_before`. With `keep_going` all units that
+        aren't damaged answer, and no damage is raised: `check` tells of it."""
+        found, status, fault = self._find_all(addresses, keep_going)
+        if status != _DONE and not (keep_going and status == _FAULT):
             _refuse(status, fault)
         return found
 
     def find_before(self, addresses: Sequence[int]) -> List[Optional[Found]]:
         """The same by the units before the first fault, if there is one."""
-        found, status, fault = self._find_all(addresses)
+        found, status, fault = self._find_all(addresses, False)
         if status not in (_DONE, _FAULT):
             _refuse(status, fault)
         return found
 
-    def _find_all(self, addresses: Sequence[int]) -> tuple[List[Optional[Found]], int, _Fault]:
+    def _find_all(self, addresses: Sequence[int], keep_going: bool) -> tuple[List[Optional[Found]], int, _Fault]:
         count, fault = len(addresses), _Fault()
         rows, units = (_Row * count)(), (ctypes.c_uint64 * count)()
         asked = (ctypes.c_uint64 * count)(*(_number(address, 64) for address in addresses))
-        status = _calls.dl_find_all(*self._bytes, asked, count, rows, units, ctypes.byref(fault))
+        status = _calls.dl_find_all(*self._how(keep_going), asked, count, rows, units, ctypes.byref(fault))
         answers = zip(rows, units)
         return [None if unit == _NO_UNIT else Found(_row(row), unit) for row, unit in answers], status, fault

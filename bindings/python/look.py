@@ -1,7 +1,8 @@
-"""look.py [--big] [--older SIZE] [--rows | --copy | --addr LINE_STR STR ADDRESS.. | ADDRESS..]: of the section on standard
-input, what `dwline check` prints of it; with --rows the rows that `dwline dump` prints, with --copy what `dwline copy` writes, with
---addr and the files of both string sections what `dwline addr` prints; or with addresses the row that answers for each
-as `dwline find` prints it."""
+"""look.py [--big] [--older SIZE] [--keep-going] [--rows | --copy | --addr LINE_STR STR ADDRESS.. | ADDRESS..]: of the section
+on standard input, what `dwline check` prints of it; with --rows the rows that `dwline dump` prints, with --copy what `dwline
+copy` writes, with --addr and the files of both string sections what `dwline addr` prints; or with addresses the row that
+answers for each as `dwline find` prints it. With --keep-going the units after a damaged one count too, and answer with
+--addr; the first fault is said."""
 
 import pathlib
 import sys
@@ -57,8 +58,20 @@ def paths_of(
     return paths
 
 
-def locate_each(section: Section, line_str: bytes, text: bytes, words: List[str]) -> None:
-    all_found = section.find_before([int(word, 16) for word in words])
+def print_counts(section: Section, keep_going: bool) -> None:
+    counts = section.check(keep_going)
+    numbers = counts._asdict()
+    numbers.pop("first")
+    if not keep_going:
+        numbers.pop("damaged")
+    print(" ".join(f"{name} {number}" for name, number in numbers.items()))
+    if counts.first is not None:
+        raise counts.first
+
+
+def locate_each(section: Section, keep_going: bool, line_str: bytes, text: bytes, words: List[str]) -> None:
+    addresses = [int(word, 16) for word in words]
+    all_found = section.find_all(addresses, keep_going=True) if keep_going else section.find_before(addresses)
     paths = paths_of(section, all_found, line_str, text)
     for found in all_found:
         if found is None:
@@ -75,18 +88,19 @@ def main(words: List[str]) -> int:
     words = words[big:]
     older = int(words[1]) if words[:1] == ["--older"] else 0
     words = words[2 * (older > 0) :]
+    keep_going = words[:1] == ["--keep-going"]
+    words = words[keep_going:]
     section = Section(sys.stdin.buffer.read(), big, older)
     try:
         if not words:
-            counts = section.check()
-            print(" ".join(f"{name} {number}" for name, number in counts._asdict().items()))
+            print_counts(section, keep_going)
         elif words[0] == "--rows":
             list_rows(section)
         elif words[0] == "--copy":
             sys.stdout.buffer.write(section.copy())
         elif words[0] == "--addr":
             files = [pathlib.Path(name).read_bytes() for name in words[1:3]]
-            locate_each(section, *files, words[3:])
+            locate_each(section, keep_going, *files, words[3:])
         else:
             find_each(section, words)
     except (Damage, OtherVersion) as refusal:

@@ -9,13 +9,18 @@ import pathlib
 import pickle
 import unittest
 
-from boxantrel import Damage, OtherVersion, Section
+from boxantrel import Counts, Damage, OtherVersion, Section
 
 EXAMPLES = pathlib.Path(__file__).resolve().parents[2] / "examples"
 BYTES = (EXAMPLES / "gcc-O2" / "debug_line").read_bytes()
 LINE_STR = (EXAMPLES / "gcc-O2" / "debug_line_str").read_bytes()
 SERIES, RANGE = b"/boxantrel/series.c", b"/boxantrel/include/range.h"
 ROWS = 91
+
+
+# Of the first unit: how long it is, and where its line_range stands, which may not be 0 (DWARF 5, section 6.2.4).
+FIRST, LINE_RANGE = 297, 16
+DAMAGED = BYTES[:LINE_RANGE] + b"\0" + BYTES[LINE_RANGE + 1 : FIRST]
 
 
 class LongBytes(bytes):
@@ -148,6 +153,44 @@ class Paths(unittest.TestCase):
     def test_another_version(self) -> None:
         version_4 = bytes([2, 0, 0, 0, 4, 0])
         self.assertRaises(OtherVersion, Section(version_4).paths_at, 0, [1])
+
+
+class Around(unittest.TestCase):
+    def test_a_damaged_unit_in_the_middle(self) -> None:
+        section = Section(BYTES[:FIRST] + DAMAGED + BYTES[FIRST:])
+        with self.assertRaises(Damage) as caught:
+            section.check()
+        counts = section.check(keep_going=True)
+        self.assertEqual(counts, Section(BYTES).check()._replace(damaged=1, first=counts.first))
+        self.assertEqual(str(counts.first), str(caught.exception))
+        self.assertEqual((caught.exception.offset, caught.exception.kind), (FIRST + LINE_RANGE, 8))
+
+    def test_the_units_after_it_answer(self) -> None:
+        whole = Section(BYTES)
+        addresses = sorted({row.address for unit in whole.units() for row in whole.rows_at(unit.offset)}) + [0]
+        section = Section(DAMAGED + BYTES)
+        self.assertRaises(Damage, section.find_all, addresses)
+        self.assertEqual(section.find_before(addresses), [None] * len(addresses))
+        found = section.find_all(addresses, keep_going=True)
+        wanted = [answer and answer._replace(unit=FIRST + answer.unit) for answer in whole.find_all(addresses)]
+        self.assertEqual(found, wanted)
+        self.assertGreater(len([answer for answer in found if answer]), 10)
+
+    def test_the_first_of_many(self) -> None:
+        counts = Section(DAMAGED + DAMAGED + BYTES[:100]).check(keep_going=True)
+        self.assertEqual(counts[:5], (0, 0, 0, 0, 3))
+        self.assertEqual((counts.first.offset, counts.first.kind), (LINE_RANGE, 8))
+
+    def test_no_unit_is_known_to_follow(self) -> None:
+        counts = Section(BYTES + b"\xf0\xff\xff\xff" + BYTES).check(keep_going=True)
+        self.assertEqual(counts[:4], Section(BYTES).check()[:4])
+        self.assertEqual((counts.damaged, counts.first.kind), (1, 1))
+
+    def test_nothing_is_damaged(self) -> None:
+        section = Section(BYTES)
+        self.assertEqual(section.check(keep_going=True), section.check())
+        self.assertEqual(section.find_all([0x401008, 0], keep_going=True), section.find_all([0x401008, 0]))
+        self.assertEqual(Section(b"").check(keep_going=True), Counts(0, 0, 0, 0, 0, None))
 
 
 class Faults(unittest.TestCase):

@@ -1,9 +1,9 @@
 /*
- * look [--big] [--older SIZE] [--rows | --copy | --addr LINE_STR STR ADDRESS.. | ADDRESS..]: of the section on standard
- * input, what `dwline check` prints of it; with --rows the rows that `dwline dump` prints, with --copy what `dwline copy`
- * writes, with --addr and the files of both string sections what `dwline addr` prints; or with addresses the row that
- * answers for each as `dwline find` prints it. With --older units of versions 2 to 4 are read too, with addresses of this
- * size.
+ * look [--big] [--older SIZE] [--keep-going] [--rows | --copy | --addr LINE_STR STR ADDRESS.. | ADDRESS..]: of the section
+ * on standard input, what `dwline check` prints of it; with --rows the rows that `dwline dump` prints, with --copy what
+ * `dwline copy` writes, with --addr and the files of both string sections what `dwline addr` prints; or with addresses the
+ * row that answers for each as `dwline find` prints it. With --older units of versions 2 to 4 are read too, with addresses
+ * of this size. With --keep-going the units after a damaged one count too, and answer with --addr; the first fault is said.
  */
 #include <boxantrel.h>
 #include <inttypes.h>
@@ -72,11 +72,15 @@ static int check(void)
     dl_counts counts;
     dl_fault fault;
     uint32_t status = dl_check(bytes, len, how, &counts, &fault);
-    if (status != DL_DONE)
-        return refused(status, &fault);
-    printf("units %" PRIu64 " skipped %" PRIu64 " sequences %" PRIu64 " rows %" PRIu64 "\n", counts.units, counts.skipped,
-           counts.sequences, counts.rows);
-    return 0;
+    bool goes_on = how & DL_KEEP_GOING;
+    if (status == DL_DONE || (status == DL_FAULT && goes_on)) {
+        printf("units %" PRIu64 " skipped %" PRIu64 " sequences %" PRIu64 " rows %" PRIu64, counts.units,
+               counts.skipped, counts.sequences, counts.rows);
+        if (goes_on)
+            printf(" damaged %" PRIu64, counts.damaged);
+        putchar('\n');
+    }
+    return status == DL_DONE ? 0 : refused(status, &fault);
 }
 
 static int find(const char *word)
@@ -281,6 +285,10 @@ int main(int count, char **words)
     if (at + 1 < count && strcmp(words[at], "--older") == 0) {
         how |= (uint8_t)(2 * atoi(words[at + 1]));
         at += 2;
+    }
+    if (at < count && strcmp(words[at], "--keep-going") == 0) {
+        how |= DL_KEEP_GOING;
+        at++;
     }
     bytes = read_all(stdin, &len);
     bool has_all = bytes != NULL;

@@ -1,9 +1,10 @@
-//! look [--big] [--older SIZE] [--rows | --copy | --addr LINE_STR STR ADDRESS.. | ADDRESS..]: of the section on standard
-//! input, what `dwline check` prints of it; with --rows the rows that `dwline dump` prints, with --copy what `dwline copy` writes,
-//! with --addr and the files of both string sections what `dwline addr` prints; or with addresses the row that answers
-//! for each as `dwline find` prints it.
+//! look [--big] [--older SIZE] [--keep-going] [--rows | --copy | --addr LINE_STR STR ADDRESS.. | ADDRESS..]: of the section
+//! on standard input, what `dwline check` prints of it; with --rows the rows that `dwline dump` prints, with --copy what
+//! `dwline copy` writes, with --addr and the files of both string sections what `dwline addr` prints; or with addresses the
+//! row that answers for each as `dwline find` prints it. With --keep-going the units after a damaged one count too, and
+//! answer with --addr; the first fault is said.
 
-use boxantrel::{AddressSize, Error, Found, Order, Row, Section};
+use boxantrel::{AddressSize, Error, Found, Order, Row, Section, Survey};
 use std::collections::{HashMap, HashSet};
 use std::io::{self, BufWriter, Read, Write};
 use std::process::ExitCode;
@@ -44,6 +45,19 @@ fn print_counts(output: &mut impl Write, section: &Section) -> io::Result<Result
         Err(error) => return Ok(Err(error)),
     }
     Ok(Ok(()))
+}
+
+fn print_survey(output: &mut impl Write, section: &Section) -> io::Result<Result<(), Error>> {
+    let Survey { counts, damaged, first } = match section.check_around() {
+        Ok(survey) => survey,
+        Err(error) => return Ok(Err(error)),
+    };
+    writeln!(
+        output,
+        "units {} skipped {} sequences {} rows {} damaged {damaged}",
+        counts.units, counts.skipped, counts.sequences, counts.rows
+    )?;
+    Ok(first.map_or(Ok(()), Err))
 }
 
 fn list_rows(output: &mut impl Write, section: &Section) -> io::Result<Result<(), Error>> {
@@ -104,13 +118,22 @@ fn paths_of(section: &Section, found: &[Option<Found>], line_str: &[u8], str: &[
     Ok(paths)
 }
 
-fn locate_each(output: &mut impl Write, section: &Section, words: &[String]) -> io::Result<Result<(), Error>> {
+fn locate_each(
+    output: &mut impl Write,
+    section: &Section,
+    keep_going: bool,
+    words: &[String],
+) -> io::Result<Result<(), Error>> {
     let [line_str, str, words @ ..] = words else {
         return Err(io::Error::other("no files"));
     };
     let (line_str, str) = (std::fs::read(line_str)?, std::fs::read(str)?);
     let addresses = words.iter().map(address_in).collect::<io::Result<Vec<_>>>()?;
-    let all = section.find_all(&addresses);
+    let all = if keep_going {
+        section.find_all_around(&addresses)
+    } else {
+        section.find_all(&addresses)
+    };
     let paths = match paths_of(section, &all.found, &line_str, &str) {
         Ok(paths) => paths,
         Err(error) => return Ok(Err(error)),
@@ -152,6 +175,8 @@ fn main() -> io::Result<ExitCode> {
         let size = words.drain(..2).nth(1);
         older = size.and_then(|size| address_size(&size));
     }
+    let keep_going = words.first().is_some_and(|word| word == "--keep-going");
+    words.drain(..usize::from(keep_going));
     let mut bytes = Vec::new();
     io::stdin().read_to_end(&mut bytes)?;
     let mut section = Section::new(&bytes, order);
@@ -159,14 +184,16 @@ fn main() -> io::Result<ExitCode> {
         section = section.with_older(size);
     }
     let mut output = BufWriter::new(io::stdout());
-    let end = if words.is_empty() {
+    let end = if words.is_empty() && keep_going {
+        print_survey(&mut output, &section)?
+    } else if words.is_empty() {
         print_counts(&mut output, &section)?
     } else if words[0] == "--rows" {
         list_rows(&mut output, &section)?
     } else if words[0] == "--copy" {
         copy(&mut output, &section)?
     } else if words[0] == "--addr" {
-        locate_each(&mut output, &section, &words[1..])?
+        locate_each(&mut output, &section, keep_going, &words[1..])?
     } else {
         find_each(&mut output, &section, &words)?
     };

@@ -16,6 +16,9 @@
 //! assert_eq!(path, b"/boxantrel/series.c");
 //! let paths = section.paths_at(found.unit, &[1, found.row.file], &texts, &[])?.unwrap();
 //! assert_eq!(paths, [path.clone(), path]);
+//! let survey = section.check_around()?;
+//! assert_eq!((survey.counts, survey.damaged, survey.first), (section.check()?, 0, None));
+//! assert_eq!(section.find_all_around(&[0x401008, 0]), section.find_all(&[0x401008, 0]));
 //! for unit in section.units() {
 //!     let unit = unit?;
 //!     let rows: Result<Vec<_>, _> = section.rows_at(unit.offset).collect();
@@ -66,6 +69,17 @@ pub struct Counts {
     pub sequences: u64,
     /// Rows, those among them.
     pub rows: u64,
+}
+
+/// What the units of a section come to of which some may be damaged.
+#[derive(Clone, Copy, Debug, PartialEq, Eq)]
+pub struct Survey {
+    /// Those of the units that aren't damaged.
+    pub counts: Counts,
+    /// How many units are damaged.
+    pub damaged: u64,
+    /// What is wrong with the first of them: an `Error::Damage`. None where no unit is damaged.
+    pub first: Option<Error>,
 }
 
 /// A row of the matrix.
@@ -173,21 +187,35 @@ impl<'a> Section<'a> {
 
     /// Reads all units, and counts them, their sequences and their rows.
     pub fn check(&self) -> Result<Counts, Error> {
-        let mut counts = raw::Counts::default();
-        let mut fault = raw::Fault::default();
-        // SAFETY: the bytes are a slice's, and the other pointers are to locals.
-        let status = unsafe {
-            raw::dl_check(self.bytes.as_ptr(), self.bytes.len(), self.how(), &mut counts, &mut fault)
-        };
+        let (status, counts, fault) = self.counts(self.how());
         match status {
-            raw::DONE => Ok(Counts {
-                units: counts.units,
-                skipped: counts.skipped,
-                sequences: counts.sequences,
-                rows: counts.rows,
+            raw::DONE => Ok(counts.into()),
+            status => Err(error(status, &fault)),
+        }
+    }
+
+    /// The same, but goes on after a damaged unit, with the one that begins where its initial length says. After a unit
+    /// whose initial length isn't good none is known to follow. `NoMemory` is the only error.
+    pub fn check_around(&self) -> Result<Survey, Error> {
+        let (status, counts, fault) = self.counts(self.how() + raw::KEEP_GOING);
+        match status {
+            raw::DONE | raw::FAULT => Ok(Survey {
+                counts: counts.into(),
+                damaged: counts.damaged,
+                first: (status == raw::FAULT).then(|| error(status, &fault)),
             }),
             status => Err(error(status, &fault)),
         }
+    }
+
+    /// The status, the counts and the fault, of which those are told that the status says.
+    fn counts(&self, how: u8) -> (u32, raw::Counts, raw::Fault) {
+        let mut counts = raw::Counts::default();
+        let mut fault = raw::Fault::default();
+        // SAFETY: the bytes are a slice's, and the other pointers are to locals.
+        let status =
+            unsafe { raw::dl_check(self.bytes.as_ptr(), self.bytes.len(), how, &mut counts, &mut fault) };
+        (status, counts, fault)
     }
 
     /// The unit that begins at an offset; None where the section has no byte there. What comes before the offset isn't
@@ -366,6 +394,16 @@ impl<'a> Section<'a> {
     /// The rows that answer for addresses, each in the first unit that has one, in one pass over the section. Where it
     /// is damaged the units before the fault answer.
     pub fn find_all(&self, addresses: &[u64]) -> FoundAll {
+        self.answers(self.how(), addresses)
+    }
+
+    /// The same, but goes on after a damaged unit as `check_around` does: all units that aren't damaged answer, and the
+    /// error is the damage of the first that is.
+    pub fn find_all_around(&self, addresses: &[u64]) -> FoundAll {
+        self.answers(self.how() + raw::KEEP_GOING, addresses)
+    }
+
+    fn answers(&self, how: u8, addresses: &[u64]) -> FoundAll {
         let mut rows = vec![raw::Row::default(); addresses.len()];
         let mut units = vec![raw::NO_UNIT; addresses.len()];
         let mut fault = raw::Fault::default();
@@ -374,7 +412,7 @@ impl<'a> Section<'a> {
             raw::dl_find_all(
                 self.bytes.as_ptr(),
                 self.bytes.len(),
-                self.how(),
+                how,
                 addresses.as_ptr(),
                 addresses.len(),
                 rows.as_mut_ptr(),
@@ -420,10 +458,10 @@ impl<'a> Section<'a> {
     }
 }
 
-/// The answers for addresses, and why the section isn't read to its end, if it isn't.
+/// The answers for addresses, and what is wrong with the section, or that memory was refused.
 #[derive(Clone, Debug, PartialEq, Eq)]
 pub struct FoundAll {
-    /// For each address the row that answers for it and the offset of its unit, if a unit before the error has one.
+    /// For each address the row that answers for it and the offset of its unit, if a unit has one that was looked at.
     pub found: Vec<Option<Found>>,
     pub error: Option<Error>,
 }
@@ -448,6 +486,17 @@ impl Iterator for Rows {
         match self.rows.next() {
             Some(row) => Some(Ok(row.into())),
             None => self.error.take().map(Err),
+        }
+    }
+}
+
+impl From<raw::Counts> for Counts {
+    fn from(counts: raw::Counts) -> Counts {
+        Counts {
+            units: counts.units,
+            skipped: counts.skipped,
+            sequences: counts.sequences,
+            rows: counts.rows,
         }
     }
 }

@@ -7,6 +7,9 @@ pub const NO_MEMORY: u32 = 3;
 pub const OTHER_VERSION: u32 = 4;
 pub const NO_ROOM: u32 = 5;
 
+/// What is added to `how` where the calls go on after damaged units.
+pub const KEEP_GOING: u8 = 128;
+
 /// The offset of no unit.
 pub const NO_UNIT: u64 = u64::MAX;
 
@@ -17,6 +20,7 @@ pub struct Counts {
     pub skipped: u64,
     pub sequences: u64,
     pub rows: u64,
+    pub damaged: u64,
 }
 
 #[repr(C)]

@@ -5,8 +5,8 @@
 
 ghost use Rattle.std.specs.Prelude.{◌≡◌, ◌≤◌, drop, length};
 ghost use Rattle.dl_calls.specs.declared.status.Status.{Status};
-ghost use Rattle.dl_calls.specs.AllCalls.{FindsAll};
-ghost use Rattle.dl_calls.specs.Calls.{Checks, dialect_of};
+ghost use Rattle.dl_calls.specs.AroundCalls.{ChecksBy, FindsAllBy};
+ghost use Rattle.dl_calls.specs.Calls.{dialect_of, goes_on};
 ghost use Rattle.dl_calls.specs.CopyCalls.{Copies};
 ghost use Rattle.dl_calls.specs.FaultCalls.{told_text};
 ghost use Rattle.dl_calls.specs.FindCalls.{Finds, place_at};
@@ -28,7 +28,7 @@ pub extern "C" fn boxantrel_check(
     fault: &mut FaultRecord,
 ) -> u32
     ensures { (status : Status) × (result ≡ status_code status)
-        × Checks (dialect_of how) section.now counts.old counts.new fault.old fault.new status }
+        × ChecksBy (goes_on how) (dialect_of how) section.now counts.old counts.new fault.old fault.new status }
 {
     dl_calls::check(alloc, section, how, counts, fault).code()
 }
@@ -99,8 +99,8 @@ pub extern "C" fn boxantrel_find_all(
     fault: &mut FaultRecord,
 ) -> u32
     ensures { (status : Status) × (result ≡ status_code status)
-        × FindsAll (dialect_of how) section.now addresses.now rows.old rows.new units.old units.new fault.old fault.new
-        status }
+        × FindsAllBy (goes_on how) (dialect_of how) section.now addresses.now rows.old rows.new units.old units.new
+        fault.old fault.new status }
 {
     dl_calls::find_all(alloc, section, how, addresses, rows, units, fault).code()
 }

@@ -18,17 +18,22 @@ use Rattle.dl_look.specs.Ledgers.{no_answer}
 use Rattle.dl_look.specs.Units.{AreFirstAnswers, answer_of_units}
 use Rattle.dl_calls.specs.declared.finding.Found.{Found}
 use Rattle.dl_calls.specs.declared.record.RowRecord.{RowRecord}
+use Rattle.dl_run.specs.declared.around.DamagedUnits.{DamagedUnits}
+use Rattle.dl_run.specs.declared.around.Survey.{Survey}
 use Rattle.dl_run.specs.declared.in_memory.SectionRead.{SectionRead}
 use Rattle.dl_run.specs.declared.in_memory.SectionStop.{SectionStop}
 use Rattle.dl_run.specs.declared.in_memory.SectionStop.TheVariants as stop
 use Rattle.dl_run.specs.Section.{HasUnits}
+use Rattle.dl_run.specs.Around.{Block, whole, damaged, begun}
+use Rattle.dl_run.specs.AroundInMemory.{blocks_told, ReadsAround}
 use Rattle.dl_run.specs.InMemory.{ReadsSection, UnitTold, unit_told, units_told}
 use Rattle.dl_calls.specs.declared.gathering.Gatherer.{Gatherer}
-use Rattle.dl_calls.specs.AllCalls.{Answers, EndsWith, FindsAll, Fit, found_from, place_of_address, placed}
+use Rattle.dl_calls.specs.AllCalls.{Answers, EndsWith, FindsAll, Fit, found_from, found_in, place_of_address, placed}
+use Rattle.dl_calls.specs.AroundCalls.{FindsAllAround, found_after, found_around, IsReadWith, IsRefusedWith}
 use Rattle.dl_calls.specs.Gatherers.{Gathers, Placed, found_told, gatherer_story, row_after, told_upto, unit_after}
 use Rattle.dl_calls.specs.declared.record.FaultRecord.{FaultRecord}
 use Rattle.dl_calls.specs.Records.{record_of, row_record}
-use Rattle.dl_calls.specs.Stops.{fault_told, status_of}
+use Rattle.dl_calls.specs.Stops.{damage_told, fault_told, status_around, status_of}
 use Rattle.dl_calls.proofs.ToldUnits.{offset_of_fault}
 
 -- ---- what stands at a place
@@ -80,6 +85,15 @@ pub found_of_units : (dialect : Dialect) (offset : ℕ) (units : List (List ℕ)
 found_of_units dialect offset [] x = refl
 found_of_units dialect offset (u ∷ units) x =
     ap (option_or (at (unit_told dialect offset u) x)) (found_of_units dialect (offset + length u) units x)
+
+-- and so is what blocks answer
+found_of_blocks : (dialect : Dialect) (offset : ℕ) (blocks : List Block) (x : Place)
+    → found_after dialect offset blocks x ≡ found_told (blocks_told dialect offset blocks) x
+found_of_blocks dialect offset [] x = refl
+found_of_blocks dialect offset (whole u ∷ blocks) x =
+    ap (option_or (at (unit_told dialect offset u) x)) (found_of_blocks dialect (offset + length u) blocks x)
+found_of_blocks dialect offset (damaged front back place kind ∷ blocks) x =
+    found_of_blocks dialect (offset + length (front ++ back)) blocks x
 
 -- ---- the answers of a unit
 
@@ -260,36 +274,62 @@ module _ (dialect : Dialect) (s addresses : List ℕ) (first now : Gatherer) (q 
     (stands : Stand first.finders.now (map place_of_address addresses) [] [])
     (none : (i : ℕ) → i < length addresses → slice_get first.units.now i ≡ Some (2 ^ 64 - 1)) where
   -- where the offsets stand for no unit before
-  answers_of : (units : List (List ℕ)) (rows : List Row) → Gathers first now (units_told dialect 0 units) rows
-      → Answers dialect units addresses first.rows.now q n
-  answers_of units rows so =
+  answers_of : (told_units : List UnitTold) (rows : List Row) → Gathers first now told_units rows
+      → (found : ℕ → Option Found) → ((a : ℕ) → found a ≡ found_told told_units (place_of_address a))
+      → Answers found addresses first.rows.now q n
+  answers_of told_units rows so found found_is =
       let told = so.told addresses stands in
       rw (q_is (sym so.same_rows), n_is (sym so.same_units)) (record {
         rows = λ i a asked.
             told.rows i a asked
             ∙ ap (λ (o : Option Found). placed (option_map (λ (f : Found). row_record f.row) o)
-            (slice_get first.rows.now i)) (sym (found_of_units dialect 0 units (place_of_address a)));
+            (slice_get first.rows.now i)) (sym (found_is a));
         units_are = λ i a asked.
-            let found = found_told (units_told dialect 0 units) (place_of_address a) in
+            let answer_told = found_told told_units (place_of_address a) in
             told.offsets i a asked
-            ∙ ap (placed (option_map (λ (f : Found). f.unit) found)) (none i (slice_get_within addresses i a asked))
-            ∙ unit_told_is found
+            ∙ ap (placed (option_map (λ (f : Found). f.unit) answer_told)) (none i (slice_get_within addresses i a asked))
+            ∙ unit_told_is answer_told
             ∙ ap (λ (o : Option Found). Some (option_map_or (λ (f : Found). f.unit) o (2 ^ 64 - 1)))
-            (sym (found_of_units dialect 0 units (place_of_address a)));
+            (sym (found_is a));
       })
 
+  by_units : (units : List (List ℕ)) (rows : List Row) → Gathers first now (units_told dialect 0 units) rows
+      → Answers (found_in dialect units) addresses first.rows.now q n
+  by_units units rows so =
+      answers_of (units_told dialect 0 units) rows so (found_in dialect units)
+      (λ a. found_of_units dialect 0 units (place_of_address a))
+
+  by_blocks : (blocks : List Block) (rows : List Row) → Gathers first now (blocks_told dialect 0 blocks) rows
+      → Answers (found_around dialect blocks) addresses first.rows.now q n
+  by_blocks blocks rows so =
+      answers_of (blocks_told dialect 0 blocks) rows so (found_around dialect blocks)
+      (λ a. found_of_blocks dialect 0 blocks (place_of_address a))
+
   abbrev Ends : Result ⊤ SectionStop → Type 0
-  Ends end = EndsWith dialect s (λ units. Answers dialect units addresses first.rows.now q n) end
+  Ends end = EndsWith dialect s (λ units. Answers (found_in dialect units) addresses first.rows.now q n) end
 
   pub ends_well : (read : SectionRead) → ReadsSection gatherer_story dialect s first now (Ok read) → Ends (Ok tt)
   ends_well read (units, back, has, is, inl (end, so)) =
-      (units, subst (HasUnits dialect s units) end has, answers_of units [] so)
+      (units, subst (HasUnits dialect s units) end has, by_units units [] so)
   ends_well read (units, back, has, is, inr done) = absurd done
 
   pub ends_so : (f : SectionStop) → ReadsSection gatherer_story dialect s first now (Err f) → Ends (Err f)
   ends_so (stop.Damaged offset kind) (units, b, back, ends, so) =
-      (units, b, back, ends, answers_of units (unit_rows dialect b) so)
-  ends_so stop.NoMemory (units, b, back, ends, so) = (units, b, back, ends, answers_of units (unit_rows dialect b) so)
+      (units, b, back, ends, by_units units (unit_rows dialect b) so)
+  ends_so stop.NoMemory (units, b, back, ends, so) = (units, b, back, ends, by_units units (unit_rows dialect b) so)
+
+  -- around damaged units
+  abbrev AnswersAround : List Block → Type 0
+  AnswersAround blocks = Answers (found_around dialect blocks) addresses first.rows.now q n
+
+  pub ends_around : (survey : Survey) → ReadsAround {E = ⊤} gatherer_story dialect s first now (Ok survey)
+      → IsReadWith dialect s AnswersAround survey.damaged
+  ends_around survey (inl (blocks, rest, ends, so)) = (blocks, rest, survey, ends, refl, by_blocks blocks [] so)
+  ends_around survey (inr (blocks, others, cut, is, done)) = absurd done
+
+  pub refused_around : ReadsAround {E = ⊤} gatherer_story dialect s first now (Err tt)
+      → IsRefusedWith dialect s AnswersAround
+  refused_around (blocks, b, ends, so) = (blocks, begun b, ends, by_blocks blocks (unit_rows dialect b) so)
 
 -- nothing is told yet
 pub begins : (first : Gatherer) → Gathers first first [] []
@@ -303,7 +343,7 @@ begins first = record {
 -- what is told of a stop
 pub finds_all_stopped : (dialect : Dialect) (s addresses : List ℕ) (p q : List RowRecord) (m n : List ℕ)
     (f : FaultRecord) → length s < 2 ^ 64 → Fit addresses p m → (stop : SectionStop)
-    → EndsWith dialect s (λ units. Answers dialect units addresses p q n) (Err stop)
+    → EndsWith dialect s (λ units. Answers (found_in dialect units) addresses p q n) (Err stop)
     → FindsAll dialect s addresses p q m n f (fault_told stop 0 f) (status_of stop)
 finds_all_stopped dialect s addresses p q m n f few fit (stop.Damaged at kind) ends = (
   at,
@@ -313,3 +353,11 @@ finds_all_stopped dialect s addresses p q m n f few fit (stop.Damaged at kind) e
   ap (λ (n : ℕ). record_of n kind) (offset_of_fault dialect s ends.0 ends.1 ends.2 at kind ends.3 few),
 )
 finds_all_stopped dialect s addresses p q m n f few fit stop.NoMemory ends = (fit, inr ends, refl)
+
+-- what is told of damaged units
+pub finds_all_around : (dialect : Dialect) (s addresses : List ℕ) (p q : List RowRecord) (m n : List ℕ)
+    (f : FaultRecord) → Fit addresses p m → (units : Option DamagedUnits)
+    → IsReadWith dialect s (λ blocks. Answers (found_around dialect blocks) addresses p q n) units
+    → FindsAllAround dialect s addresses p q m n f (damage_told units f) (status_around units)
+finds_all_around dialect s addresses p q m n f fit None read = (fit, read, refl)
+finds_all_around dialect s addresses p q m n f fit (Some units) read = (units, fit, read, refl)

@@ -1,25 +1,30 @@
 -- The counts of a section in memory, and where its reading stops.
-use Rattle.std.proofs.Common.{◌≡◌, ◌<◌, ◌^◌, inl, inr, ℕ, List, [], length, Ok, Err, arith, refl, ap, subst}
+use Rattle.std.proofs.Common.{◌≡◌, ◌<◌, ◌^◌, inl, inr, ℕ, List, length, Option, Some, None, Ok, Err, arith, refl, ap, subst}
+use Rattle.std.specs.Prelude.{⊤}
 use Rattle.dl_head.specs.declared.dialect.Dialect.{Dialect}
-use Rattle.dl_print.specs.declared.summary.Summary.{Summary}
+use Rattle.dl_run.specs.declared.around.DamagedUnits.{DamagedUnits}
+use Rattle.dl_run.specs.declared.around.Survey.{Survey}
 use Rattle.dl_run.specs.declared.in_memory.SectionRead.{SectionRead}
 use Rattle.dl_run.specs.declared.in_memory.SectionStop.{SectionStop}
 use Rattle.dl_run.specs.declared.in_memory.SectionStop.TheVariants as stop
+use Rattle.dl_run.specs.Around.{begun}
+use Rattle.dl_run.specs.AroundInMemory.{ReadsAround}
 use Rattle.dl_run.specs.InMemory.{ReadsSection}
 use Rattle.dl_run.specs.Section.{HasUnits}
 use Rattle.dl_calls.specs.declared.checking.Unkept.{Unkept}
 use Rattle.dl_calls.specs.declared.record.Counts.{Counts}
 use Rattle.dl_calls.specs.declared.record.FaultRecord.{FaultRecord}
 use Rattle.dl_calls.specs.declared.status.Status.TheVariants as status
+use Rattle.dl_calls.specs.AroundCalls.{ChecksAround, counts_around}
 use Rattle.dl_calls.specs.Calls.{Checks}
 use Rattle.dl_calls.specs.Records.{counts_of, record_of}
-use Rattle.dl_calls.specs.Stops.{fault_told, status_of}
+use Rattle.dl_calls.specs.Stops.{damage_told, fault_told, status_around, status_of}
 use Rattle.dl_calls.specs.Unkept.{unkept_story}
 use Rattle.dl_calls.proofs.ToldUnits.{offset_of_fault}
 
 module _ (dialect : Dialect) (s : List ℕ) (first now : Unkept) (c : Counts) (f : FaultRecord) where
   pub checks : (read : SectionRead) → ReadsSection unkept_story dialect s first now (Ok read) → (d : Counts)
-      → d ≡ counts_of read.summary → Checks dialect s c d f f status.Done
+      → d ≡ counts_of read.summary 0 → Checks dialect s c d f f status.Done
   checks read (units, back, has, is, inl (end, heard)) d counts = (
     read.summary,
     (
@@ -49,3 +54,20 @@ module _ (dialect : Dialect) (s : List ℕ) (first now : Unkept) (c : Counts) (f
     ap (λ (n : ℕ). record_of n kind) (offset_of_fault dialect s units b back at kind ends few),
   )
   checks_stopped few stop.NoMemory (units, b, back, ends, heard) = ((units, b, back, ends), refl, refl)
+
+-- ---- around damaged units
+
+module _ (dialect : Dialect) (s : List ℕ) (first now : Unkept) (c : Counts) (f : FaultRecord) where
+  pub checks_around : (survey : Survey) → ReadsAround {E = ⊤} unkept_story dialect s first now (Ok survey) → (d : Counts)
+      → d ≡ counts_around survey
+      → ChecksAround dialect s c d f (damage_told survey.damaged f) (status_around survey.damaged)
+  checks_around survey (inl (blocks, rest, ends, heard)) d counts = by survey.damaged refl where
+    by : (units : Option DamagedUnits) → survey.damaged ≡ units
+        → ChecksAround dialect s c d f (damage_told units f) (status_around units)
+    by None none = (blocks, rest, survey, ends, none, counts, refl)
+    by (Some units) some = (blocks, rest, survey, units, ends, some, counts, refl)
+  checks_around survey (inr (blocks, others, cut, is, done)) d counts = absurd done
+
+  pub checks_refused : ReadsAround {E = ⊤} unkept_story dialect s first now (Err tt)
+      → ChecksAround dialect s c c f f status.NoMemory
+  checks_refused (blocks, b, ends, heard) = (blocks, begun b, ends, refl, refl)

@@ -1,3 +1,4 @@
+pub mod AlikeLemmas
 pub mod AllLemmas
 pub mod CheckLemmas
 pub mod CopyLemmas

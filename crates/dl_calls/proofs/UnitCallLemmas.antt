@@ -1,7 +1,7 @@
 -- The calls over the unit that bytes begin with, and rows that are written into a room.
 use Rattle.std.proofs.Common.{◌≡◌, ◌<◌, ◌≤◌, inl, inr, ℕ, ◌+◌, ◌^◌, List, [], ◌∷◌, ◌++◌, length, drop, map, Option, Some}
 use Rattle.std.proofs.Common.{None, Ok, Err, arith, refl, sym, ap, ap₂, ◌∙◌, subst, append_assoc, append-nil, length-append}
-use Rattle.std.proofs.Common.{length-drop, take}
+use Rattle.std.proofs.Common.{length-drop}
 use Rattle.std.proofs.Common.{min, true, false}
 use Rattle.std.specs.Prelude.{slice_set, ◌-◌, option_map}
 use Rattle.std.specs.List.{concat}

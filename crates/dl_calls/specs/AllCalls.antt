@@ -38,14 +38,13 @@ found_in dialect units address = found_from dialect 0 units (place_of_address ad
 abbrev pub placed : {A : Type 0} → (told old : Option A) → Option A
 placed told old = option_map (unwrap_or told) old
 
--- of rows, p before and q after, and n, offsets of units: for each address the row and the offset that the units
--- answer, or the row as it was and 2^64 - 1
-pub record Answers (dialect : Dialect) (units : List (List ℕ)) (addresses : List ℕ) (p q : List RowRecord) (n : List ℕ)
-    : Type 0 where
+-- of rows, p before and q after, and n, offsets of units: for each address the row and the offset that are found, or the
+-- row as it was and 2^64 - 1
+pub record Answers (found : ℕ → Option Found) (addresses : List ℕ) (p q : List RowRecord) (n : List ℕ) : Type 0 where
   pub rows : (i a : ℕ) → slice_get addresses i ≡ Some a
-      → slice_get q i ≡ placed (option_map (λ f. row_record f.row) (found_in dialect units a)) (slice_get p i)
+      → slice_get q i ≡ placed (option_map (λ f. row_record f.row) (found a)) (slice_get p i)
   pub units_are : (i a : ℕ) → slice_get addresses i ≡ Some a
-      → slice_get n i ≡ Some (option_map_or (λ f. f.unit) (found_in dialect units a) (2 ^ 64 - 1))
+      → slice_get n i ≡ Some (option_map_or (λ f. f.unit) (found a) (2 ^ 64 - 1))
 
 -- the reading of s ends after units of which P holds, with all of it read or so
 abbrev pub EndsWith : Dialect → (s : List ℕ) → (P : List (List ℕ) → Type 0) → Result ⊤ SectionStop → Type 0
@@ -66,13 +65,13 @@ Fit addresses p m = (length p ≡ length addresses) × (length m ≡ length addr
 abbrev pub FindsAll : Dialect → (s addresses : List ℕ) → (p q : List RowRecord) (m n : List ℕ) (f g : FaultRecord)
     → Status → Type 0
 FindsAll dialect s addresses p q m n f g status.Done =
-    Fit addresses p m × EndsWith dialect s (λ units. Answers dialect units addresses p q n) (Ok tt) × (g ≡ f)
+    Fit addresses p m × EndsWith dialect s (λ units. Answers (found_in dialect units) addresses p q n) (Ok tt) × (g ≡ f)
 FindsAll dialect s addresses p q m n f g status.Fault =
     (offset : ℕ) × (kind : FaultKind) × Fit addresses p m
-    × EndsWith dialect s (λ units. Answers dialect units addresses p q n) (Err (stop.Damaged offset kind))
+    × EndsWith dialect s (λ units. Answers (found_in dialect units) addresses p q n) (Err (stop.Damaged offset kind))
     × (g ≡ record_of offset kind)
 FindsAll dialect s addresses p q m n f g status.NoMemory =
     Fit addresses p m × (((q ≡ p) × (n ≡ m))
-    ⊎ EndsWith dialect s (λ units. Answers dialect units addresses p q n) (Err stop.NoMemory)) × (g ≡ f)
+    ⊎ EndsWith dialect s (λ units. Answers (found_in dialect units) addresses p q n) (Err stop.NoMemory)) × (g ≡ f)
 FindsAll dialect s addresses p q m n f g status.NoRoom = (Fit addresses p m → ⊥) × (q ≡ p) × (n ≡ m) × (g ≡ f)
 FindsAll dialect s addresses p q m n f g other = ⊥

@@ -1,18 +1,22 @@
 -- The sink that looks many places up, and what is told of what it finds. No promise rests on this file.
 use Rattle.std.specs.Prelude.{◌≡◌, ℕ, zero, suc, ◌==◌, if◌then◌else◌, List, [], ◌∷◌, map, slice_get, slice_index_or}
-use Rattle.std.specs.Prelude.{Option, Some, None, option_map}
+use Rattle.std.specs.Prelude.{Option, Some, None, option_map, Result, Ok, Err}
 use Rattle.std.specs.Option.{option_or}
+use Rattle.dl_head.specs.declared.dialect.Dialect.{Dialect}
 use Rattle.dl_rows.specs.declared.row.Row.{Row}
 use Rattle.dl_look.specs.Answer.{answer}
 use Rattle.dl_look.specs.declared.place.Place.{Place}
 use Rattle.dl_look.specs.declared.ledger.Answered.{Answered}
 use Rattle.dl_look.specs.FindersRows.{Stand}
 use Rattle.dl_look.specs.Ledgers.{no_answer}
+use Rattle.dl_run.specs.Around.{Block}
 use Rattle.dl_run.specs.InMemory.{UnitStory, UnitTold}
+use Rattle.dl_run.specs.declared.around.DamagedUnits.{DamagedUnits}
 use Rattle.dl_calls.specs.declared.finding.Found.{Found}
 use Rattle.dl_calls.specs.declared.gathering.Gatherer.{Gatherer}
 use Rattle.dl_calls.specs.declared.record.RowRecord.{RowRecord}
 use Rattle.dl_calls.specs.AllCalls.{place_of_address, placed}
+use Rattle.dl_calls.specs.AroundCalls.{IsReadWith, IsRefusedWith}
 use Rattle.dl_calls.specs.Records.{row_record}
 
 -- the row of the last of the first k answers that is for the place of number i
@@ -55,3 +59,9 @@ pub record Gathers (first now : Gatherer) (units : List UnitTold) (rows : List R
 
 abbrev pub gatherer_story : UnitStory Gatherer
 gatherer_story = record { hears = Gathers; is_done = λ first now units. ⊥ }
+
+-- `gather_around`
+abbrev pub EndsAroundWith : {E : Type 0} → Dialect → (s : List ℕ) → (P : List Block → Type 0)
+    → Result (Option DamagedUnits) E → Type 0
+EndsAroundWith dialect s P (Ok units) = IsReadWith dialect s P units
+EndsAroundWith dialect s P (Err refused) = IsRefusedWith dialect s P

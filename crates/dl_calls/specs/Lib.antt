@@ -5,10 +5,12 @@ pub mod Calls
 pub mod FindCalls
 pub mod UnitCalls
 pub mod AllCalls
+pub mod AroundCalls
 pub mod CopyCalls
 pub mod PathCalls
 pub mod PathsCalls
 pub mod FaultCalls
+pub mod AroundCallLaws
 -- Of contracts inside the crate, and of proofs; no public contract reaches these.
 pub mod UnitReading
 pub mod Stops

@@ -62,8 +62,15 @@ abbrev pub told_kind : (kind detail : ℕ) → Option FaultKind
 told_kind kind detail =
     if kind == 10 then opcode_told detail else if kind == 11 then Some (fault.UnknownForm detail) else plain_kind kind
 
-abbrev pub counts_of : Summary → Counts
-counts_of s = record { units = s.units; skipped = s.skipped; sequences = s.sequences; rows = s.rows }
+-- of units that are whole, and how many are damaged
+abbrev pub counts_of : Summary → (damaged : ℕ) → Counts
+counts_of s damaged = record {
+  units = s.units;
+  skipped = s.skipped;
+  sequences = s.sequences;
+  rows = s.rows;
+  damaged = damaged;
+}
 
 abbrev pub status_code : Status → ℕ
 status_code status.Done = 0

@@ -1,12 +1,11 @@
 -- The sink that looks a place up. No promise rests on this file.
-use Rattle.std.specs.Prelude.{◌≡◌, List, [], ◌∷◌, ◌++◌, Option, Some, None}
+use Rattle.std.specs.Prelude.{◌≡◌, List, [], ◌∷◌, ◌++◌, Some, None}
 use Rattle.std.specs.List.{AllByRecursion}
 use Rattle.dl_rows.specs.declared.row.Row.{Row}
 use Rattle.dl_look.specs.Answer.{answer}
 use Rattle.dl_look.specs.declared.place.Place.{Place}
 use Rattle.dl_look.specs.FinderRows.{StandsFor}
 use Rattle.dl_run.specs.InMemory.{UnitStory, UnitTold}
-use Rattle.dl_calls.specs.declared.finding.Found.{Found}
 use Rattle.dl_calls.specs.declared.finding.Seeker.{Seeker}
 
 -- none of the units has an answer

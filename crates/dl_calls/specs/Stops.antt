@@ -1,6 +1,7 @@
 -- What a call tells where a section isn't read to its end. No promise rests on this file.
-use Rattle.std.specs.Prelude.{ℕ}
+use Rattle.std.specs.Prelude.{ℕ, Option, Some, None}
 use Rattle.dl_print.specs.Counts.{add}
+use Rattle.dl_run.specs.declared.around.DamagedUnits.{DamagedUnits}
 use Rattle.dl_run.specs.declared.in_memory.SectionStop.{SectionStop}
 use Rattle.dl_run.specs.declared.in_memory.SectionStop.TheVariants as stop
 use Rattle.dl_calls.specs.declared.record.FaultRecord.{FaultRecord}
@@ -16,6 +17,15 @@ fault_told stop.NoMemory offset f = f
 abbrev pub status_of : SectionStop → Status
 status_of (stop.Damaged at kind) = status.Fault
 status_of stop.NoMemory = status.NoMemory
+
+-- the fault that stands after a section is read around damaged units, where f stood
+abbrev pub damage_told : Option DamagedUnits → FaultRecord → FaultRecord
+damage_told None f = f
+damage_told (Some units) f = record_of units.first.offset units.first.kind
+
+abbrev pub status_around : Option DamagedUnits → Status
+status_around None = status.Done
+status_around (Some units) = status.Fault
 
 -- how many rows are told of those that were found, where m stood
 abbrev pub count_told : SectionStop → (found m : ℕ) → ℕ

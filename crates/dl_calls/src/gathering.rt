@@ -3,19 +3,23 @@
 ghost use Rattle.std.specs.Prelude.{◌≡◌, ◌==◌, ◌<◌, ◌-◌, ◌^◌, ℕ, List, IfOk, [], length, map, slice_get};
 ghost use Rattle.std.specs.Prelude.{Some, None, if◌then◌else◌};
 ghost use Rattle.dl_look.specs.FindersRows.{Stand};
-ghost use Rattle.dl_calls.specs.AllCalls.{Answers, EndsWith, FindsAll, place_of_address, placed};
-ghost use Rattle.dl_calls.specs.Calls.{dialect_of};
-ghost use Rattle.dl_calls.specs.Gatherers.{row_after, unit_after};
+ghost use Rattle.dl_calls.specs.AllCalls.{Answers, EndsWith, Fit, found_in, place_of_address, placed};
+ghost use Rattle.dl_calls.specs.AroundCalls.{FindsAllBy, found_around};
+ghost use Rattle.dl_calls.specs.Calls.{dialect_of, goes_on};
+ghost use Rattle.dl_calls.specs.Gatherers.{EndsAroundWith, row_after, unit_after};
 
-use crate::checking::dialect_of;
+use crate::checking::{dialect_of, goes_on};
 use crate::record::{FaultRecord, RowRecord};
 use crate::status::Status;
-use crate::stop::tell_stop;
+use crate::stop::{tell_damage, tell_stop};
 use dl_head::Dialect;
 use dl_look::{Answered, Finders, NoMemory, Place};
 use dl_rows::{Flow, Row};
-use dl_run::{SectionStop, UnitSink, WholeUnit, read_section};
-use std::alloc::Global;
+use dl_run::{
+    Damage, DamagedUnits, SectionStop, UnitSink, UnitSinkAround, WholeUnit, read_section,
+    read_section_around,
+};
+use std::alloc::{AllocError, Global};
 
 /// The offset that stands for no unit.
 const NO_UNIT: u64 = u64::MAX;
@@ -48,12 +52,19 @@ impl UnitSink for Gatherer<'_> {
     }
 }
 
+impl UnitSinkAround for Gatherer<'_> {
+    fn damaged(&mut self, _damage: Damage) {
+        self.finders.forget_unit();
+    }
+}
+
 /// Looks up the row that answers for each address, in one pass: that of the first whole unit whose rows do.
 ///
 /// Done: for each address its row and the offset of its unit are told; where no unit answers, the offset 2^64 - 1
-/// alone. Fault, and NoMemory once the section is read: the same by the units before it, and the fault. NoMemory where
+/// alone. Fault, and NoMemory once the section is read: the same by the units before it, and the fault; but where `how`
+/// says that it goes on after damaged units, Fault tells the first fault, and what all whole units answer. NoMemory where
 /// it is refused for the addresses, and NoRoom where there aren't as many rows and offsets as addresses: nothing is
-/// told. What isn't told stays as it was.
+/// told. What isn't told stays as it was. Section 6.2.2.
 pub fn find_all(
     alloc: Global,
     section: &[u8],
@@ -63,8 +74,8 @@ pub fn find_all(
     units: &mut [u64],
     fault: &mut FaultRecord,
 ) -> Status
-    ensures { FindsAll (dialect_of how) section.now addresses.now rows.old rows.new units.old units.new fault.old
-        fault.new result }
+    ensures { FindsAllBy (goes_on how) (dialect_of how) section.now addresses.now rows.old rows.new units.old units.new
+        fault.old fault.new result }
 {
     if rows.len() != addresses.len() || units.len() != addresses.len() {
         return Status::NoRoom;
@@ -72,10 +83,35 @@ pub fn find_all(
     let Ok(mut finders) = finders_of(alloc, addresses) else {
         return Status::NoMemory;
     };
+    answer_all(alloc, section, how, &mut finders, rows, units, fault)
+}
+
+/// Looks up the rows that answer for the addresses of finders, which were given no row yet.
+fn answer_all(
+    alloc: Global,
+    section: &[u8],
+    how: u8,
+    finders: &mut Finders,
+    rows: &mut [RowRecord],
+    units: &mut [u64],
+    fault: &mut FaultRecord,
+) -> Status
+    ensures { (addresses : List ℕ) → Stand finders.old (map place_of_address addresses) [] []
+        → Fit addresses rows.old units.old
+        → FindsAllBy (goes_on how) (dialect_of how) section.now addresses rows.old rows.new units.old units.new fault.old
+        fault.new result }
+{
     forget(units);
-    match gather(alloc, dialect_of(how), section, &mut finders, rows, units) {
-        Ok(()) => Status::Done,
-        Err(stop) => tell_stop(stop, 0, fault),
+    if goes_on(how) {
+        match gather_around(alloc, dialect_of(how), section, finders, rows, units) {
+            Ok(damaged) => tell_damage(damaged, fault),
+            Err(AllocError) => Status::NoMemory,
+        }
+    } else {
+        match gather(alloc, dialect_of(how), section, finders, rows, units) {
+            Ok(()) => Status::Done,
+            Err(stop) => tell_stop(stop, 0, fault),
+        }
     }
 }
 
@@ -106,7 +142,7 @@ fn gather(
 ) -> Result<(), SectionStop>
     ensures { (addresses : List ℕ) → Stand finders.old (map place_of_address addresses) [] []
         → ((i : ℕ) → i < length addresses → slice_get units.old i ≡ Some (2 ^ 64 - 1))
-        → EndsWith dialect section.now (λ found. Answers dialect found addresses rows.old rows.new units.new)
+        → EndsWith dialect section.now (λ found. Answers (found_in dialect found) addresses rows.old rows.new units.new)
         result }
 {
     let mut gatherer = Gatherer {
@@ -123,6 +159,37 @@ fn gather(
     match read {
         Ok(_) => Ok(()),
         Err(stop) => Err(stop),
+    }
+}
+
+/// Tells what the whole units of a section answer, unit by unit, and which are damaged.
+fn gather_around(
+    alloc: Global,
+    dialect: Dialect,
+    section: &[u8],
+    finders: &mut Finders,
+    rows: &mut [RowRecord],
+    units: &mut [u64],
+) -> Result<Option<DamagedUnits>, AllocError>
+    ensures { (addresses : List ℕ) → Stand finders.old (map place_of_address addresses) [] []
+        → ((i : ℕ) → i < length addresses → slice_get units.old i ≡ Some (2 ^ 64 - 1))
+        → EndsAroundWith dialect section.now
+        (λ blocks. Answers (found_around dialect blocks) addresses rows.old rows.new units.new) result }
+{
+    let mut gatherer = Gatherer {
+        finders,
+        rows,
+        units,
+    };
+    let read = read_section_around(alloc, dialect, section, &mut gatherer);
+    let Gatherer {
+        finders: _,
+        rows: _,
+        units: _,
+    } = gatherer;
+    match read {
+        Ok(survey) => Ok(survey.damaged),
+        Err(AllocError) => Err(AllocError),
     }
 }
 

@@ -20,17 +20,20 @@ pub struct Counts {
     pub sequences: u64,
     /// Rows, end rows among them.
     pub rows: u64,
+    /// Units that are damaged, after which the reading went on; else 0.
+    pub damaged: u64,
 }
 
 impl Counts {
-    pub(crate) fn of(summary: &Summary) -> Counts
-        ensures { result ≡ counts_of summary.now }
+    pub(crate) fn of(summary: &Summary, damaged: u64) -> Counts
+        ensures { result ≡ counts_of summary.now damaged }
     {
         Counts {
             units: summary.units,
             skipped: summary.skipped,
             sequences: summary.sequences,
             rows: summary.rows,
+            damaged,
         }
     }
 }

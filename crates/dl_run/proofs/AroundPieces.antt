@@ -39,6 +39,16 @@ stays_open dialect a blocks (begun b) awaits = tt
 stays_open dialect a blocks (cut_off b) awaits = awaits
 stays_open dialect a blocks (broken front back at kind) awaits = (awaits.0, awaits.1)
 
+-- it is memory that is wanted for a cell, and nothing else
+pub no_cell_other : (dialect : Dialect) (f : RunFault) → ((e : f ≡ fault.NoMemory) → ⊥) → (rest : Rest) (others : List ℕ)
+    → WantsCell dialect rest others f → ⊥
+no_cell_other dialect f other rest others wants = by f rest other wants where
+  by : (f : RunFault) (rest : Rest) → ((e : f ≡ fault.NoMemory) → ⊥) → WantsCell dialect rest others f → ⊥
+  by fault.NoMemory rest other wants = other refl
+  by f (begun b) other wants = wants
+  by f (cut_off b) other wants = wants
+  by f (broken front back at kind) other wants = wants
+
 -- at most `limit` bytes were read, and `left` more may come
 pub record ReadAround {S : Type 0} (story : Story S) (dialect : Dialect) (limit : ℕ) (old input : Option (List ℕ))
     (first new : S) (start now : Option (List ℕ)) (a : UnitsAround) (left : ℕ) : Type 0 where
@@ -126,28 +136,19 @@ module _ {S : Type 0} {story : Story S} {dialect : Dialect} {limit : ℕ} {old i
         wanting (blocks, broken front back at kind, others, cut, sound, inl (wants, settled)) = absurd wants
         wanting (blocks, rest, others, cut, sound, inr v) = (blocks, rest, inr (others, cut_to cut, sound, v))
 
-        no_cell_other : (f : RunFault) → ((e : f ≡ fault.NoMemory) → ⊥) → (rest : Rest) (others : List ℕ)
-            → WantsCell dialect rest others f → ⊥
-        no_cell_other f other rest others wants = by f rest other wants where
-          by : (f : RunFault) (rest : Rest) → ((e : f ≡ fault.NoMemory) → ⊥) → WantsCell dialect rest others f → ⊥
-          by fault.NoMemory rest other wants = other refl
-          by f (begun b) other wants = wants
-          by f (cut_off b) other wants = wants
-          by f (broken front back at kind) other wants = wants
-
         stopped : (f : RunFault) → AroundFed story dialect (so.t ++ known) first new2 start now2 x (Err f) → Ran (Err f)
         stopped (fault.Write out) (blocks, rest, others, cut, writes) = (blocks, rest, others, cut_to cut, writes)
         stopped fault.NoMemory w = wanting w
         stopped (fault.Damage offset kind) w =
-            had_reason (fault.Damage offset kind) (no_cell_other (fault.Damage offset kind) (λ e. absurd cc)) w
-        stopped fault.Read w = had_reason fault.Read (no_cell_other fault.Read (λ e. absurd cc)) w
+            had_reason (fault.Damage offset kind) (no_cell_other dialect (fault.Damage offset kind) (λ e. absurd cc)) w
+        stopped fault.Read w = had_reason fault.Read (no_cell_other dialect fault.Read (λ e. absurd cc)) w
         stopped fault.SectionTooLong w =
-            had_reason fault.SectionTooLong (no_cell_other fault.SectionTooLong (λ e. absurd cc)) w
-        stopped fault.NotFound w = had_reason fault.NotFound (no_cell_other fault.NotFound (λ e. absurd cc)) w
+            had_reason fault.SectionTooLong (no_cell_other dialect fault.SectionTooLong (λ e. absurd cc)) w
+        stopped fault.NotFound w = had_reason fault.NotFound (no_cell_other dialect fault.NotFound (λ e. absurd cc)) w
         stopped (fault.ForeignUnit unit) w =
-            had_reason (fault.ForeignUnit unit) (no_cell_other (fault.ForeignUnit unit) (λ e. absurd cc)) w
+            had_reason (fault.ForeignUnit unit) (no_cell_other dialect (fault.ForeignUnit unit) (λ e. absurd cc)) w
         stopped (fault.Emit unit f) w =
-            had_reason (fault.Emit unit f) (no_cell_other (fault.Emit unit f) (λ e. absurd cc)) w
+            had_reason (fault.Emit unit f) (no_cell_other dialect (fault.Emit unit f) (λ e. absurd cc)) w
 
         pub stops : (f : RunFault) → Fed (Err f) → Owed input2 new2 now2 (Err f)
         stops f fed = (so.t ++ piece, all_read, λ tells out. stopped f (fed (so.told tells out)))

@@ -1,38 +1,29 @@
 -- A run of units between damaged ones, and what it ends in.
 use Rattle.std.proofs.Common.{◌≡◌, ◌≢◌, ◌<◌, ◌≤◌, ◌^◌, inl, inr, ℕ, ◌+◌, List, [], ◌∷◌, ◌++◌, length, drop}
-use Rattle.std.proofs.Common.{Option, Some, None, Result, Ok, Err, arith, refl, sym, ap, ◌∙◌, append_assoc, append-nil}
-use Rattle.std.proofs.Common.{length-append, length-drop, suc, subst, zero-add, ap₂, Bool, true, false}
+use Rattle.std.proofs.Common.{Option, Result, Ok, Err, arith, refl, sym, ap, ◌∙◌, append_assoc, append-nil}
+use Rattle.std.proofs.Common.{length-append, length-drop, subst, Bool, true, false}
 use Rattle.std.specs.Prelude.{eqb}
 use Rattle.std.proofs.lemmas.Bool.{eqb-true}
-use Rattle.std.proofs.lemmas.List.{append_cancel_left, nil_from_length}
-use Rattle.std.specs.List.{AllByRecursion, concat}
+use Rattle.std.proofs.lemmas.List.{nil_from_length}
+use Rattle.std.specs.List.{concat}
 use Rattle.dl_head.specs.declared.dialect.Dialect.{Dialect}
-use Rattle.dl_head.specs.Header.{unit_len}
-use Rattle.dl_head.proofs.FrontLemmas.{fronts}
 use Rattle.dl_table.specs.declared.fault.FaultKind.{FaultKind}
-use Rattle.dl_rows.specs.LineUnit.{IsUnit}
-use Rattle.dl_rows.specs.Refusal.{Refused}
-use Rattle.dl_rows.specs.ReaderStands.{StandsFor}
-use Rattle.dl_rows.specs.Runs.{Sound}
 use Rattle.dl_rows.specs.declared.sink.Flow.{Flow}
 use Rattle.dl_rows.specs.declared.sink.Flow.TheVariants as flow
-use Rattle.dl_rows.proofs.UnitLengths.{unit_len_small}
 use Rattle.dl_print.specs.Counts.{add}
-use Rattle.dl_run.specs.declared.around.Damage.{Damage}
 use Rattle.dl_run.specs.declared.around.UnitsAround.{UnitsAround}
 use Rattle.dl_run.specs.declared.fault.RunFault.{RunFault}
 use Rattle.dl_run.specs.declared.fault.RunFault.TheVariants as fault
 use Rattle.dl_run.specs.declared.section.SectionUnits.{SectionUnits}
-use Rattle.dl_run.specs.Around.{Block, IsBlock, bytes_of, units_around, faults_in, begun, broken, IsCutTo, faults_of}
-use Rattle.dl_run.specs.Around.{damaged_units, visits_around, blocks_visits}
-use Rattle.dl_run.specs.GoingOn.{AroundFed, AroundIs, damage_in, IsTold, NextBegins, passed}
-use Rattle.dl_run.specs.Section.{Visit, HasBegun, NoUnitBegins, of_damage, visits, summary_of}
-use Rattle.dl_run.specs.UnitsRead.{Before, StopsWith, UnitsAre, Worked, end_of, visits_since}
-use Rattle.dl_run.specs.Visiting.{Settled, Story}
-use Rattle.dl_run.proofs.AroundLemmas.{PassedTo, passes, passes_over}
-use Rattle.dl_run.proofs.BlockLemmas.{all_with, bytes_with, faults_with, few_faults, past_of, units_with}
+use Rattle.dl_run.specs.Around.{Block, bytes_of, units_around, faults_in, begun, IsCutTo}
+use Rattle.dl_run.specs.Around.{damaged_units, visits_around}
+use Rattle.dl_run.specs.GoingOn.{AroundFed, AroundIs, passed}
+use Rattle.dl_run.specs.Section.{HasBegun}
+use Rattle.dl_run.specs.UnitsRead.{Before, UnitsAre, Worked, visits_since}
+use Rattle.dl_run.specs.Visiting.{Story}
+use Rattle.dl_run.proofs.AroundLemmas.{PassedTo, passes}
+use Rattle.dl_run.proofs.BlockLemmas.{all_with, bytes_with, faults_with, past_of, units_with}
 use Rattle.dl_run.proofs.BlockLemmas.{visits_with, with_units}
-use Rattle.dl_run.proofs.Fronts.{none_is_some}
 
 -- the same, where the units are reckoned to what was read before
 pub rebased : {dialect : Dialect} (past past2 : Before dialect) {u : SectionUnits} {t : List ℕ} {units : List (List ℕ)}

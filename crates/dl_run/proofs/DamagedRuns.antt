@@ -1,10 +1,8 @@
 -- A damaged unit, at which a run of units stops.
 use Rattle.std.proofs.Common.{◌≡◌, ◌≢◌, ◌<◌, ◌≤◌, ◌^◌, inl, inr, ℕ, ◌+◌, List, [], ◌∷◌, ◌++◌, length, drop}
-use Rattle.std.proofs.Common.{Option, Some, None, Result, Ok, Err, arith, refl, sym, ap, ◌∙◌, append_assoc, append-nil}
-use Rattle.std.proofs.Common.{length-append, length-drop, suc, subst, zero-add, ap₂, Bool, true, false}
-use Rattle.std.specs.Prelude.{eqb}
-use Rattle.std.proofs.lemmas.Bool.{eqb-true}
-use Rattle.std.proofs.lemmas.List.{append_cancel_left, nil_from_length}
+use Rattle.std.proofs.Common.{Option, Some, None, Ok, Err, arith, refl, sym, ap, ◌∙◌, append_assoc, append-nil}
+use Rattle.std.proofs.Common.{length-append, suc, subst, zero-add, ap₂}
+use Rattle.std.proofs.lemmas.List.{append_cancel_left}
 use Rattle.std.specs.List.{AllByRecursion, concat}
 use Rattle.dl_head.specs.declared.dialect.Dialect.{Dialect}
 use Rattle.dl_head.specs.Header.{unit_len}
@@ -23,15 +21,14 @@ use Rattle.dl_run.specs.declared.around.UnitsAround.{UnitsAround}
 use Rattle.dl_run.specs.declared.fault.RunFault.{RunFault}
 use Rattle.dl_run.specs.declared.fault.RunFault.TheVariants as fault
 use Rattle.dl_run.specs.declared.section.SectionUnits.{SectionUnits}
-use Rattle.dl_run.specs.Around.{Block, IsBlock, bytes_of, units_around, faults_in, begun, broken, IsCutTo, faults_of}
+use Rattle.dl_run.specs.Around.{Block, IsBlock, bytes_of, faults_in, begun, broken, faults_of}
 use Rattle.dl_run.specs.Around.{damaged_units, visits_around, blocks_visits}
 use Rattle.dl_run.specs.GoingOn.{AroundFed, AroundIs, damage_in, IsTold, NextBegins, passed}
 use Rattle.dl_run.specs.Section.{Visit, HasBegun, NoUnitBegins, of_damage, visits, summary_of}
-use Rattle.dl_run.specs.UnitsRead.{Before, StopsWith, UnitsAre, Worked, end_of, visits_since}
+use Rattle.dl_run.specs.UnitsRead.{Before, StopsWith, Worked, end_of, visits_since}
 use Rattle.dl_run.specs.Visiting.{Settled, Story}
-use Rattle.dl_run.proofs.AroundLemmas.{PassedTo, passes, passes_over}
-use Rattle.dl_run.proofs.BlockLemmas.{all_with, bytes_with, faults_with, few_faults, past_of, units_with}
-use Rattle.dl_run.proofs.BlockLemmas.{visits_with, with_units}
+use Rattle.dl_run.proofs.AroundLemmas.{PassedTo, passes_over}
+use Rattle.dl_run.proofs.BlockLemmas.{all_with, bytes_with, few_faults}
 use Rattle.dl_run.proofs.Fronts.{none_is_some}
 use Rattle.dl_run.proofs.AroundSteps.{blocks, cut_more, damaged_is, past, read_is, told_is, units_are}
 

@@ -27,6 +27,7 @@ pub mod WorkLemmas
 pub mod ReadLemmas
 pub mod TellingLemmas
 pub mod TellingVisits
+pub mod AroundTelling
 pub mod FindingVisits
 pub mod FindingAnswers
 pub mod SeekerLemmas

@@ -63,7 +63,7 @@ module _ (dialect : Dialect) (offset : ℕ) (heard : Heard) where
       ∙ rows_heard (with_visit heard (of_header offset h)) rows
 
   -- a unit, once it is whole
-  unit_heard : (u : List ℕ) → heard.rows ≡ [] → IsUnit dialect u → heard_after heard (unit_visits dialect offset u)
+  pub unit_heard : (u : List ℕ) → heard.rows ≡ [] → IsUnit dialect u → heard_after heard (unit_visits dialect offset u)
       ≡ record {
         offset = offset;
         version = foreign_in dialect u;

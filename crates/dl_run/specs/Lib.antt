@@ -6,6 +6,7 @@ pub mod Section
 pub mod Visiting
 pub mod Around
 pub mod InMemory
+pub mod AroundInMemory
 pub mod SectionText
 pub mod Commands
 pub mod AroundCommands

@@ -3,9 +3,11 @@ use Rattle.std.specs.Prelude.{◌≡◌, ℕ, List, [], ◌∷◌, ◌++◌, Opt
 use Rattle.std.specs.Io.KnownBytes.{Appends}
 use Rattle.dl_head.specs.declared.dialect.Dialect.{Dialect}
 use Rattle.dl_rows.specs.declared.row.Row.{Row}
+use Rattle.dl_run.specs.declared.around.Survey.{Survey}
 use Rattle.dl_run.specs.declared.in_memory.Telling.{Telling}
 use Rattle.dl_run.specs.declared.in_memory.SectionRead.{SectionRead}
 use Rattle.dl_run.specs.declared.in_memory.SectionStop.{SectionStop}
+use Rattle.dl_run.specs.AroundInMemory.{ReadsAround}
 use Rattle.dl_run.specs.InMemory.{ReadsSection, UnitStory, UnitTold}
 use Rattle.dl_run.specs.Section.{Visit, of_header, of_version, of_row, of_open, of_end, of_damage}
 use Rattle.dl_run.specs.Visiting.{Story}
@@ -74,3 +76,9 @@ pub record PassesOn {U : Type 0} (story : UnitStory U) (dialect : Dialect) (s : 
     (result : Result SectionRead SectionStop) : Type 0 where
   pub sink : now.sink.ghost_name ≡ first.sink.ghost_name
   pub reads : ReadsSection story dialect s first.sink.now now.sink.now result
+
+-- `read_known_around`
+pub record PassesOnAround {U E : Type 0} (story : UnitStory U) (dialect : Dialect) (s : List ℕ) (first now : Telling U)
+    (result : Result Survey E) : Type 0 where
+  pub sink : now.sink.ghost_name ≡ first.sink.ghost_name
+  pub reads : ReadsAround story dialect s first.sink.now now.sink.now result

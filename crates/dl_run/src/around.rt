@@ -14,7 +14,7 @@ use crate::fault::RunFault;
 use crate::input::Input;
 use crate::options::{Options, SECTION_LIMIT};
 use crate::section::{SectionUnits, Visitor, front, work_through};
-use dl_head::FaultKind;
+use dl_head::{Dialect, FaultKind};
 use dl_print::Summary;
 use dl_rows::Flow;
 use std::alloc::Global;
@@ -71,7 +71,7 @@ pub trait AroundDamage<W: Write>: Visitor<W> {
 
 /// Where a reader is in a section whose damaged units it passes over.
 #[derive(Drop)]
-struct UnitsAround {
+pub(crate) struct UnitsAround {
     units: SectionUnits,
     /// How many bytes of the section were read. The current unit may begin after them, where one before it is damaged.
     read: u64,
@@ -79,8 +79,19 @@ struct UnitsAround {
 }
 
 impl UnitsAround {
+    /// Before the first unit of a section.
+    pub fn new(alloc: Global, dialect: Dialect) -> UnitsAround
+        ensures { BeginsAround dialect result }
+    {
+        UnitsAround {
+            units: SectionUnits::new(alloc, dialect),
+            read: 0,
+            damaged: None,
+        }
+    }
+
     /// Works through a piece of the section, up to where no unit is known to follow, or the visitor wants nothing more.
-    fn feed<W: Write, V: AroundDamage<W>>(
+    pub fn feed<W: Write, V: AroundDamage<W>>(
         &mut self,
         output: &mut W,
         visitor: &mut V,
@@ -148,7 +159,7 @@ impl UnitsAround {
     }
 
     /// What is counted.
-    fn survey(&self) -> Survey
+    pub fn survey(&self) -> Survey
         ensures { result ≡ surveyed self.now }
     {
         Survey {
@@ -197,11 +208,7 @@ pub fn read_units_around<R: Read, W: Write, V: AroundDamage<W>>(
         → RanAround V.story options.now.dialect options.now.limit bs (R.remaining input.new) visitor.old visitor.new
         (W.contents output.old) (W.contents output.new) result) }
 {
-    let mut units = UnitsAround {
-        units: SectionUnits::new(alloc, options.dialect),
-        read: 0,
-        damaged: None,
-    };
+    let mut units = UnitsAround::new(alloc, options.dialect);
     read_pieces_around(&mut units, input, output, options, visitor)
 }
 
@@ -243,7 +250,10 @@ fn read_pieces_around<R: Read, W: Write, V: AroundDamage<W>>(
 }
 
 /// What a section comes to whose bytes are over. The visitor is told of a unit that they cut off.
-fn finish<W: Write, V: AroundDamage<W>>(units: &mut UnitsAround, visitor: &mut V) -> Survey
+pub(crate) fn finish<W: Write, V: AroundDamage<W>>(
+    units: &mut UnitsAround,
+    visitor: &mut V,
+) -> Survey
     ensures { (limit : ℕ) (dialect : Dialect) (t : List ℕ) (first : V) (start now : Option (List ℕ)) (left : Option (List ℕ))
         → AllIsRead limit t left → length t < 2 ^ 63
         → AroundIs V.story dialect t first visitor.old start now units.old

@@ -80,11 +80,11 @@ impl SectionStop {
 
 /// Tells a sink the units of which a visitor is told. Prints nothing.
 #[derive(Drop)]
-struct Telling<'a, U> {
-    sink: &'a mut U,
+pub(crate) struct Telling<'a, U> {
+    pub sink: &'a mut U,
     /// The offset of the current unit, and its version, where units of this version aren't read.
-    offset: u64,
-    version: Option<u16>,
+    pub offset: u64,
+    pub version: Option<u16>,
 }
 
 impl<W: Write, U: UnitSink> Visitor<W> for Telling<'_, U> {

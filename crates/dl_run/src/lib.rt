@@ -3,6 +3,7 @@
 #![tactic(auto)]
 
 mod around;
+mod around_in_memory;
 mod checking;
 mod copying;
 mod dumping;
@@ -18,6 +19,7 @@ mod section;
 mod strings;
 
 pub use around::{AroundDamage, Damage, DamagedUnits, Survey, read_units_around};
+pub use around_in_memory::{UnitSinkAround, read_section_around};
 pub use checking::{check, check_around};
 pub use copying::{copy, copy_to_5};
 pub use dl_print::Summary;
