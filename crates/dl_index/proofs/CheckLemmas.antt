@@ -1,12 +1,15 @@
 -- What the pass over the columns and tables of an index finds.
-use Rattle.std.proofs.Common.{◌≡◌, ℕ, zero, suc, ◌+◌, ◌-◌, ◌*◌, ◌^◌, ◌<◌, ◌≤◌, Bool, true, false, nat_le, max, List, MatchBool, Decides, refl, sym, subst, arith, ⊎_elim}
+use Rattle.std.proofs.Common.{◌≡◌, ℕ, zero, suc, ◌+◌, ◌-◌, ◌*◌, ◌^◌, ◌<◌, ◌≤◌, Bool, true, false, nat_le, max, List, MatchBool, Decides, refl, sym, subst, ◌∙◌, arith, ⊎_elim}
 use Rattle.std.proofs.lemmas.Bool.{false≢true}
 use Rattle.std.proofs.lemmas.Bool.Decides.{nat_tests}
 use Rattle.std.proofs.lemmas.Bool.{cases_eq}
 use Rattle.dl_index.specs.Checked.{NamesTexts}
 use Rattle.dl_index.specs.Layout.{field, part, files_in, texts_in, count_in, start_in, base_in}
 use Rattle.dl_index.specs.LookUp.{Rise}
-use Rattle.dl_index.specs.IsIndex.{IsOrdered, TextsAreThere}
+use Rattle.dl_index.specs.IsIndex.{IsOrdered, TextsAreThere, IsIndex, HasFault}
+use Rattle.dl_index.specs.declared.fault.IndexFault.{IndexFault}
+use Rattle.dl_index.specs.declared.fault.IndexFault.TheVariants.{NotAnIndex, Version, Damaged}
+use Rattle.dl_index.specs.declared.fault.IndexPart.TheVariants.{Length, Place, Sum, Order, File, Text}
 
 -- one more start, which is above the last one
 pub rise_more : (start : ℕ → ℕ) (k : ℕ) → 0 < k → Rise start k → start (k - 1) < start k → Rise start (k + 1)
@@ -97,3 +100,16 @@ ordered_by b base n some first rise is below last =
           omega arith);
     })
     (λ ordered. (let top = ordered.top (count_in b - 1) (omega arith) in omega arith))
+
+-- no check fails of what is an index
+pub no_fault : (b : List ℕ) (fault : IndexFault) → IsIndex b → HasFault b fault → ⊥
+no_fault b NotAnIndex is has = has is.headed.whole.header.magic
+no_fault b (Version n) is has = has.3 (sym has.2 ∙ is.headed.whole.header.version)
+no_fault b (Damaged Length) is has =
+    let enough = is.headed.whole.header.len in
+    ⊎_elim (λ short. omega arith) (λ other. other.1 is.headed.whole.len) has.1
+no_fault b (Damaged Place) is has = has.1 is.headed.placed
+no_fault b (Damaged Sum) is has = has.2 (is.headed.sum, is.sum)
+no_fault b (Damaged Order) is has = has.2 is.ordered
+no_fault b (Damaged File) is has = has.3 is.files
+no_fault b (Damaged Text) is has = has.4 is.texts

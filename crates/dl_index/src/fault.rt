@@ -8,7 +8,8 @@ use thiserror::Error;
 pub enum IndexPart {
     /// There are fewer bytes than the header has, or not as many as it says.
     Length,
-    /// A width isn't 1, 2, 4 or 8, the build ID has more than 32 bytes, or the last part doesn't end where the bytes do.
+    /// A width isn't 1, 2, 4 or 8, the build ID has more than 32 bytes, or the last part doesn't end where the
+    /// bytes do.
     Place,
     /// The check value of the header, or that of what follows it, is another one.
     Sum,

@@ -57,7 +57,8 @@ impl<'a> IndexRef<'a> {
     ghost use Rattle.std.specs.Prelude.{◌≡◌, ℕ, ◌+◌, ◌-◌, ◌*◌, ◌%◌, ◌<◌, ◌≤◌, ◌^◌, ◌==◌, ◌⊎◌, List, [], ◌∷◌, take, length};
     ghost use Rattle.std.specs.Prelude.{Option, Some, None, IfSome, IfNone, IsSome, MatchOption};
     ghost use Rattle.std.specs.Option.{option_map};
-    ghost use Rattle.dl_index.specs.Layout.{flags_in, build_id_in, base_in, count_in, files_in, texts_in, start_in, is_stmt_in};
+    ghost use Rattle.dl_index.specs.Layout.{flags_in, build_id_in, base_in, count_in, files_in, texts_in, start_in};
+    ghost use Rattle.dl_index.specs.Layout.{is_stmt_in};
     ghost use Rattle.dl_index.specs.LookUp.{Rise, IsLastUpto};
     ghost use Rattle.dl_index.specs.Telling.{text_in, texts_of, told_in, find_in, IsStart};
     ghost use Rattle.dl_index.specs.IsIndex.{IsIndex};
@@ -92,8 +93,8 @@ impl<'a> IndexRef<'a> {
         self.parts.starts.len
     }
 
-    /// What is told of an address: nothing in a gap, and before the first stretch. Where the bytes were not checked, nothing
-    /// either where the number of a file or text, or the place of a text, lies outside.
+    /// What is told of an address: nothing in a gap, and before the first stretch. Where the bytes were not checked,
+    /// nothing either where the number of a file or text, or the place of a text, lies outside.
     #[inline(always)]
     pub fn find(&self, address: u64) -> Option<Found<'a>>
         ensures told { IsIndex (bytes_of self.now) → option_map told result ≡ find_in (bytes_of self.now) address }
@@ -119,8 +120,8 @@ impl<'a> IndexRef<'a> {
         Some(self.parts.starts.last_upto(offset))
     }
 
-    /// Stretch `k`, counted from 0; None where there is none, or its first address isn't below 2^64, which is so of no index
-    /// that was checked.
+    /// Stretch `k`, counted from 0; None where there is none, or its first address isn't below 2^64, which is so of
+    /// no index that was checked.
     pub fn stretch(&self, k: usize) -> Option<Listed<'a>>
         ensures start { IsStart (bytes_of self.now) k (option_map (λ s. s.start) result) }
         ensures end { IfSome result (λ s. IsStart (bytes_of self.now) (k + 1) s.end) }

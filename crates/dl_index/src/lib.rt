@@ -1,8 +1,9 @@
 //! An index: bytes, made once of a file's line table, that answer each address.
 //!
-//! [`open`] checks the bytes of an index, in one pass; [`open_unchecked`] leaves out the pass over what stands after the
-//! header. [`IndexRef::find`] answers an address, by as many looks at starts as their number has binary digits, and
-//! [`IndexRef::stretch`] lists. Whatever the bytes are, nothing outside of them is looked at. Nothing is allocated.
+//! [`open`] checks the bytes of an index, in one pass; [`open_unchecked`] leaves out the pass over what stands after
+//! the header. [`IndexRef::find`] answers an address, by at most as many looks at starts as their number has binary
+//! digits, and [`IndexRef::stretch`] lists. Whatever the bytes are, nothing outside of them is looked at. Nothing is
+//! allocated.
 #![tactic(auto)]
 
 mod checks;

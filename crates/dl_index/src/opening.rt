@@ -19,14 +19,15 @@ pub fn open(bytes: &[u8]) -> Result<IndexRef<'_>, IndexFault>
     ensures bytes { IfOk result (λ index. bytes_of index ≡ bytes.entry.now) }
     ensures ok { OnOk result (IsIndex bytes.entry.now) }
     ensures fault { IfErr result (HasFault bytes.entry.now) }
+    ensures opens { IsIndex bytes.entry.now → IsOk result }
 {
     let index = open_unchecked(bytes)?;
     check(&index)?;
     Ok(index)
 }
 
-/// The same without the pass over what stands after the header: of bytes that are damaged there the answers are wrong, or
-/// none, and nothing outside is looked at.
+/// The same without the pass over what stands after the header: of bytes that are damaged there the answers are
+/// wrong, or none, and nothing outside is looked at.
 pub fn open_unchecked(bytes: &[u8]) -> Result<IndexRef<'_>, IndexFault>
     ensures bytes { IfOk result (λ index. bytes_of index ≡ bytes.entry.now) }
     ensures fault { IfErr result (HasFault bytes.entry.now) }
