@@ -1,0 +1,5 @@
+pub mod CutStretches
+pub mod LastBegun
+pub mod RunLemmas
+pub mod RunStretches
+pub mod StretchLemmas
