@@ -1,7 +1,7 @@
 -- Cuts that become stretches.
-use Rattle.std.proofs.Common.{◌≡◌, ℕ, zero, suc, ◌+◌, ◌-◌, ◌<◌, ◌≤◌, ◌^◌, Bool, true, false, List, [], ◌∷◌, length}
-use Rattle.std.proofs.Common.{get_or, min, Option, Some, None, arith, refl, sym, ap, ◌∙◌, inl, inr}
-use Rattle.std.specs.Prelude.{if◌then◌else◌, nat_le, nat_lt}
+use Rattle.std.proofs.Common.{◌≡◌, ℕ, suc, ◌+◌, ◌-◌, ◌<◌, ◌≤◌, ◌^◌, Bool, true, false, List, [], ◌∷◌, length}
+use Rattle.std.proofs.Common.{get_or, min, Some, None, arith, refl, sym, ap, ◌∙◌, inl, inr}
+use Rattle.std.specs.Prelude.{if◌then◌else◌}
 use Rattle.std.specs.List.{find}
 use Rattle.std.specs.Option.{option_and_then}
 use Rattle.std.proofs.lemmas.Bool.{cases_lt, cases_eq, lt-ltb, le-ltb, le-leb, lt-leb}
@@ -12,7 +12,6 @@ use Rattle.dl_look.specs.Answer.{is_at_most}
 use Rattle.dl_look.specs.Cuts.{covers_span, first_from, no_cut, no_span, cut_place, AreCuts}
 use Rattle.dl_look.proofs.CutAnswers.{none_covers, cut_tells}
 use Rattle.dl_look.proofs.PlaceOrder.{below-is_at_most}
-use Rattle.dl_stretch.specs.declared.told.Told.{Told}
 use Rattle.dl_stretch.specs.declared.run.Run.{Run}
 use Rattle.dl_stretch.specs.declared.stretch.Stretch.{Stretch}
 use Rattle.dl_stretch.specs.Made.{AreMade, cut_start}

@@ -1,17 +1,17 @@
 -- What rows tell of addresses, as runs.
-use Rattle.std.proofs.Common.{◌≡◌, ℕ, zero, suc, ◌+◌, ◌-◌, ◌<◌, ◌≤◌, ◌^◌, Bool, true, false, List, [], ◌∷◌, ◌++◌, reverse}
-use Rattle.std.proofs.Common.{length, take, drop, get_or, set, Option, Some, None, arith, refl, sym, ap, ap₂, subst, ◌∙◌}
+use Rattle.std.proofs.Common.{◌≡◌, ℕ, suc, ◌+◌, ◌-◌, ◌<◌, ◌≤◌, ◌^◌, Bool, true, false, List, [], ◌∷◌, ◌++◌}
+use Rattle.std.proofs.Common.{length, take, get_or, set, Option, Some, None, arith, refl, sym, ap, ap₂, subst, ◌∙◌}
 use Rattle.std.proofs.Common.{inl, inr, ◌&&◌, ◌≢◌, eqb}
 use Rattle.std.specs.Bool.{beq}
 use Rattle.std.specs.Prelude.{if◌then◌else◌, nat_le, nat_lt}
-use Rattle.std.specs.List.{find, All}
-use Rattle.std.specs.Option.{option_map, option_or, option_eq}
+use Rattle.std.specs.List.{All}
+use Rattle.std.specs.Option.{option_map, option_eq}
 use Rattle.std.proofs.lemmas.Bool.{false≢true, cases_lt, le-leb, lt-leb, and_parts, and_from, eqb-true}
 use Rattle.std.proofs.lemmas.Bool.{eq-eqb}
 use Rattle.std.proofs.lemmas.Bool.Decides.{nat_tests}
 use Rattle.std.proofs.lemmas.List.{take_more, take_all, set_split, drop_all, length-take-le}
 use Rattle.std.proofs.lemmas.List.{get_or-take, get_or_default}
-use Rattle.std.proofs.lemmas.List.Elements.{All-push, All-take, All-get_or, All-weaker}
+use Rattle.std.proofs.lemmas.List.Elements.{All-push, All-take, All-weaker}
 use Rattle.dl_rows.specs.declared.row.Row.{Row}
 use Rattle.dl_look.specs.declared.place.Place.{Place}
 use Rattle.dl_look.specs.Answer.{place_of, is_at_most, is_below, last_place, last_upto}
@@ -19,10 +19,10 @@ use Rattle.dl_look.proofs.LastUpto.{last_upto-push}
 use Rattle.dl_look.proofs.MoreRows.{last_place-push}
 use Rattle.dl_stretch.specs.declared.told.Told.{Told}
 use Rattle.dl_stretch.specs.declared.run.Run.{Run}
-use Rattle.dl_stretch.specs.Stretches.{last_begun, Neighbours}
+use Rattle.dl_stretch.specs.Stretches.{last_begun}
 use Rattle.dl_stretch.specs.Runs.{place_at, first_address, told_of, as_given, run_told_at}
-use Rattle.dl_stretch.specs.RowRuns.{RunsRise, AreRunsOf}
-use Rattle.dl_stretch.proofs.LastBegun.{Rise, last_begun-push, rise_push, rise_front, front_below}
+use Rattle.dl_stretch.specs.RowRuns.{RunsRise, StartsRise, AreRunsOf}
+use Rattle.dl_stretch.proofs.LastBegun.{last_begun-push, rise_push, rise_front, front_below, rise_at}
 
 pub at_most_begun : (p : Place) (a : ℕ) → is_at_most p (place_at a) ≡ nat_le (first_address p) a
 at_most_begun p a = grind (arith, nat_tests)
@@ -35,6 +35,18 @@ rises_begun p q h = grind (arith, nat_tests)
 
 abbrev pub run_start : Run → ℕ
 run_start r = r.start
+
+pub rise_from : (runs : List Run) → StartsRise runs → RunsRise runs
+rise_from [] h = tt
+rise_from (x ∷ []) h = tt
+rise_from (x ∷ y ∷ runs) h = (
+  h 0 1 x (omega arith) (omega arith),
+  rise_from (y ∷ runs) (λ j k d less lt. h (suc j) (suc k) d (omega arith)
+      (omega arith)),
+)
+
+pub rise_to : (runs : List Run) → RunsRise runs → StartsRise runs
+rise_to runs r j k d less lt = rise_at run_start runs r j k d less lt
 
 abbrev pub row_told : Row → Told
 row_told r = told_of as_given r

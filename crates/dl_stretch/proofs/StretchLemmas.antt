@@ -1,5 +1,5 @@
 -- Stretches, one after the other.
-use Rattle.std.proofs.Common.{◌≡◌, ◌≢◌, ℕ, zero, suc, ◌-◌, ◌<◌, ◌≤◌, ◌^◌, Bool, true, false, ◌⊎◌, inl, inr, List, [], ◌∷◌, Option, Some}
+use Rattle.std.proofs.Common.{◌≡◌, ◌≢◌, ℕ, zero, suc, ◌-◌, ◌<◌, ◌≤◌, ◌^◌, Bool, true, false, inl, inr, List, [], ◌∷◌, Option, Some}
 use Rattle.std.proofs.Common.{◌++◌, length, get_or, None, arith, refl, sym, ap, ap₂, subst, ◌∙◌}
 use Rattle.std.specs.Prelude.{if◌then◌else◌, nat_le, nat_lt, is_none}
 use Rattle.std.specs.List.{All}
@@ -9,9 +9,9 @@ use Rattle.std.proofs.lemmas.List.Elements.{All-head, All-tail, All-nil, All-pus
 use Rattle.dl_stretch.specs.declared.told.Told.{Told}
 use Rattle.dl_stretch.specs.declared.stretch.Stretch.{Stretch}
 use Rattle.dl_stretch.specs.Stretches.{last_begun, Neighbours, told_at, Apart, is_gap_first, AreStretches}
-use Rattle.dl_stretch.specs.Laws.{AtAddresses, OneListOfStretches}
+use Rattle.dl_stretch.specs.Laws.{AtAddresses, OneListOfStretches, LastIsGap}
 use Rattle.dl_stretch.specs.Made.{last_told, AreMade}
-use Rattle.dl_stretch.proofs.LastBegun.{last_begun-push, Rise, if_begun, if_begun_here, if_begun_later, last_begun-cons, none_begun}
+use Rattle.dl_stretch.proofs.LastBegun.{last_begun-push, Rise, if_begun_here, last_begun-cons, none_begun}
 use Rattle.dl_stretch.proofs.LastBegun.{rest_rises}
 
 abbrev pub start_of : Stretch → ℕ
@@ -246,3 +246,16 @@ all_made f s made = record { right = made.right; apart = made.apart; first = mad
 
 pub made_same : (f : ℕ → Option Told) (s : List Stretch) (m n : ℕ) → AreMade f s m → m ≡ n → AreMade f s n
 made_same f s m n made e = subst (AreMade f s) e made
+
+last_told-push : (s : List Stretch) (x : Stretch) → last_told (s ++ x ∷ []) ≡ x.told
+last_told-push [] x = refl
+last_told-push (y ∷ []) x = refl
+last_told-push (y ∷ z ∷ s) x = last_told-push (z ∷ s) x
+
+pub last_gap : LastIsGap
+last_gap f s last are at none =
+    let a : ℕ = 0xffffffffffffffff in
+    sym (last_told-push s last)
+    ∙ sym (past_last (s ++ last ∷ []) a are.apart (All-weaker (λ (x : Stretch). x.start < 2 ^ 64)
+    (λ (x : Stretch). x.start ≤ a) (λ x h. omega (arith, h)) (s ++ last ∷ []) at))
+    ∙ are.right a (omega arith) ∙ none

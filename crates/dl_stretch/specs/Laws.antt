@@ -1,9 +1,15 @@
 -- What holds of stretches, whatever the rows.
-use Rattle.std.specs.Prelude.{◌≡◌, ℕ, ◌<◌, ◌^◌, List, Option}
+use Rattle.std.specs.Prelude.{◌≡◌, ℕ, ◌<◌, ◌^◌, Bool, List, [], ◌∷◌, ◌++◌, map, Option, None}
 use Rattle.std.specs.List.{All}
+use Rattle.std.specs.Option.{option_map}
+use Rattle.dl_rows.specs.declared.row.Row.{Row}
+use Rattle.dl_look.specs.LiveRows.{live_rows}
+use Rattle.dl_look.specs.Units.{answer_of_units}
 use Rattle.dl_stretch.specs.declared.told.Told.{Told}
 use Rattle.dl_stretch.specs.declared.stretch.Stretch.{Stretch}
+use Rattle.dl_stretch.specs.Runs.{place_at, told_of}
 use Rattle.dl_stretch.specs.Stretches.{AreStretches}
+use Rattle.dl_stretch.specs.ToldUnits.{UnitRows, told_of_units}
 
 -- all begin at an address
 abbrev pub AtAddresses : List Stretch → Type 0
@@ -14,3 +20,20 @@ abbrev pub OneListOfStretches : Type 0
 OneListOfStretches =
     (f : ℕ → Option Told) (s t : List Stretch) → AreStretches f s → AreStretches f t → AtAddresses s → AtAddresses t
     → s ≡ t
+
+-- the last one is a gap where nothing is told of the last address
+abbrev pub LastIsGap : Type 0
+LastIsGap =
+    (f : ℕ → Option Told) (stretches : List Stretch) (last : Stretch) → AreStretches f (stretches ++ last ∷ [])
+    → AtAddresses (stretches ++ last ∷ []) → f 0xffffffffffffffff ≡ None → last.told ≡ None
+
+-- the rows of a unit whose files have these numbers
+abbrev pub numbered : (ℕ → ℕ) → List Row → UnitRows
+numbered number rows = record { number = number; rows = rows }
+
+-- units tell what the row tells that answers among their live sequences
+abbrev pub TellsAnswers : Type 0
+TellsAnswers =
+    (live : ℕ → Bool) (number : ℕ → ℕ) (units : List (List Row)) (a : ℕ)
+    → told_of_units live (map (numbered number) units) a
+    ≡ option_map (told_of number) (answer_of_units (map (live_rows live) units) (place_at a))

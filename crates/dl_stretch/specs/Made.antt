@@ -1,5 +1,5 @@
 -- Stretches while they are made. No promise rests on this file.
-use Rattle.std.specs.Prelude.{◌≡◌, ℕ, ◌+◌, ◌<◌, ◌^◌, Bool, false, if◌then◌else◌, nat_lt, min, List, [], ◌∷◌, length, slice_index_or}
+use Rattle.std.specs.Prelude.{◌≡◌, ℕ, ◌<◌, ◌^◌, false, if◌then◌else◌, nat_lt, min, List, [], ◌∷◌, length, slice_index_or}
 use Rattle.std.specs.Prelude.{Option, None}
 use Rattle.std.specs.List.{All}
 use Rattle.dl_look.specs.declared.cuts.Cut.{Cut}

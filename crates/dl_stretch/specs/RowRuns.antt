@@ -1,5 +1,5 @@
 -- For what rows runs stand. No promise rests on how this is said.
-use Rattle.std.specs.Prelude.{◌≡◌, ℕ, ◌<◌, ◌≤◌, ◌^◌, List}
+use Rattle.std.specs.Prelude.{◌≡◌, ℕ, ◌<◌, ◌≤◌, ◌^◌, List, length, slice_index_or}
 use Rattle.std.specs.List.{All}
 use Rattle.std.specs.Option.{option_map}
 use Rattle.dl_rows.specs.declared.row.Row.{Row}
@@ -11,6 +11,11 @@ use Rattle.dl_stretch.specs.Runs.{place_at, first_address, told_of, as_given, ru
 -- each begins above the one before it
 abbrev pub RunsRise : List Run → Type 0
 RunsRise runs = Neighbours (λ (x : Run) (y : Run). x.start < y.start) runs
+
+-- the same, by the numbers of the runs
+abbrev pub StartsRise : List Run → Type 0
+StartsRise runs = (j k : ℕ) (d : Run) → j < k → k < length runs
+    → (slice_index_or runs j d).start < (slice_index_or runs k d).start
 
 -- the last run not above an address tells what the last row does whose place isn't above it
 pub record AreRunsOf (rows : List Row) (runs : List Run) : Type 0 where

@@ -1,6 +1,6 @@
 -- What rows tell of addresses. DWARF 5, section 6.2.2: address and op_index together are the place of a row, so a row
 -- with an op_index above 0 stands after its address, and is the answer from the next address on.
-use Rattle.std.specs.Prelude.{◌≡◌, ℕ, ◌+◌, ◌<◌, ◌==◌, if◌then◌else◌, List, Option}
+use Rattle.std.specs.Prelude.{ℕ, ◌+◌, ◌==◌, if◌then◌else◌, List, slice_index_or, Option}
 use Rattle.std.specs.Option.{option_map}
 use Rattle.dl_rows.specs.declared.row.Row.{Row}
 use Rattle.dl_look.specs.declared.place.Place.{Place}
@@ -29,6 +29,14 @@ told_of number r = record {
 -- the number of a file as its row gives it
 abbrev pub as_given : ℕ → ℕ
 as_given file = file
+
+-- the number of a file by a list; other where the list ends before it
+abbrev pub number_in : (numbers : List ℕ) → (other : ℕ) → ℕ → ℕ
+number_in numbers other file = slice_index_or numbers file other
+
+-- the same with another number of its file
+abbrev pub renumbered : (ℕ → ℕ) → Told → Told
+renumbered number t = record t { file = number t.file }
 
 -- what the last run tells that doesn't begin above a
 abbrev pub run_told_at : List Run → ℕ → Option Told

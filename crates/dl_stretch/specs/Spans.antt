@@ -1,4 +1,4 @@
--- What spans answer that have runs.
+-- What spans answer that have runs. No promise rests on how this is said.
 use Rattle.std.specs.Prelude.{◌≡◌, ℕ, ◌+◌, ◌<◌, ◌≤◌, ◌^◌, true, false, List, length, take, drop, Option, is_none}
 use Rattle.std.specs.List.{find, All}
 use Rattle.std.specs.Option.{option_and_then}
@@ -7,7 +7,7 @@ use Rattle.dl_look.specs.Cuts.{covers_span}
 use Rattle.dl_stretch.specs.declared.told.Told.{Told}
 use Rattle.dl_stretch.specs.declared.run.Run.{Run}
 use Rattle.dl_stretch.specs.Runs.{place_at, run_told_at}
-use Rattle.dl_stretch.specs.RowRuns.{RunsRise}
+use Rattle.dl_stretch.specs.RowRuns.{StartsRise}
 
 -- the runs of a span
 abbrev pub runs_in : List Run → Span → List Run
@@ -26,5 +26,5 @@ IsFull runs s = (a : ℕ) → a < 2 ^ 64 → covers_span (place_at a) s ≡ true
 -- the runs of each span are there, and rise
 pub record AreSound (runs : List Run) (spans : List Span) : Type 0 where
   pub within : All (λ (s : Span). s.start + s.len ≤ length runs) spans
-  pub rise : All (λ (s : Span). RunsRise (runs_in runs s)) spans
+  pub rise : All (λ (s : Span). StartsRise (runs_in runs s)) spans
   pub full : All (IsFull runs) spans

@@ -4,10 +4,15 @@
 pub mod laws;
 mod reach;
 mod run;
+mod run_spans;
+mod runs;
+mod sequence;
 mod stretch;
 mod stretching;
 mod told;
+mod unit_runs;
 
 pub use run::Run;
+pub use runs::Runs;
 pub use stretch::Stretch;
 pub use told::Told;

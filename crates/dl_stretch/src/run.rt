@@ -1,6 +1,6 @@
 //! What the rows of a sequence tell at addresses. Section 6.2.2.
 
-ghost use Rattle.std.specs.Prelude.{◌≡◌, ◌<◌, ◌^◌, ◌∷◌, ◌++◌, [], List, IfOk, MatchOption, true};
+ghost use Rattle.std.specs.Prelude.{◌≡◌, ◌<◌, ◌^◌, ◌∷◌, ◌++◌, [], List, IfOk, OnErr, MatchOption, true};
 ghost use Rattle.dl_rows.specs.declared.row.Row as each;
 ghost use Rattle.dl_look.specs.Answer.{is_at_most, last_place, place_of};
 ghost use Rattle.dl_stretch.specs.Runs.{first_address};
@@ -32,9 +32,10 @@ pub(crate) fn address_from(place: Place) -> Option<u64>
     }
 }
 
-/// One more row of a rising sequence.
+/// One more row of a rising sequence. Where a growth is refused nothing changes.
 pub(crate) fn push_row(runs: &mut Vec<Run>, row: &Row) -> Result<(), NoMemory>
-    ensures { IfOk result (λ _. (rows : List each.Row) → AreRunsOf rows runs.old.items
+    ensures same { OnErr result (runs.new.items ≡ runs.old.items) }
+    ensures pushed { IfOk result (λ _. (rows : List each.Row) → AreRunsOf rows runs.old.items
         → is_at_most (last_place rows) (place_of row.now) ≡ true
         → AreRunsOf (rows ++ row.now ∷ []) runs.new.items) }
 {

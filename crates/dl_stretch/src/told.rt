@@ -19,7 +19,7 @@ pub struct Told {
 
 impl Told {
     ghost use Rattle.std.specs.Prelude.{◌≡◌};
-    ghost use Rattle.dl_stretch.specs.Runs.{told_of, as_given};
+    ghost use Rattle.dl_stretch.specs.Runs.{told_of, as_given, renumbered, number_in};
 
     /// What a row tells, with the number of its file as the row gives it.
     #[inline(always)]
@@ -33,5 +33,17 @@ impl Told {
             discriminator: row.discriminator,
             is_stmt: row.is_stmt,
         }
+    }
+
+    /// The same, with the number that the list has for its file; `other` where the list ends before it.
+    pub(crate) fn renumbered(self, numbers: &[u64], other: u64) -> Told
+        ensures { result ≡ renumbered (number_in numbers.now other) self }
+    {
+        let file = if self.file < numbers.len() as u64 {
+            numbers[self.file as usize]
+        } else {
+            other
+        };
+        Told { file, ..self }
     }
 }

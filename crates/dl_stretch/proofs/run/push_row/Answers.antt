@@ -1,18 +1,17 @@
-use Rattle.std.proofs.Common.{◌≡◌, ◌+◌, ◌-◌, ◌<◌, length, set, get_or, arith, refl, sym, ap, ◌∙◌}
-use Rattle.std.proofs.lemmas.List.{get_or_default}
+use Rattle.std.proofs.Common.{◌≡◌, ◌-◌, ◌<◌, length, get_or, arith, sym, ap, ◌∙◌}
 use Rattle.dl_stretch.specs.declared.run.Run.{Run}
 use Rattle.dl_stretch.specs.Runs.{first_address}
 use Rattle.dl_stretch.proofs.RunLemmas.{row_past, row_pushed, row_replaced, row_kept, row_after, same_told}
 use Rattle.dl_stretch.proofs.run.push_row.Goals as goal
 use Rattle.dl_stretch.proofs.run.push_row.Goals.{then-count-gt0+else-last-start+else-eq, else-count-gt0}
 
-pub returns-in_default : goal.returns-in_default
-returns-in_default c = λ rows are after.
+pub returns-in_default-clause-pushed : goal.returns-in_default-clause-pushed
+returns-in_default-clause-pushed c = λ rows are after.
     row_past rows c.args.runs.now.items c.args.row.now are after (ap first_address (sym c.of.ensures)
     ∙ c.in_default.ensures)
 
-pub returns-then-last-start : goal.returns-then-last-start
-returns-then-last-start c = λ rows are after. (
+pub returns-then-last-start-clause-pushed : goal.returns-then-last-start-clause-pushed
+returns-then-last-start-clause-pushed c = λ rows are after. (
     let runs = c.args.runs.now.items in
     let d = c.index.result.now in
     let some : 0 < length runs = omega arith in
@@ -22,8 +21,8 @@ returns-then-last-start c = λ rows are after. (
     (ap (λ (r : Run). r.start) (ap (λ n. get_or runs (n - 1) d) (sym count) ∙ sym c.index.ensures)
     ∙ c.if-last-start.true)))
 
-pub returns-then-eq : goal.returns-then-eq
-returns-then-eq c = λ rows are after. (
+pub returns-then-eq-clause-pushed : goal.returns-then-eq-clause-pushed
+returns-then-eq-clause-pushed c = λ rows are after. (
     let runs = c.args.runs.now.items in
     let d = c.index.result.now in
     let some : 0 < length runs = omega arith in
@@ -33,8 +32,8 @@ returns-then-eq c = λ rows are after. (
     (ap (λ (r : Run). r.told) (ap (λ n. get_or runs (n - 1) d) (sym count) ∙ sym c.index.ensures)
     ∙ same_told c.index.result.now.told c.of-2.result (sym c.eq.ensures ∙ c.if-eq.true)))
 
-pub returns-in-Ok : goal.returns-in-Ok
-returns-in-Ok c = λ rows are after. (
+pub returns-in-Ok-clause-pushed : goal.returns-in-Ok-clause-pushed
+returns-in-Ok-clause-pushed c = λ rows are after. (
     let runs = c.args.runs.now.items in
     let pushed =
     row_pushed rows runs c.args.row.now are after c.in-Some.start c.of-2.result

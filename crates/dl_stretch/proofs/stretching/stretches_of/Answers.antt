@@ -1,12 +1,12 @@
-use Rattle.std.proofs.Common.{◌≡◌, ◌+◌, ◌<◌, ◌^◌, length, arith, sym, ap, ◌∙◌}
+use Rattle.std.proofs.Common.{◌≡◌, ◌+◌, ◌<◌, ◌^◌, length, get_or, arith, sym, ap, ◌∙◌}
 use Rattle.std.proofs.lemmas.List.{get_or_read}
 use Rattle.dl_look.specs.declared.cuts.Cut.{Cut}
 use Rattle.dl_look.specs.Cuts.{no_cut, no_span}
 use Rattle.dl_stretch.specs.Made.{cut_start}
-use Rattle.dl_stretch.specs.RowRuns.{RunsRise}
 use Rattle.dl_stretch.specs.Runs.{run_told_at}
-use Rattle.dl_stretch.specs.Spans.{answer_of}
+use Rattle.dl_stretch.specs.Spans.{answer_of, runs_in}
 use Rattle.dl_stretch.proofs.CutStretches.{none_first, none_between, within_spans, gap_between, told_between, start_past}
+use Rattle.dl_stretch.proofs.RunLemmas.{rise_from}
 use Rattle.dl_stretch.proofs.StretchLemmas.{all_made, made_same}
 use Rattle.dl_stretch.proofs.stretching.stretches_of.Goals as goal
 use Rattle.dl_stretch.proofs.stretching.stretches_of.Goals.{in-Some-sequence+in_ok-push_runs-in-Some-sequence}
@@ -36,9 +36,10 @@ push_runs-requires-clause-rise c =
     let cuts = c.in_ok-cuts.cuts.items in
     let lt : c.loop-i.i < length cuts = omega (arith, c.in_ok-cuts.cuts.ok.0) in
     let cut = get_or_read cuts c.loop-i.i c.index.result.now lt c.index.ensures no_cut in
-    rw c.runs_of.ensures (c.requires.rise c.in-Some-sequence.sequence no_span
+    rw c.runs_of.ensures (rise_from (runs_in c.args.runs.now (get_or c.args.spans.now c.in-Some-sequence.sequence no_span))
+    (c.requires.rise c.in-Some-sequence.sequence no_span
     (within_spans c.args.runs.now c.args.spans.now cuts c.in_ok-cuts.ensures c.loop-i.i c.in-Some-sequence.sequence lt
-    (ap (λ (c : Cut). c.sequence) (sym cut) ∙ c.in-Some-sequence.is)))
+    (ap (λ (c : Cut). c.sequence) (sym cut) ∙ c.in-Some-sequence.is))))
 
 pub loop-i-preserved : goal.loop-i-preserved
 loop-i-preserved c =
