@@ -23,7 +23,7 @@ map-or : {A B : Type 0} (f : A → B) (o p : Option A) → option_map f (option_
 map-or f None p = refl
 map-or f (Some x) p = refl
 
-run_told-cons : (x : Run) (xs : List Run) (a : ℕ) → run_told_at (x ∷ xs) a ≡ option_or (run_told_at xs a)
+pub run_told-cons : (x : Run) (xs : List Run) (a : ℕ) → run_told_at (x ∷ xs) a ≡ option_or (run_told_at xs a)
     (if nat_le x.start a then Some x.told else None)
 run_told-cons x xs a =
     ap (option_map (λ (r : Run). r.told)) (last_begun-cons run_start x xs a)

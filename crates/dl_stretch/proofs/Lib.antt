@@ -1,6 +1,7 @@
 pub mod AppendLemmas
 pub mod CutStretches
 pub mod LastBegun
+pub mod NameLemmas
 pub mod RunLemmas
 pub mod RunStretches
 pub mod SequenceLemmas

@@ -8,6 +8,9 @@ use Rattle.std.specs.List.{All}
 use Rattle.std.specs.Option.{option_map, option_eq}
 use Rattle.std.proofs.lemmas.Bool.{false≢true, cases_lt, le-leb, lt-leb, and_parts, and_from, eqb-true}
 use Rattle.std.proofs.lemmas.Bool.{eq-eqb}
+use Rattle.dl_look.specs.Answer.{first_place}
+use Rattle.std.specs.List.{find}
+use Rattle.std.proofs.Common.{reverse}
 use Rattle.std.proofs.lemmas.Bool.Decides.{nat_tests}
 use Rattle.std.proofs.lemmas.List.{take_more, take_all, set_split, drop_all, length-take-le}
 use Rattle.std.proofs.lemmas.List.{get_or-take, get_or_default}
@@ -21,14 +24,28 @@ use Rattle.dl_stretch.specs.declared.told.Told.{Told}
 use Rattle.dl_stretch.specs.declared.run.Run.{Run}
 use Rattle.dl_stretch.specs.Stretches.{last_begun}
 use Rattle.dl_stretch.specs.Runs.{place_at, first_address, told_of, as_given, run_told_at}
+use Rattle.dl_stretch.specs.Laws.{CoversAddresses, LastRowBegun}
 use Rattle.dl_stretch.specs.RowRuns.{RunsRise, StartsRise, AreRunsOf}
 use Rattle.dl_stretch.proofs.LastBegun.{last_begun-push, rise_push, rise_front, front_below, rise_at}
 
 pub at_most_begun : (p : Place) (a : ℕ) → is_at_most p (place_at a) ≡ nat_le (first_address p) a
 at_most_begun p a = grind (arith, nat_tests)
 
-pub below_begun : (p : Place) (a : ℕ) → is_below (place_at a) p ≡ nat_lt a (first_address p)
+below_begun : (p : Place) (a : ℕ) → is_below (place_at a) p ≡ nat_lt a (first_address p)
 below_begun p a = grind (arith, nat_tests)
+
+pub covers_addresses : CoversAddresses
+covers_addresses s a = ap₂ (λ b c. b && c) (at_most_begun (first_place s) a) (below_begun (last_place s) a)
+
+same_find : (p q : Row → Bool) (s : List Row) → ((r : Row) → p r ≡ q r) → find p s ≡ find q s
+same_find p q [] same = refl
+same_find p q (r ∷ s) same =
+    ap₂ (λ (b : Bool) (o : Option Row). if b then Some r else o) (same r) (same_find p q s same)
+
+pub last_row_begun : LastRowBegun
+last_row_begun s a =
+    same_find (λ r. is_at_most (place_of r) (place_at a)) (λ r. nat_le (first_address (place_of r)) a) (reverse s)
+    (λ r. at_most_begun (place_of r) a)
 
 pub rises_begun : (p q : Place) → is_at_most p q ≡ true → first_address p ≤ first_address q
 rises_begun p q h = grind (arith, nat_tests)

@@ -1,15 +1,27 @@
 -- What holds of stretches, whatever the rows.
-use Rattle.std.specs.Prelude.{◌≡◌, ℕ, ◌<◌, ◌^◌, Bool, List, [], ◌∷◌, ◌++◌, map, Option, None}
+use Rattle.std.specs.Prelude.{◌≡◌, ℕ, ◌<◌, ◌^◌, ◌&&◌, nat_le, nat_lt, Bool, List, [], ◌∷◌, ◌++◌, map, Option, None}
 use Rattle.std.specs.List.{All}
 use Rattle.std.specs.Option.{option_map}
 use Rattle.dl_rows.specs.declared.row.Row.{Row}
+use Rattle.dl_look.specs.Answer.{place_of, first_place, last_place, covers, last_upto}
 use Rattle.dl_look.specs.LiveRows.{live_rows}
 use Rattle.dl_look.specs.Units.{answer_of_units}
 use Rattle.dl_stretch.specs.declared.told.Told.{Told}
 use Rattle.dl_stretch.specs.declared.stretch.Stretch.{Stretch}
-use Rattle.dl_stretch.specs.Runs.{place_at, told_of}
-use Rattle.dl_stretch.specs.Stretches.{AreStretches}
+use Rattle.dl_stretch.specs.Runs.{place_at, first_address, told_of}
+use Rattle.dl_stretch.specs.Stretches.{last_begun, AreStretches}
 use Rattle.dl_stretch.specs.ToldUnits.{UnitRows, told_of_units}
+
+-- a sequence covers the addresses from the first one of its first row up to before that of its end row
+abbrev pub CoversAddresses : Type 0
+CoversAddresses =
+    (s : List Row) (a : ℕ) → covers (place_at a) s
+    ≡ (nat_le (first_address (first_place s)) a && nat_lt a (first_address (last_place s)))
+
+-- the last row whose place isn't above that of an address is the last one with its first address there or before it
+abbrev pub LastRowBegun : Type 0
+LastRowBegun =
+    (s : List Row) (a : ℕ) → last_upto (place_at a) s ≡ last_begun (λ (r : Row). first_address (place_of r)) s a
 
 -- all begin at an address
 abbrev pub AtAddresses : List Stretch → Type 0

@@ -62,7 +62,7 @@ impl RunSpans {
     }
 
     /// Adds others after these, of which each file gets its number from the list; `other` where the list ends before
-    /// it. Where a growth is refused nothing changes.
+    /// it.
     pub fn append(&mut self, others: &RunSpans, numbers: &[u64], other: u64) -> Result<(), NoMemory>
         ensures { IfOk result (λ _. (a : ℕ) → a < 2 ^ 64 → answer_of self.new.runs.items self.new.spans.items a
             ≡ option_or (answer_of self.old.runs.items self.old.spans.items a)

@@ -15,6 +15,8 @@ use std::alloc::Global;
 /// Each row of a unit goes to `row`. Once the unit is whole `end_unit` makes its rows count; if it turns out to be
 /// damaged, `forget_unit` leaves it out.
 ///
+/// Where a growth is refused a call answers `NoMemory`, and nothing more is promised of the runs.
+///
 /// Kept are 48 bytes for each run, at most one for each row of a live rising sequence, and 56 for each such sequence.
 /// A row takes constant time.
 #[derive(Drop)]
@@ -33,7 +35,7 @@ impl Runs {
     ghost use Rattle.dl_stretch.specs.Runs.{number_in};
     ghost use Rattle.dl_stretch.specs.Stands.{Stands};
     ghost use Rattle.dl_stretch.specs.Stretches.{AreStretches};
-    ghost use Rattle.dl_stretch.specs.ToldUnits.{UnitRows, told_of_units};
+    ghost use Rattle.dl_stretch.specs.ToldUnits.{UnitRows, told_of_units, NameFiles};
 
     /// No unit yet.
     pub fn new(alloc: Global) -> Runs
@@ -69,10 +71,11 @@ impl Runs {
         }
     }
 
-    /// The runs of the current unit so far, with the numbers of files that its rows give: the files that get a
-    /// number from `end_unit`.
+    /// The runs of the sequences of the current unit that have ended, with the numbers of files that its rows give.
+    /// They name all files of which `end_unit` is told the numbers.
     pub fn unit_runs(&self) -> &[Run]
-        ensures { result.now ≡ self.now.unit.spans.runs.items }
+        ensures { (live : ℕ → Bool) (units : List UnitRows) (rows : List each.Row) → Stands live self.now units rows
+            → NameFiles live rows result.now }
     {
         self.unit.spans().runs()
     }

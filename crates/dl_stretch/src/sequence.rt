@@ -49,7 +49,7 @@ impl SequenceRuns {
         }
     }
 
-    /// Takes the next row of the sequence. Where a growth is refused nothing changes.
+    /// Takes the next row of the sequence.
     pub fn row(&mut self, row: &Row) -> Result<(), NoMemory>
         ensures { IfOk result (λ _. (rows : List each.Row) → Keeps self.old.state self.old.runs.items rows
             → Keeps self.new.state self.new.runs.items (rows ++ row.now ∷ [])) }
