@@ -1,4 +1,4 @@
--- The bytes for which a check value that is being computed stands. No promise rests on how it is said.
+-- The bytes for which a check value that is being computed stands. No promise rests on how this is said.
 use Rattle.std.specs.Prelude.{◌≡◌, ℕ, List}
 use Rattle.dl_crc.specs.declared.crc.Crc32.{Crc32}
 use Rattle.dl_crc.specs.Crc32.{with_bytes, turned_over}

@@ -1,4 +1,4 @@
--- What loops over the files of an index find. No promise rests on how it is said.
+-- What loops over the files of an index find. No promise rests on how this is said.
 use Rattle.std.specs.Prelude.{ℕ, ◌+◌, ◌*◌, ◌<◌, ◌≤◌, List}
 use Rattle.dl_index.specs.Layout.{field}
 

@@ -1,4 +1,4 @@
--- What is kept of the header and the parts of an index. No promise rests on how it is said.
+-- What is kept of the header and the parts of an index. No promise rests on how this is said.
 use Rattle.std.specs.Prelude.{◌≡◌, ℕ, ◌+◌, ◌*◌, ◌/◌, List, [], ◌∷◌}
 use Rattle.dl_index.specs.Columns.{size_of}
 use Rattle.dl_index.specs.Layout.{base_in, count_in, files_in, texts_in, text_bytes_in, width_in}

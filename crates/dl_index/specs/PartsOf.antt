@@ -1,4 +1,4 @@
--- The parts of an index, as they are kept. No promise rests on how it is said.
+-- The parts of an index, as they are kept. No promise rests on how this is said.
 use Rattle.std.specs.Prelude.{◌≡◌, ℕ, ◌*◌, ◌≤◌, List, length}
 use Rattle.dl_index.specs.Columns.{size_of}
 use Rattle.dl_index.specs.Layout.{count_in, files_in, texts_in, text_bytes_in, width_in, part}
