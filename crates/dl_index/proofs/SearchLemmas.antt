@@ -1,12 +1,14 @@
 -- Starts, halved until one is left.
-use Rattle.std.proofs.Common.{◌≡◌, ℕ, zero, suc, ◌+◌, ◌-◌, ◌/◌, ◌^◌, ◌<◌, ◌≤◌, arith, nat_le, if◌then◌else◌, sym, ap, subst, ◌∙◌, ⊎_elim}
+use Rattle.std.proofs.Common.{◌≡◌, ℕ, zero, suc, ◌+◌, ◌-◌, ◌*◌, ◌/◌, ◌^◌, ◌<◌, ◌≤◌, arith, nat_le, if◌then◌else◌, sym, ap, subst, ◌∙◌, ⊎_elim}
 use Rattle.std.proofs.lemmas.Bool.Decides.{leb_tells}
 use Rattle.std.proofs.lemmas.Bool.{cases_eq}
 use Rattle.std.proofs.Math.Nat.{pow-suc, pow-zero}
 use Rattle.std.proofs.Common.{List}
 use Rattle.dl_index.specs.declared.width.Width.{Width}
+use Rattle.dl_index.specs.declared.four.Four.{Four}
 use Rattle.dl_index.specs.Columns.{number_at, size_of}
-use Rattle.dl_index.specs.LookUp.{Rise, IsLastUpto}
+use Rattle.dl_index.specs.FindFour.{FindFour}
+use Rattle.dl_index.specs.LookUp.{Rise, IsLastUpto, FindsLast}
 
 -- the last start that isn't above x is one of those from low on, `left` of them
 pub record Among (start now : ℕ → ℕ) (count count' x low left probes : ℕ) : Type 0 where
@@ -90,6 +92,41 @@ module _ (start now : ℕ → ℕ) (count count' x low left probes : ℕ) (a : A
       (goes_down (subst (λ m. x < m) value above.1))))
       (leb_tells n x)
 
+pub ends : {start now : ℕ → ℕ} {count count' x low left probes : ℕ} → Among start now count count' x low left probes
+    → left ≤ 1 → FindsLast start count x low
+ends {start} {x = x} {low = low} {left = left} a one =
+    let some = a.some in
+    let within = a.within in
+    let e : low + left ≡ suc low = omega arith in
+    record {
+      within = omega arith;
+      last = λ rise first.
+          record {
+            within = omega arith;
+            upto = a.upto first;
+            next = λ less. subst (λ i. x < start i) e (a.next rise (omega arith));
+          };
+    }
+
+-- four searches, after as many steps each
+pub record FourAmong (start now : ℕ → ℕ) (count count' : ℕ) (x : Four ℕ) (first second third fourth left probes : ℕ) : Type 0 where
+  pub steps : ℕ
+  pub probed : probes ≡ 4 * steps
+  pub of_first : Among start now count count' x.first first left steps
+  pub of_second : Among start now count count' x.second second left steps
+  pub of_third : Among start now count count' x.third third left steps
+  pub of_fourth : Among start now count count' x.fourth fourth left steps
+
+pub four_end : {start now : ℕ → ℕ} {count count' : ℕ} {x : Four ℕ} {first second third fourth left probes : ℕ}
+    → FourAmong start now count count' x first second third fourth left probes → left ≤ 1
+    → FindFour start count x (record { first = first; second = second; third = third; fourth = fourth })
+four_end f one = record {
+  first = ends f.of_first one;
+  second = ends f.of_second one;
+  third = ends f.of_third one;
+  fourth = ends f.of_fourth one;
+}
+
 -- a search in a column whose width is known is one in the column
 pub by_width : (bytes : List ℕ) (len x r : ℕ) (v w : Width) → v ≡ w
     → (Rise (number_at (size_of w) bytes) len → number_at (size_of w) bytes 0 ≤ x
@@ -101,3 +138,8 @@ by_width bytes len x r v w e found =
     (λ (u : Width). Rise (number_at (size_of u) bytes) len → number_at (size_of u) bytes 0 ≤ x
     → IsLastUpto (number_at (size_of u) bytes) len x r)
     (sym e) found
+
+pub four_by_width : (bytes : List ℕ) (len : ℕ) (x k : Four ℕ) (v w : Width) → v ≡ w
+    → FindFour (number_at (size_of w) bytes) len x k → FindFour (number_at (size_of v) bytes) len x k
+four_by_width bytes len x k v w e found =
+    subst (λ (u : Width). FindFour (number_at (size_of u) bytes) len x k) (sym e) found

@@ -1,6 +1,6 @@
 //! The header of an index.
 
-ghost use Rattle.std.specs.Prelude.{◌≡◌, ◌+◌, ◌≤◌, length, true, MatchOption, IfSome};
+ghost use Rattle.std.specs.Prelude.{◌≡◌, ◌+◌, ◌≤◌, length, true, MatchOption};
 ghost use Rattle.std.specs.List.{list_all};
 ghost use Rattle.dl_num.specs.Fixed.{is_number_size};
 ghost use Rattle.dl_index.specs.Layout.{field};

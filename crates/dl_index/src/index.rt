@@ -5,6 +5,7 @@ ghost use Rattle.dl_index.specs.Layout.{base_in};
 ghost use Rattle.dl_index.specs.IsIndex.{IsHeaded};
 ghost use Rattle.dl_index.specs.PartsOf.{ArePartsOf};
 
+use crate::four::Four;
 use crate::header::{long_at, number_at};
 use crate::parts::Parts;
 
@@ -54,12 +55,14 @@ pub struct IndexRef<'a> {
 }
 
 impl<'a> IndexRef<'a> {
-    ghost use Rattle.std.specs.Prelude.{◌≡◌, ℕ, ◌+◌, ◌-◌, ◌*◌, ◌%◌, ◌<◌, ◌≤◌, ◌^◌, ◌==◌, ◌⊎◌, List, [], ◌∷◌, take, length};
-    ghost use Rattle.std.specs.Prelude.{Option, Some, None, IfSome, IfNone, IsSome, MatchOption};
+    ghost use Rattle.std.specs.Prelude.{◌≡◌, ℕ, ◌+◌, ◌-◌, ◌*◌, ◌%◌, ◌<◌, ◌≤◌, ◌^◌, ◌==◌, ◌⊎◌, length};
+    ghost use Rattle.std.specs.Prelude.{Option, Some, None, IfSome, IfNone, IsSome, slice_index, slice_index_or};
+    ghost use Rattle.dl_index.specs.declared.index.Found.{Found};
     ghost use Rattle.std.specs.Option.{option_map};
-    ghost use Rattle.dl_index.specs.Layout.{flags_in, build_id_in, base_in, count_in, files_in, texts_in, start_in};
+    ghost use Rattle.dl_index.specs.Layout.{flags_in, build_id_in, base_in, count_in, files_in, start_in};
     ghost use Rattle.dl_index.specs.Layout.{is_stmt_in};
-    ghost use Rattle.dl_index.specs.LookUp.{Rise, IsLastUpto};
+    ghost use Rattle.dl_index.specs.LookUp.{Rise, IsLastUpto, FindsLast};
+    ghost use Rattle.dl_index.specs.Finds.{Finds};
     ghost use Rattle.dl_index.specs.Telling.{text_in, texts_of, told_in, find_in, IsStart};
     ghost use Rattle.dl_index.specs.IsIndex.{IsIndex};
     ghost use Rattle.dl_index.specs.Shown.{bytes_of, text_told, texts_told, told};
@@ -102,6 +105,75 @@ impl<'a> IndexRef<'a> {
             × (told_in (bytes_of self.now) k ≡ Some (told found))) }
     {
         let k = self.last_upto(address)?;
+        self.found(k)
+    }
+
+    /// What is told of each address, as by [`IndexRef::find`], four of them side by side, each at its place in `found`,
+    /// which is as long.
+    pub fn find_many(&self, addresses: &[u64], found: &mut [Option<Found<'a>>])
+        requires { length addresses.now ≡ length found.old }
+        ensures { (i : ℕ) → i < length addresses.now → (d : Option Found)
+            → Finds (bytes_of self.now) (slice_index addresses.now i) (slice_index_or found.new i d) }
+    {
+        let mut i = 0;
+        while addresses.len() - i >= 4 {
+            let four = self.find_four(Four {
+                first: addresses[i],
+                second: addresses[i + 1],
+                third: addresses[i + 2],
+                fourth: addresses[i + 3],
+            });
+            found[i] = four.first;
+            found[i + 1] = four.second;
+            found[i + 2] = four.third;
+            found[i + 3] = four.fourth;
+            i += 4;
+        }
+        for k in i..addresses.len() {
+            found[k] = self.find(addresses[k]);
+        }
+    }
+
+    /// What is told of four addresses.
+    #[inline(always)]
+    fn find_four(&self, addresses: Four<u64>) -> Four<Option<Found<'a>>>
+        ensures first { Finds (bytes_of self.now) addresses.first result.first }
+        ensures second { Finds (bytes_of self.now) addresses.second result.second }
+        ensures third { Finds (bytes_of self.now) addresses.third result.third }
+        ensures fourth { Finds (bytes_of self.now) addresses.fourth result.fourth }
+    {
+        if self.parts.starts.len == 0 {
+            return Four {
+                first: None,
+                second: None,
+                third: None,
+                fourth: None,
+            };
+        }
+        let base = self.base;
+        let k = self.parts.starts.last_upto_four(Four {
+            first: addresses.first.saturating_sub(base),
+            second: addresses.second.saturating_sub(base),
+            third: addresses.third.saturating_sub(base),
+            fourth: addresses.fourth.saturating_sub(base),
+        });
+        Four {
+            first: self.found_from(addresses.first, k.first),
+            second: self.found_from(addresses.second, k.second),
+            third: self.found_from(addresses.third, k.third),
+            fourth: self.found_from(addresses.fourth, k.fourth),
+        }
+    }
+
+    /// What is told of an address, where `k` is the last stretch that doesn't begin above it; nothing below the base.
+    #[inline(always)]
+    fn found_from(&self, address: u64, k: usize) -> Option<Found<'a>>
+        requires { let b = bytes_of self.now in FindsLast (start_in b) (count_in b) (address - base_in b) k }
+        ensures { Finds (bytes_of self.now) address result }
+    {
+        if address < self.base {
+            return None;
+        }
         self.found(k)
     }
 

@@ -9,6 +9,7 @@
 mod checks;
 mod column;
 mod fault;
+mod four;
 mod header;
 mod index;
 mod numbers;
@@ -18,7 +19,8 @@ mod search;
 mod width;
 
 pub use fault::{IndexFault, IndexPart};
+pub use four::Four;
 pub use index::{Found, IndexRef, Listed, PathTexts};
 pub use opening::{open, open_unchecked};
-pub use search::{Starts, last_upto};
+pub use search::{Starts, last_upto, last_upto_four};
 pub use width::Width;

@@ -1,10 +1,11 @@
 //! Columns of numbers, read in place.
 
-ghost use Rattle.std.specs.Prelude.{◌≡◌, ◌≤◌, ◌*◌, ◌+◌, length};
+ghost use Rattle.std.specs.Prelude.{◌≡◌, ◌≤◌, ◌*◌, length};
 ghost use Rattle.dl_index.specs.Columns.{number_at, size_of};
 
 use crate::column::{Column, number_at};
-use crate::search::last_upto;
+use crate::four::Four;
+use crate::search::{last_upto, last_upto_four};
 use crate::width::Width;
 
 /// A column of numbers.
@@ -17,9 +18,10 @@ pub struct Numbers<'a> {
 }
 
 impl Numbers<'_> {
-    ghost use Rattle.std.specs.Prelude.{◌≡◌, ℕ, ◌<◌, ◌≤◌};
+    ghost use Rattle.std.specs.Prelude.{◌≡◌, ◌<◌, ◌≤◌};
     ghost use Rattle.dl_index.specs.Entries.{entry};
     ghost use Rattle.dl_index.specs.LookUp.{Rise, IsLastUpto};
+    ghost use Rattle.dl_index.specs.FindFour.{FindFour};
 
     /// Number `k`.
     #[inline(always)]
@@ -70,6 +72,55 @@ impl Numbers<'_> {
                 x,
             ),
             Width::Eight => last_upto(
+                &mut Column {
+                    bytes,
+                    width: Width::Eight,
+                    len,
+                    probes,
+                },
+                x,
+            ),
+        }
+    }
+
+    /// The same for four numbers, side by side.
+    #[inline(always)]
+    pub fn last_upto_four(&self, x: Four<u64>) -> Four<usize>
+        requires { 0 < self.now.len }
+        ensures { FindFour (entry self.now) self.now.len x result }
+    {
+        let bytes = self.bytes;
+        let len = self.len;
+        let probes = 0;
+        match self.width {
+            Width::One => last_upto_four(
+                &mut Column {
+                    bytes,
+                    width: Width::One,
+                    len,
+                    probes,
+                },
+                x,
+            ),
+            Width::Two => last_upto_four(
+                &mut Column {
+                    bytes,
+                    width: Width::Two,
+                    len,
+                    probes,
+                },
+                x,
+            ),
+            Width::Four => last_upto_four(
+                &mut Column {
+                    bytes,
+                    width: Width::Four,
+                    len,
+                    probes,
+                },
+                x,
+            ),
+            Width::Eight => last_upto_four(
                 &mut Column {
                     bytes,
                     width: Width::Eight,

@@ -24,8 +24,11 @@ pub trait Starts {
         ensures counted { probes self.new ≡ probes self.old + 1 };
 }
 
-ghost use Rattle.std.specs.Prelude.{◌≡◌, ℕ, ◌+◌, ◌<◌, ◌≤◌, ◌^◌, if◌then◌else◌};
+ghost use Rattle.std.specs.Prelude.{◌≡◌, ℕ, ◌+◌, ◌*◌, ◌<◌, ◌≤◌, ◌^◌, if◌then◌else◌};
 ghost use Rattle.dl_index.specs.LookUp.{Rise, IsLastUpto};
+ghost use Rattle.dl_index.specs.FindFour.{FindFour};
+
+use crate::four::Four;
 
 /// The number where it is asked for, else 0, without a branch.
 #[inline(always)]
@@ -55,4 +58,35 @@ pub fn last_upto<T: Starts>(starts: &mut T, x: u64) -> usize
         left -= half;
     }
     low
+}
+
+/// The same as [`last_upto`] for four numbers, side by side: none of them waits for what another one looks at.
+#[inline(always)]
+pub fn last_upto_four<T: Starts>(starts: &mut T, x: Four<u64>) -> Four<usize>
+    requires some { 0 < T.count starts.old }
+    requires countable { T.probes starts.old ≡ 0 }
+    ensures last { FindFour (T.start starts.old) (T.count starts.old) x result }
+    ensures few { (digits : ℕ) → T.count starts.old ≤ 2 ^ digits → T.probes starts.new ≤ 4 * digits }
+    ensures same { T.start starts.new ≡ T.start starts.old }
+    ensures count { T.count starts.new ≡ T.count starts.old }
+{
+    let mut first = 0;
+    let mut second = 0;
+    let mut third = 0;
+    let mut fourth = 0;
+    let mut left = starts.len();
+    while left > 1 {
+        let half = left / 2;
+        first += where_true(starts.at(first + half) <= x.first, half);
+        second += where_true(starts.at(second + half) <= x.second, half);
+        third += where_true(starts.at(third + half) <= x.third, half);
+        fourth += where_true(starts.at(fourth + half) <= x.fourth, half);
+        left -= half;
+    }
+    Four {
+        first,
+        second,
+        third,
+        fourth,
+    }
 }

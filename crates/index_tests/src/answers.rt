@@ -1,6 +1,6 @@
 //! What an index tells of addresses, and its list of stretches.
 
-use crate::sample::{INDEX, ROWS, Row};
+use crate::sample::{ADDRESSES, INDEX, ROWS, Row};
 use dl_index::{Found, IndexRef, open, open_unchecked};
 
 /// Whether a text is the wanted one; an empty one isn't there.
@@ -27,11 +27,27 @@ fn is_told(found: &Found<'_>, row: &Row) -> bool {
 /// Whether each row's address has what the row says.
 fn all_told(index: &IndexRef<'_>, rows: &[Row]) -> bool {
     for row in rows {
-        let is_right = match index.find(row.address) {
-            Some(found) => is_told(&found, row),
-            None => row.line == 0,
-        };
-        if !is_right {
+        if !is_row(index.find(row.address), row) {
+            return false;
+        }
+    }
+    true
+}
+
+/// Whether what is told of an address is what a row says; None where nothing is told.
+fn is_row(found: Option<Found<'_>>, row: &Row) -> bool {
+    match found {
+        Some(found) => is_told(&found, row),
+        None => row.line == 0,
+    }
+}
+
+/// Whether each row's address has what the row says, where all are asked at once.
+fn all_told_at_once(index: &IndexRef<'_>, rows: &[Row]) -> bool {
+    let mut found = [None; 19];
+    index.find_many(&ADDRESSES, &mut found);
+    for i in 0..rows.len().min(19) {
+        if !is_row(found[i], &rows[i]) {
             return false;
         }
     }
@@ -73,6 +89,15 @@ fn addresses_are_answered(rt: HostRuntime) {
 fn addresses_are_answered_unchecked(rt: HostRuntime) {
     let is_right = match open_unchecked(&INDEX) {
         Ok(index) => all_told(&index, ROWS),
+        Err(_) => false,
+    };
+    assert!(rt; is_right);
+}
+
+#[test]
+fn addresses_are_answered_at_once(rt: HostRuntime) {
+    let is_right = match open(&INDEX) {
+        Ok(index) => all_told_at_once(&index, ROWS),
         Err(_) => false,
     };
     assert!(rt; is_right);
