@@ -1,5 +1,5 @@
 -- What is checked of an index, in this order, and which check fails first.
-use Rattle.std.specs.Prelude.{◌≡◌, ℕ, ◌+◌, ◌-◌, ◌<◌, ◌≤◌, ◌^◌, ◌≢◌, ◌⊎◌, true, List, [], ◌∷◌, ◌++◌, take, drop, length, map, sum, codes}
+use Rattle.std.specs.Prelude.{◌≡◌, ℕ, ◌+◌, ◌<◌, ◌≤◌, ◌^◌, ◌≢◌, ◌⊎◌, true, List, [], ◌∷◌, ◌++◌, take, drop, length, map, sum, codes}
 use Rattle.std.specs.List.{list_all}
 use Rattle.dl_num.specs.Fixed.{is_number_size}
 use Rattle.dl_crc.specs.Crc32.{crc_32}
@@ -55,11 +55,6 @@ pub record IsOrdered (b : List ℕ) : Type 0 where
 abbrev pub FilesAreThere : List ℕ → Type 0
 FilesAreThere b = (k : ℕ) → k < count_in b → file_in b k ≤ files_in b
 
--- and the last one has none
-pub record HasFiles (b : List ℕ) : Type 0 where
-  pub within : FilesAreThere b
-  pub gap : 0 < count_in b → file_in b (count_in b - 1) ≡ 0
-
 -- each file has texts that there are, or none
 abbrev pub TextsAreThere : List ℕ → Type 0
 TextsAreThere b = (f i : ℕ) → f < files_in b → i < 3 → text_number_in b f i ≤ texts_in b
@@ -83,7 +78,7 @@ pub record IsIndex (b : List ℕ) : Type 0 where
   pub headed : IsHeaded b
   pub sum : BodyAgrees b
   pub ordered : IsOrdered b
-  pub files : HasFiles b
+  pub files : FilesAreThere b
   pub texts : HasTexts b
 
 -- this part is the first one that isn't as it has to be
@@ -92,8 +87,8 @@ IsDamaged b Length = HasMagic b × ((length b < 128) ⊎ (HasHeader b × (length
 IsDamaged b Place = IsWhole b × ¬ (IsPlaced b)
 IsDamaged b Sum = IsWhole b × IsPlaced b × ¬ (HeaderAgrees b × BodyAgrees b)
 IsDamaged b Order = IsHeaded b × BodyAgrees b × ¬ (IsOrdered b)
-IsDamaged b File = IsHeaded b × BodyAgrees b × IsOrdered b × ¬ (HasFiles b)
-IsDamaged b Text = IsHeaded b × BodyAgrees b × IsOrdered b × HasFiles b × ¬ (HasTexts b)
+IsDamaged b File = IsHeaded b × BodyAgrees b × IsOrdered b × ¬ (FilesAreThere b)
+IsDamaged b Text = IsHeaded b × BodyAgrees b × IsOrdered b × FilesAreThere b × ¬ (HasTexts b)
 
 -- the first check that fails
 abbrev pub HasFault : List ℕ → IndexFault → Type 0

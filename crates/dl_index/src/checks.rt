@@ -4,7 +4,7 @@ ghost use Rattle.std.specs.Prelude.{◌+◌, ◌*◌, ◌<◌, ◌≤◌, length
 ghost use Rattle.dl_index.specs.Layout.{count_in, start_in};
 ghost use Rattle.dl_index.specs.Checked.{NamesTexts};
 ghost use Rattle.dl_index.specs.LookUp.{Rise};
-ghost use Rattle.dl_index.specs.IsIndex.{BodyAgrees, IsOrdered, HasFiles, HasTexts, IsIndex, HasFault};
+ghost use Rattle.dl_index.specs.IsIndex.{BodyAgrees, IsOrdered, HasTexts, IsIndex, HasFault};
 ghost use Rattle.dl_index.specs.IsIndex.{FilesAreThere, TextsAreThere, TextsLieWithin};
 ghost use Rattle.dl_index.specs.Shown.{bytes_of};
 
@@ -24,7 +24,7 @@ pub fn check(index: &IndexRef<'_>) -> Result<(), IndexFault>
     if !is_ordered(index) {
         return Err(IndexFault::Damaged(IndexPart::Order));
     }
-    if !has_files(index) {
+    if !files_are_there(index) {
         return Err(IndexFault::Damaged(IndexPart::File));
     }
     if !has_texts(index) {
@@ -70,17 +70,6 @@ fn starts_rise(index: &IndexRef<'_>) -> bool
         last = start;
     }
     true
-}
-
-/// Whether each stretch has a file that there is, or none, and the last one none.
-fn has_files(index: &IndexRef<'_>) -> bool
-    ensures { MatchBool result (HasFiles (bytes_of index.now)) (¬ (HasFiles (bytes_of index.now))) }
-{
-    let files = &index.parts.files;
-    if files.len == 0 {
-        return true;
-    }
-    files_are_there(index) && files.get(files.len - 1) == 0
 }
 
 /// Whether each stretch has a file that there is, or none.

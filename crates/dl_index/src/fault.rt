@@ -15,7 +15,7 @@ pub enum IndexPart {
     Sum,
     /// The first start isn't 0, a start isn't above the one before it, or an address is 2^64 or above.
     Order,
-    /// A stretch names a file that there isn't, or the last one isn't a gap.
+    /// A stretch names a file that there isn't.
     File,
     /// A file names a text that there isn't, or a text lies outside the bytes of texts.
     Text,

@@ -37,7 +37,7 @@ pub struct Found<'a> {
 pub struct Listed<'a> {
     /// Its first address.
     pub start: u64,
-    /// The first address of the next one; None for the last one, which is a gap.
+    /// The first address of the next one; None for the last one, up to the last address.
     pub end: Option<u64>,
     /// What is told; None in a gap.
     pub found: Option<Found<'a>>,

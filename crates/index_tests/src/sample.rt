@@ -400,14 +400,6 @@ pub const CHANGES: &[Change] = &[
         header_sum: 0x6476_0b0b,
         fault: IndexFault::Damaged(IndexPart::File),
     },
-    // the last stretch isn't a gap
-    Change {
-        place: 162,
-        value: 1,
-        body_sum: 0x4b39_3ccd,
-        header_sum: 0x2d18_2839,
-        fault: IndexFault::Damaged(IndexPart::File),
-    },
     // text 6 of five
     Change {
         place: 272,
