@@ -1,0 +1,2 @@
+pub mod CrcLemmas
+pub mod TableLemmas
