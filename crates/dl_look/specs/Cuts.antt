@@ -1,4 +1,4 @@
--- From which places on which sequence of an index is the first rising one that covers. No promise rests on this file.
+-- From which places on which sequence is the first rising one that covers, of sequences of which spans are kept.
 use Rattle.std.specs.Prelude.{◌≡◌, ℕ, suc, ◌*◌, ◌<◌, ◌≤◌, Bool, true, false, ◌&&◌, if◌then◌else◌, List, [], ◌∷◌, length}
 use Rattle.std.specs.Prelude.{slice_index_or, Option, Some, None}
 use Rattle.dl_look.specs.declared.place.Place.{Place}

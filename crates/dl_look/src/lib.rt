@@ -20,6 +20,7 @@ mod trail;
 
 pub use asked::Asked;
 pub use code_ranges::{AddressRange, CodeRanges};
+pub use cuts::{Cut, cuts_of};
 pub use finder::Finder;
 pub use finders::Finders;
 pub use index::{Index, NoMemory, Probe};

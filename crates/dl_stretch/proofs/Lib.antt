@@ -1,0 +1,10 @@
+pub mod AppendLemmas
+pub mod CutStretches
+pub mod LastBegun
+pub mod NameLemmas
+pub mod RunLemmas
+pub mod RunStretches
+pub mod SequenceLemmas
+pub mod SpanAnswers
+pub mod StretchLemmas
+pub mod UnitLemmas

@@ -1,0 +1,5 @@
+use Rattle.dl_stretch.proofs.StretchLemmas.{last_gap}
+use Rattle.dl_stretch.proofs.laws.last_is_gap.Goals as goal
+
+pub returns : goal.returns
+returns c = last_gap

@@ -1,0 +1,13 @@
+-- What the public contracts say rests on these, in reading order.
+pub mod Stretches
+pub mod Runs
+pub mod ToldUnits
+pub mod Laws
+-- For what a value stands; public contracts name this, and don't rest on how it is said.
+pub mod RowRuns
+pub mod Spans
+pub mod Sequences
+pub mod Stands
+-- Of contracts inside the crate, and of proofs; no public contract reaches these.
+pub mod Made
+pub mod Appended

@@ -1,0 +1,26 @@
+//! Laws of the definitions of stretches, each the contract of a function that does nothing.
+
+ghost use Rattle.dl_stretch.specs.Laws.{OneListOfStretches, LastIsGap, TellsAnswers};
+ghost use Rattle.dl_stretch.specs.Laws.{CoversAddresses, LastRowBegun};
+
+/// There is at most one list of stretches of a function from addresses to answers.
+pub fn one_list_of_stretches()
+    ensures { OneListOfStretches }
+{}
+
+/// Where nothing is told of the last address, the last stretch is a gap.
+pub fn last_is_gap()
+    ensures { LastIsGap }
+{}
+
+/// Units tell of an address what the row tells that answers for it among their live sequences.
+pub fn units_tell_answers()
+    ensures { TellsAnswers }
+{}
+
+/// Of the places of addresses, those that a sequence covers, and the last row that isn't above one, are told by the
+/// first address of each row.
+pub fn rows_answer_addresses()
+    ensures covered { CoversAddresses }
+    ensures last { LastRowBegun }
+{}

@@ -1,0 +1,18 @@
+//! Stretches: runs of addresses with the same answer, as long as can be, for an index of a line table. Section 6.2.2.
+#![tactic(auto)]
+
+pub mod laws;
+mod reach;
+mod run;
+mod run_spans;
+mod runs;
+mod sequence;
+mod stretch;
+mod stretching;
+mod told;
+mod unit_runs;
+
+pub use run::Run;
+pub use runs::Runs;
+pub use stretch::Stretch;
+pub use told::Told;

@@ -1,0 +1,64 @@
+//! What the rows of a sequence tell at addresses. Section 6.2.2.
+
+ghost use Rattle.std.specs.Prelude.{◌≡◌, ◌<◌, ◌^◌, ◌∷◌, ◌++◌, [], List, IfOk, OnErr, MatchOption, true};
+ghost use Rattle.dl_rows.specs.declared.row.Row as each;
+ghost use Rattle.dl_look.specs.Answer.{is_at_most, last_place, place_of};
+ghost use Rattle.dl_stretch.specs.Runs.{first_address};
+ghost use Rattle.dl_stretch.specs.RowRuns.{AreRunsOf};
+
+use crate::told::Told;
+use dl_look::{NoMemory, Place};
+use dl_rows::Row;
+
+/// Addresses of a sequence that tell the same, from `start` on, up to the start of the next run or to the
+/// sequence's end.
+#[derive(Debug, Clone, Copy, PartialEq, Eq)]
+pub struct Run {
+    /// Its first address.
+    pub start: u64,
+    /// What is told of each of its addresses.
+    pub told: Told,
+}
+
+/// The first address whose place isn't below this one; None where there is none.
+pub(crate) fn address_from(place: Place) -> Option<u64>
+    ensures { MatchOption result (first_address place ≡ 2 ^ 64)
+        (λ a. (a ≡ first_address place) × (first_address place < 2 ^ 64)) }
+{
+    if place.op_index == 0 {
+        Some(place.address)
+    } else {
+        place.address.checked_add(1)
+    }
+}
+
+/// One more row of a rising sequence. Where a growth is refused nothing changes.
+pub(crate) fn push_row(runs: &mut Vec<Run>, row: &Row) -> Result<(), NoMemory>
+    ensures same { OnErr result (runs.new.items ≡ runs.old.items) }
+    ensures pushed { IfOk result (λ _. (rows : List each.Row) → AreRunsOf rows runs.old.items
+        → is_at_most (last_place rows) (place_of row.now) ≡ true
+        → AreRunsOf (rows ++ row.now ∷ []) runs.new.items) }
+{
+    let Some(start) = address_from(Place::of(row)) else {
+        return Ok(());
+    };
+    let run = Run {
+        start,
+        told: Told::of(row),
+    };
+    let count = runs.len();
+    if count > 0 {
+        let last = runs[count - 1];
+        if last.start == start {
+            runs[count - 1] = run;
+            return Ok(());
+        }
+        if last.told == run.told {
+            return Ok(());
+        }
+    }
+    match runs.push(run) {
+        Ok(()) => Ok(()),
+        Err(_) => Err(NoMemory),
+    }
+}

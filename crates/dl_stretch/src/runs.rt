@@ -1,0 +1,115 @@
+//! The runs of units that come one after the other. Section 6.2.2.
+
+ghost use Rattle.std.specs.Prelude.{◌≡◌};
+
+use crate::run::Run;
+use crate::run_spans::RunSpans;
+use crate::stretch::Stretch;
+use crate::unit_runs::UnitRuns;
+use dl_look::{LiveRows, NoMemory};
+use dl_rows::Row;
+use std::alloc::Global;
+
+/// What the rows of units tell of addresses, from which stretches are made.
+///
+/// Each row of a unit goes to `row`. Once the unit is whole `end_unit` makes its rows count; if it turns out to be
+/// damaged, `forget_unit` leaves it out.
+///
+/// Where a growth is refused a call answers `NoMemory`, and nothing more is promised of the runs.
+///
+/// Kept are 48 bytes for each run, at most one for each row of a live rising sequence, and 56 for each such sequence.
+/// A row takes constant time.
+#[derive(Drop)]
+pub struct Runs {
+    /// Of the units that have ended.
+    whole: RunSpans,
+    /// Of the current unit.
+    unit: UnitRuns,
+    live: LiveRows,
+}
+
+impl Runs {
+    ghost use Rattle.std.specs.Prelude.{◌≡◌, ◌↔◌, ℕ, Bool, IfOk, IsTrue, List, [], ◌∷◌, ◌++◌};
+    ghost use Rattle.dl_rows.specs.declared.row.Row as each;
+    ghost use Rattle.dl_look.specs.FinderRows.{unended};
+    ghost use Rattle.dl_stretch.specs.Runs.{number_in};
+    ghost use Rattle.dl_stretch.specs.Stands.{Stands};
+    ghost use Rattle.dl_stretch.specs.Stretches.{AreStretches};
+    ghost use Rattle.dl_stretch.specs.ToldUnits.{UnitRows, told_of_units, NameFiles};
+
+    /// No unit yet.
+    pub fn new(alloc: Global) -> Runs
+        ensures { (live : ℕ → Bool) → Stands live result [] [] }
+    {
+        Runs {
+            whole: RunSpans::new(alloc),
+            unit: UnitRuns::new(alloc),
+            live: LiveRows::new(),
+        }
+    }
+
+    /// Whether the next row is the first of a sequence.
+    #[inline(always)]
+    pub fn begins(&self) -> bool
+        ensures { (live : ℕ → Bool) (units : List UnitRows) (rows : List each.Row) → Stands live self.now units rows
+            → IsTrue result ↔ (unended rows ≡ []) }
+    {
+        self.live.begins()
+    }
+
+    /// Takes the next row of the current unit. `live` says of a sequence that begins with this row whether there is
+    /// code at its address, and isn't looked at for other rows.
+    pub fn row(&mut self, row: &Row, live: bool) -> Result<(), NoMemory>
+        ensures { IfOk result (λ _. (is_live : ℕ → Bool) (units : List UnitRows) (rows : List each.Row)
+            → Stands is_live self.old units rows → (unended rows ≡ [] → live ≡ is_live row.now.address)
+            → Stands is_live self.new units (rows ++ row.now ∷ [])) }
+    {
+        if self.live.takes(row, live) {
+            self.unit.row(row)
+        } else {
+            Ok(())
+        }
+    }
+
+    /// The runs of the sequences of the current unit that have ended, with the numbers of files that its rows give.
+    /// They name all files of which `end_unit` is told the numbers.
+    pub fn unit_runs(&self) -> &[Run]
+        ensures { (live : ℕ → Bool) (units : List UnitRows) (rows : List each.Row) → Stands live self.now units rows
+            → NameFiles live rows result.now }
+    {
+        self.unit.spans().runs()
+    }
+
+    /// The current unit ends, and its rows count; the next row is the first one of the next unit. The list has for
+    /// each file of the unit the number that stands for it, `other` is that of the files where it ends before.
+    pub fn end_unit(&mut self, numbers: &[u64], other: u64) -> Result<(), NoMemory>
+        ensures { IfOk result (λ _. (live : ℕ → Bool) (units : List UnitRows) (rows : List each.Row)
+            → Stands live self.old units rows → Stands live self.new (units ++ record {
+              number = number_in numbers.now other;
+              rows = rows;
+            } ∷ []) []) }
+    {
+        self.whole.append(self.unit.spans(), numbers, other)?;
+        self.forget_unit();
+        Ok(())
+    }
+
+    /// The current unit turns out to be damaged: its rows don't count, and the next row is the first one of the
+    /// next unit.
+    pub fn forget_unit(&mut self)
+        ensures { (live : ℕ → Bool) (units : List UnitRows) (rows : List each.Row) → Stands live self.old units rows
+            → Stands live self.new units [] }
+    {
+        self.unit.clear();
+        self.live = LiveRows::new();
+    }
+
+    /// The stretches of what the units tell that have ended. It takes time in proportion to the runs, and to the
+    /// sequences times the logarithm of their number, but for little.
+    pub fn stretches(&self, alloc: Global) -> Result<Vec<Stretch>, NoMemory>
+        ensures { IfOk result (λ stretches. (live : ℕ → Bool) (units : List UnitRows) (rows : List each.Row)
+            → Stands live self.now units rows → AreStretches (told_of_units live units) stretches.items) }
+    {
+        self.whole.stretches(alloc)
+    }
+}
