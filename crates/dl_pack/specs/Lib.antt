@@ -1,0 +1,5 @@
+-- What the public contracts say rests on these, in reading order.
+pub mod Named
+pub mod Shown
+-- For what a value stands; public contracts name this, and don't rest on how it is said.
+pub mod Within
