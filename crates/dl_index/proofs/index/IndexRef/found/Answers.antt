@@ -1,0 +1,51 @@
+use Rattle.std.proofs.Common.{◌-◌, ◌*◌, inl, inr, sym, ap, ◌∙◌, arith}
+use Rattle.std.specs.Option.{option_map}
+use Rattle.dl_index.specs.Layout.{field, file_in}
+use Rattle.dl_index.specs.Shown.{bytes_of, texts_told, told}
+use Rattle.dl_index.specs.Telling.{told_of, texts_of}
+use Rattle.dl_index.proofs.ColumnLemmas.{entry_is}
+use Rattle.dl_index.proofs.TellLemmas.{tells_nothing, tells, tells_these}
+use Rattle.dl_index.proofs.index.IndexRef.found.Goals as goal
+use Rattle.dl_index.proofs.index.IndexRef.found.Goals.{then-file-eq0-via-then-file-eq0, then-file-eq0-via-else-file-eq0+then-file-self}
+
+pub returns-then-file-eq0 : goal.returns-then-file-eq0
+returns-then-file-eq0 c =
+    let self = c.args.self.now in
+    let b = bytes_of self in
+    let k = c.args.k in
+    let len = self.cut.file_table_len in
+    let file = c.get-file.ensures ∙ entry_is self.cut.files k in
+    sym (tells_nothing b k (elim c.then-file-eq0.branch [
+      | then-file-eq0-via-then-file-eq0 w ↦ inl (sym file ∙ w.if-file-eq0.true)
+      | then-file-eq0-via-else-file-eq0+then-file-self w ↦ inr (let above = w.if-file-self.true in omega arith)
+    ]))
+
+pub returns-in_err-texts : goal.returns-in_err-texts
+returns-in_err-texts c =
+    let self = c.args.self.now in
+    let b = bytes_of self in
+    let k = c.args.k in
+    let len = self.cut.file_table_len in
+    let file = c.get-file.ensures ∙ entry_is self.cut.files k in
+    let some = c.if-file-eq0.false in
+    let within = c.if-file-self.false in
+    let none =
+    sym (ap (option_map texts_told) c.in_err-texts.was) ∙ c.texts.ensures ∙ ap (λ f. texts_of b (f - 1)) file in
+    ap (option_map told) c.from_residual.ensures ∙ ap (option_map (told_of b k (file_in b k - 1))) none
+    ∙ sym (tells b k (omega arith) (omega arith))
+
+pub returns : goal.returns
+returns c =
+    let self = c.args.self.now in
+    let b = bytes_of self in
+    let k = c.args.k in
+    let f = c.get-file.result in
+    let len = self.cut.file_table_len in
+    let file = c.get-file.ensures ∙ entry_is self.cut.files k in
+    let some = c.if-file-eq0.false in
+    let within = c.if-file-self.false in
+    tells_these b k (f - 1) _ (omega arith) (omega arith) (ap (λ n. n - 1) file)
+    (sym (ap (option_map texts_told) c.in_ok-texts.was) ∙ c.texts.ensures)
+    (c.long_at.ensures ∙ ap (field ((f - 1) * 24) 8) self.cut.file_table) (c.get.ensures ∙ entry_is self.cut.lines k)
+    (c.get-2.ensures ∙ entry_is self.cut.columns k) (c.get-3.ensures ∙ entry_is self.cut.discriminators k)
+    c.is_stmt.ensures

@@ -1,0 +1,68 @@
+use Rattle.std.proofs.Common.{◌+◌, ◌*◌, ◌/◌, ◌≡◌, take, drop, ap, ap₂, ◌∙◌, arith}
+use Rattle.dl_index.specs.Columns.{size_of}
+use Rattle.dl_index.specs.Layout.{rounded}
+use Rattle.dl_index.proofs.PartLemmas.{part_by, div_ceil-eight, drop_whole}
+use Rattle.dl_index.proofs.parts.cut.Goals as goal
+
+pub returns : goal.returns
+returns c =
+    let h = c.args.header.now in
+    let r = c.requires.reads in
+    let w = r.widths in
+    let by = part_by r in
+    let starts = c.column_at_front.ensures in
+    let files = c.column_at_front-2.ensures in
+    let lines = c.column_at_front-3.ensures in
+    let columns = c.column_at_front-4.ensures in
+    let discriminators = c.column_at_front-5.ensures in
+    let statements = c.part_at_front.ensures in
+    let file_table = c.part_at_front-2.ensures in
+    let text_table = c.part_at_front-3.ensures in
+    let texts = c.part_at_front-4.ensures in
+    let e0 = drop_whole 128 c.args.bytes.now in
+    let e1 = starts.rest ∙ ap (drop (rounded (h.count * size_of h.widths.starts))) e0 in
+    let e2 = files.rest ∙ ap (drop (rounded (h.count * size_of h.widths.files))) e1 in
+    let e3 = lines.rest ∙ ap (drop (rounded (h.count * size_of h.widths.lines))) e2 in
+    let e4 = columns.rest ∙ ap (drop (rounded (h.count * size_of h.widths.columns))) e3 in
+    let e5 = discriminators.rest ∙ ap (drop (rounded (h.count * size_of h.widths.discriminators))) e4 in
+    let half : c.div_ceil.result ≡ (h.count + 7) / 8 = c.div_ceil.ensures ∙ div_ceil-eight h.count in
+    let e6 = statements.rest ∙ ap₂ (λ n rest. drop (rounded n) rest) half e5 in
+    let e7 = file_table.rest ∙ ap (drop (rounded (h.files * 24))) e6 in
+    let e8 = text_table.rest ∙ ap (drop (rounded (h.texts * 16))) e7 in
+    let bits_len = statements.len in
+    let files_len = file_table.len in
+    let texts_len = text_table.len in
+    let same_count = r.count in
+    let same_files = r.files in
+    let same_texts = r.texts in
+    record {
+      starts = record { bytes = starts.column ∙ ap (take (h.count * size_of h.widths.starts)) e0 ∙ by 0; width = ap size_of starts.width ∙ w.starts; len = starts.len ∙ r.count };
+      files = record {
+        bytes = files.column ∙ ap (take (h.count * size_of h.widths.files)) e1 ∙ by 1;
+        width = ap size_of files.width ∙ w.files;
+        len = files.len ∙ r.count;
+      };
+      lines = record {
+        bytes = lines.column ∙ ap (take (h.count * size_of h.widths.lines)) e2 ∙ by 2;
+        width = ap size_of lines.width ∙ w.lines;
+        len = lines.len ∙ r.count;
+      };
+      columns = record {
+        bytes = columns.column ∙ ap (take (h.count * size_of h.widths.columns)) e3 ∙ by 3;
+        width = ap size_of columns.width ∙ w.columns;
+        len = columns.len ∙ r.count;
+      };
+      discriminators = record {
+        bytes = discriminators.column ∙ ap (take (h.count * size_of h.widths.discriminators)) e4 ∙ by 4;
+        width = ap size_of discriminators.width ∙ w.discriminators;
+        len = discriminators.len ∙ r.count;
+      };
+      statements = statements.part ∙ ap₂ (λ n rest. take n rest) half e5 ∙ by 5;
+      file_table = file_table.part ∙ ap (take (h.files * 24)) e6 ∙ by 6;
+      text_table = text_table.part ∙ ap (take (h.texts * 16)) e7 ∙ by 7;
+      texts = texts.part ∙ ap (take h.text_bytes) e8 ∙ by 8;
+      statements_len = omega arith;
+      file_table_len = omega arith;
+      text_table_len = omega arith;
+      texts_len = texts.len ∙ r.text_bytes;
+    }
