@@ -24,7 +24,7 @@ use Rattle.dl_stretch.specs.declared.told.Told.{Told}
 use Rattle.dl_stretch.specs.declared.run.Run.{Run}
 use Rattle.dl_stretch.specs.Stretches.{last_begun}
 use Rattle.dl_stretch.specs.Runs.{place_at, first_address, told_of, as_given, run_told_at}
-use Rattle.dl_stretch.specs.Laws.{CoversAddresses, LastRowBegun}
+use Rattle.dl_stretch.specs.Laws.{CoversAddresses, CoversLast, LastRowBegun}
 use Rattle.dl_stretch.specs.RowRuns.{RunsRise, StartsRise, AreRunsOf}
 use Rattle.dl_stretch.proofs.LastBegun.{last_begun-push, rise_push, rise_front, front_below, rise_at}
 
@@ -36,6 +36,15 @@ below_begun p a = grind (arith, nat_tests)
 
 pub covers_addresses : CoversAddresses
 covers_addresses s a = ap₂ (λ b c. b && c) (at_most_begun (first_place s) a) (below_begun (last_place s) a)
+
+below_last : (p : Place) → p.address < 2 ^ 64 → is_below (place_at 0xffffffffffffffff) p ≡ true
+    → (p.address ≡ 0xffffffffffffffff) × (0 < p.op_index)
+below_last p small h = (grind (arith, nat_tests), grind (arith, nat_tests))
+
+pub covers_last : CoversLast
+covers_last s small h =
+    below_last (last_place s) small (and_parts (is_at_most (first_place s) (place_at 0xffffffffffffffff))
+    (is_below (place_at 0xffffffffffffffff) (last_place s)) h).1
 
 same_find : (p q : Row → Bool) (s : List Row) → ((r : Row) → p r ≡ q r) → find p s ≡ find q s
 same_find p q [] same = refl

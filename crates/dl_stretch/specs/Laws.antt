@@ -1,5 +1,5 @@
 -- What holds of stretches, whatever the rows.
-use Rattle.std.specs.Prelude.{◌≡◌, ℕ, ◌<◌, ◌^◌, ◌&&◌, nat_le, nat_lt, Bool, List, [], ◌∷◌, ◌++◌, map, Option, None}
+use Rattle.std.specs.Prelude.{◌≡◌, ℕ, ◌<◌, ◌^◌, ◌&&◌, nat_le, nat_lt, Bool, true, List, [], ◌∷◌, ◌++◌, map, Option, None}
 use Rattle.std.specs.List.{All}
 use Rattle.std.specs.Option.{option_map}
 use Rattle.dl_rows.specs.declared.row.Row.{Row}
@@ -38,6 +38,12 @@ abbrev pub LastIsGap : Type 0
 LastIsGap =
     (f : ℕ → Option Told) (stretches : List Stretch) (last : Stretch) → AreStretches f (stretches ++ last ∷ [])
     → AtAddresses (stretches ++ last ∷ []) → f 0xffffffffffffffff ≡ None → last.told ≡ None
+
+-- a sequence covers the last address only where its end row stands there, with an op_index above 0
+abbrev pub CoversLast : Type 0
+CoversLast =
+    (s : List Row) → (last_place s).address < 2 ^ 64 → covers (place_at 0xffffffffffffffff) s ≡ true
+    → ((last_place s).address ≡ 0xffffffffffffffff) × (0 < (last_place s).op_index)
 
 -- the rows of a unit whose files have these numbers
 abbrev pub numbered : (ℕ → ℕ) → List Row → UnitRows

@@ -1,16 +1,18 @@
 //! Laws of the definitions of stretches, each the contract of a function that does nothing.
 
 ghost use Rattle.dl_stretch.specs.Laws.{OneListOfStretches, LastIsGap, TellsAnswers};
-ghost use Rattle.dl_stretch.specs.Laws.{CoversAddresses, LastRowBegun};
+ghost use Rattle.dl_stretch.specs.Laws.{CoversAddresses, CoversLast, LastRowBegun};
 
 /// There is at most one list of stretches of a function from addresses to answers.
 pub fn one_list_of_stretches()
     ensures { OneListOfStretches }
 {}
 
-/// Where nothing is told of the last address, the last stretch is a gap.
+/// Where nothing is told of the last address, the last stretch is a gap. A sequence covers that address only where
+/// its end row stands there, with an op_index above 0.
 pub fn last_is_gap()
-    ensures { LastIsGap }
+    ensures gap { LastIsGap }
+    ensures covered { CoversLast }
 {}
 
 /// Units tell of an address what the row tells that answers for it among their live sequences.
