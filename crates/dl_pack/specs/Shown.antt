@@ -15,3 +15,7 @@ named texts f = file_of texts f.unit f.texts
 -- the files, of which number n is the one at place n
 abbrev pub named_files : Names → List Named
 named_files names = map (named (texts_of names)) names.files.items
+
+-- the files as they are kept
+abbrev pub files_of : Names → List FileTexts
+files_of names = names.files.items

@@ -92,6 +92,51 @@ impl Names {
     }
 }
 
+impl Names {
+    ghost use Rattle.std.specs.Prelude.{get_or, [], ◌≤◌};
+    ghost use Rattle.std.specs.List.{All};
+    ghost use Rattle.dl_pack.specs.Shown.{files_of, texts_of};
+    ghost use Rattle.dl_pack.specs.Tables.{no_file};
+
+    /// How many files there are.
+    pub(crate) fn file_count(&self) -> usize
+        ensures { result ≡ length (files_of self.now) }
+    {
+        self.files.len()
+    }
+
+    /// How many texts there are.
+    pub(crate) fn text_count(&self) -> usize
+        ensures { result ≡ length (texts_of self.now) }
+    {
+        self.texts.len()
+    }
+
+    /// The file at a place; none of a unit at 0 past the last one.
+    pub(crate) fn file_at(&self, place: usize) -> FileTexts
+        ensures file { result ≡ get_or (files_of self.now) place no_file }
+        ensures within { All (λ text. text ≤ length (texts_of self.now)) result.texts }
+    {
+        match self.files.as_slice().get(place) {
+            Some(file) => *file,
+            None => FileTexts {
+                unit: 0,
+                texts: [0; 3],
+            },
+        }
+    }
+
+    /// The text at a place; an empty one past the last one.
+    pub(crate) fn text_at(&self, place: usize) -> &[u8]
+        ensures { result.now ≡ get_or (texts_of self.now) place [] }
+    {
+        match self.texts.get_index(place) {
+            Some(text) => text.as_slice(),
+            None => &[],
+        }
+    }
+}
+
 /// The place of a text, which goes last where it is new.
 fn put(alloc: Global, texts: &mut IndexSet<Vec<u8>>, text: &[u8]) -> Result<usize, NoMemory>
     ensures index { IfOk result (λ i. slice_get (texts_in texts.new) i ≡ Some text.now) }
