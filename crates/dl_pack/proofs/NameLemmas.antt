@@ -1,5 +1,5 @@
 -- Texts by their numbers, and files whose texts stay as more come.
-use Rattle.std.proofs.Common.{◌≡◌, ℕ, zero, suc, ◌-◌, ◌<◌, ◌≤◌, Bool, true, false, List, [], ◌∷◌, ◌++◌, length, map}
+use Rattle.std.proofs.Common.{◌≡◌, ℕ, zero, suc, ◌-◌, ◌<◌, ◌≤◌, Bool, true, false, List, [], ◌∷◌, ◌++◌, length, map, get_or}
 use Rattle.std.proofs.Common.{Some, arith, refl, sym, ap, ap₂, ◌∙◌}
 use Rattle.std.specs.Prelude.{if◌then◌else◌, slice_get}
 use Rattle.std.specs.Global.{Vec}
@@ -72,12 +72,18 @@ text_grown : (texts more : List (List ℕ)) (n : ℕ) → n ≤ length texts →
 text_grown texts more zero le = refl
 text_grown texts more (suc n) le = ap option_to_list (get_grown texts more n (omega arith))
 
+within_at : (count : ℕ) (numbers : List ℕ) (i : ℕ) → All (λ n. n ≤ count) numbers → get_or numbers i 0 ≤ count
+within_at count [] i within = omega arith
+within_at count (n ∷ numbers) zero within = All-head (λ n. n ≤ count) n numbers within
+within_at count (n ∷ numbers) (suc i) within =
+    within_at count numbers i (All-tail (λ n. n ≤ count) n numbers within)
+
 pub parts_grown : (texts more : List (List ℕ)) (numbers : List ℕ) → All (λ n. n ≤ length texts) numbers
     → parts_of (texts ++ more) numbers ≡ parts_of texts numbers
-parts_grown texts more [] within = refl
-parts_grown texts more (n ∷ numbers) within =
-    ap₂ (λ x y. x ++ y) (text_grown texts more n (All-head (λ n. n ≤ length texts) n numbers within))
-    (parts_grown texts more numbers (All-tail (λ n. n ≤ length texts) n numbers within))
+parts_grown texts more numbers within =
+    ap₂ (λ x y. x ++ y) (text_grown texts more (get_or numbers 0 0) (within_at (length texts) numbers 0 within))
+    (ap₂ (λ x y. x ++ y) (text_grown texts more (get_or numbers 1 0) (within_at (length texts) numbers 1 within))
+    (text_grown texts more (get_or numbers 2 0) (within_at (length texts) numbers 2 within)))
 
 -- what files stand for stays as more texts come
 pub files_grown : (texts more : List (List ℕ)) (files : List FileTexts) → All (HasTexts (length texts)) files

@@ -1,5 +1,5 @@
 -- What the numbers of files and of texts stand for.
-use Rattle.std.specs.Prelude.{ℕ, zero, suc, List, [], ◌∷◌, ◌++◌, if◌then◌else◌, slice_get}
+use Rattle.std.specs.Prelude.{ℕ, zero, suc, List, [], ◌∷◌, ◌++◌, if◌then◌else◌, slice_get, get_or}
 use Rattle.std.specs.List.{list_any}
 use Rattle.std.specs.Option.{option_to_list}
 use Rattle.std.specs.Str.{bytes_eq}
@@ -10,15 +10,15 @@ pub record Named : Type 0 where
   pub unit : ℕ
   pub parts : List (List ℕ)
 
--- the text of a number, counted from 1; none for 0
+-- the text of a number, counted from 1; none for 0, nor where there are fewer
 abbrev pub text_of : List (List ℕ) → ℕ → List (List ℕ)
 text_of texts zero = []
 text_of texts (suc n) = option_to_list (slice_get texts n)
 
--- the texts of these numbers, of those that are none for 0
+-- the texts of three numbers, of those that stand for one
 abbrev pub parts_of : List (List ℕ) → List ℕ → List (List ℕ)
-parts_of texts [] = []
-parts_of texts (n ∷ numbers) = text_of texts n ++ parts_of texts numbers
+parts_of texts numbers =
+    text_of texts (get_or numbers 0 0) ++ (text_of texts (get_or numbers 1 0) ++ text_of texts (get_or numbers 2 0))
 
 abbrev pub file_of : List (List ℕ) → ℕ → List ℕ → Named
 file_of texts unit numbers = record { unit = unit; parts = parts_of texts numbers }

@@ -29,8 +29,7 @@ pub struct Names {
 }
 
 impl Names {
-    ghost use Rattle.std.specs.Prelude.{◌≡◌, ◌+◌, ◌-◌, ◌≤◌, ◌++◌, ◌∷◌, [], Some, length, slice_get, IfOk};
-    ghost use Rattle.std.specs.List.{All};
+    ghost use Rattle.std.specs.Prelude.{◌≡◌, ◌+◌, ◌-◌, ◌≤◌, ◌++◌, ◌∷◌, [], Some, length, slice_get, is_ok, IfOk, if◌then◌else◌};
     ghost use Rattle.std.specs.Option.{option_copied, option_map, option_to_list};
     ghost use Rattle.dl_pack.specs.Named.{text_of, file_of, with_text};
     ghost use Rattle.dl_pack.specs.Shown.{named, named_files, texts_of};
@@ -50,7 +49,8 @@ impl Names {
     /// The number of a text. It is refused where there would be 2^32 of them, as where memory is.
     pub fn add_text(&mut self, text: &[u8]) -> Result<u32, NoMemory>
         ensures text { IfOk result (λ n. (1 ≤ n) × (slice_get (texts_of self.new) (n - 1) ≡ Some text.now)) }
-        ensures texts { IfOk result (λ _. texts_of self.new ≡ with_text (texts_of self.old) text.now) }
+        ensures texts { texts_of self.new ≡ (if is_ok result then with_text (texts_of self.old) text.now
+            else texts_of self.old) }
         ensures files { named_files self.new ≡ named_files self.old }
     {
         if self.texts.len() >= 0xffff_ffff {
@@ -60,19 +60,35 @@ impl Names {
         Ok(index as u32 + 1)
     }
 
-    /// Adds a file, of the unit at this offset, whose path is made of these texts, of which 0 stands for none. Its number
-    /// is how many there were before.
+    /// Adds a file, of the unit at this offset, whose path is made of the texts of these numbers; one that stands for no
+    /// text, as 0, is left out. The number of the file is how many there were before.
     pub fn add_file(&mut self, unit: u64, texts: [u32; 3]) -> Result<u64, NoMemory>
-        requires { All (λ n. n ≤ length (texts_of self.old)) texts }
         ensures number { IfOk result (λ n. n ≡ length (named_files self.old)) }
         ensures files { IfOk result (λ _. named_files self.new ≡ named_files self.old
             ++ file_of (texts_of self.old) unit texts ∷ []) }
         ensures texts { texts_of self.new ≡ texts_of self.old }
     {
         let number = self.files.len() as u64;
-        match self.files.push(FileTexts { unit, texts }) {
+        let known = [
+            self.known(texts[0]),
+            self.known(texts[1]),
+            self.known(texts[2]),
+        ];
+        match self.files.push(FileTexts { unit, texts: known }) {
             Ok(()) => Ok(number),
             Err(_) => Err(NoMemory),
+        }
+    }
+
+    /// The same number; 0 where it stands for no text.
+    fn known(&self, text: u32) -> u32
+        ensures same { text_of (texts_of self.now) result ≡ text_of (texts_of self.now) text }
+        ensures within { result ≤ length self.now.texts.keys }
+    {
+        if text as usize <= self.texts.len() {
+            text
+        } else {
+            0
         }
     }
 
