@@ -1,0 +1,6 @@
+pub mod ColumnLemmas
+pub mod MentionLemmas
+pub mod NameLemmas
+pub mod OrderLemmas
+pub mod TableLemmas
+pub mod WholeLemmas

@@ -1,0 +1,18 @@
+use Rattle.std.proofs.Common.{◌∙◌, ap, get_or}
+use Rattle.dl_pack.specs.Numbering.{mentioned}
+use Rattle.dl_pack.specs.Tables.{no_file}
+use Rattle.dl_pack.specs.IndexOf.{file_places}
+use Rattle.dl_pack.specs.Shown.{files_of}
+use Rattle.dl_pack.specs.Mentioned.{order_of}
+use Rattle.dl_pack.proofs.OrderLemmas.{mentioned_items}
+use Rattle.dl_pack.proofs.making.mention_texts.Goals as goal
+
+pub loop-file-preserved : goal.loop-file-preserved
+loop-file-preserved c = record {
+  order = mentioned_items (λ place. file_places (get_or (files_of c.args.names.now) place no_file))
+      c.order-file-items.result.now (order_of c.args.files.now) c.loop-file.file-index _ (order_of c.loop-file.texts) _
+      c.order-file-items.ensures.order c.loop-file-test.true c.loop-file.invariant.order
+      (c.in_ok-mention_file.ensures.order
+      ∙ ap (λ f. mentioned (order_of c.loop-file.texts) (file_places f)) c.file_at.ensures.file);
+  count = c.mention_file.ensures.count ∙ c.loop-file.invariant.count;
+}

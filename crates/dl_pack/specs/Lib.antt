@@ -1,0 +1,11 @@
+-- What the public contracts say rests on these, in reading order.
+pub mod Named
+pub mod Shown
+pub mod Numbering
+pub mod Columns
+pub mod Tables
+pub mod IndexOf
+-- For what a value stands; public contracts name this, and don't rest on how it is said.
+pub mod Within
+-- Of contracts inside the crate, and of proofs; no public contract reaches these.
+pub mod Mentioned

@@ -1,0 +1,242 @@
+//! The columns of an index, and the bits of is_stmt.
+
+ghost use Rattle.std.specs.Prelude.{◌≡◌, ◌+◌, ◌-◌, ◌≤◌, ◌++◌, IfOk, length, map, max, vec_len, replicate};
+ghost use Rattle.std.specs.List.{flat_map};
+ghost use Rattle.dl_num.specs.Fixed.{little_bytes};
+ghost use Rattle.dl_index.specs.Columns.{size_of};
+ghost use Rattle.dl_index.specs.Layout.{rounded};
+ghost use Rattle.dl_pack.specs.Columns.{told_number, number_of, column_of, column_bytes, greatest, least_size, padded};
+ghost use Rattle.dl_pack.specs.Columns.{bit_at, byte_at, statement_bytes};
+ghost use Rattle.dl_pack.specs.Columns.{columns_of, width_by, part_by};
+ghost use Rattle.dl_pack.specs.Mentioned.{order_of};
+
+use crate::mentions::Mentions;
+use dl_index::Width;
+use dl_look::NoMemory;
+use dl_num::{Order, fixed_bytes};
+use dl_stretch::{Stretch, Told};
+
+/// A column of an index.
+#[derive(Clone, Copy)]
+pub enum Column {
+    Start,
+    File,
+    Line,
+    Column,
+    Discriminator,
+}
+
+/// The number that what is told has in a column; 0 of a gap.
+fn told_number(files: &Mentions, column: Column, told: Option<Told>) -> u64
+    ensures { result ≡ told_number (order_of files.now) column told }
+{
+    let Some(told) = told else {
+        return 0;
+    };
+    match column {
+        Column::Start => 0,
+        Column::File => u64::from(files.number(told.file)),
+        Column::Line => told.line,
+        Column::Column => told.column,
+        Column::Discriminator => told.discriminator,
+    }
+}
+
+/// The number of a stretch in a column.
+fn number_of(base: u64, files: &Mentions, column: Column, stretch: &Stretch) -> u64
+    ensures { result ≡ number_of base (order_of files.now) column stretch.now }
+{
+    match column {
+        Column::Start => stretch.start.saturating_sub(base),
+        _ => told_number(files, column, stretch.told),
+    }
+}
+
+/// The greatest number of a column.
+fn greatest_of(base: u64, files: &Mentions, column: Column, stretches: &[Stretch]) -> u64
+    ensures { result ≡ greatest (column_of base (order_of files.now) column stretches.now) }
+{
+    let mut greatest = 0;
+    for stretch in stretches {
+        greatest = number_of(base, files, column, stretch).max(greatest);
+    }
+    greatest
+}
+
+/// The least width of numbers up to this one.
+fn least_width(greatest: u64) -> Width
+    ensures { size_of result ≡ least_size greatest }
+{
+    if greatest < 0x100 {
+        Width::One
+    } else if greatest < 0x1_0000 {
+        Width::Two
+    } else if greatest < 0x1_0000_0000 {
+        Width::Four
+    } else {
+        Width::Eight
+    }
+}
+
+/// Puts the lowest bytes of a number, the lowest first.
+pub fn put_number(out: &mut Vec<u8>, size: usize, number: u64) -> Result<(), NoMemory>
+    requires { size ≤ 8 }
+    ensures { IfOk result (λ _. out.new.items ≡ out.old.items ++ little_bytes size number) }
+{
+    let bytes = fixed_bytes(Order::Little, size, number);
+    match out.extend_from_slice(bytes.as_slice()) {
+        Ok(()) => Ok(()),
+        Err(_) => Err(NoMemory),
+    }
+}
+
+/// Puts some bytes.
+pub fn put_slice(out: &mut Vec<u8>, slice: &[u8]) -> Result<(), NoMemory>
+    ensures { IfOk result (λ _. out.new.items ≡ out.old.items ++ slice.now) }
+{
+    match out.extend_from_slice(slice) {
+        Ok(()) => Ok(()),
+        Err(_) => Err(NoMemory),
+    }
+}
+
+/// Puts this many bytes of 0.
+pub fn put_zeros(out: &mut Vec<u8>, count: usize) -> Result<(), NoMemory>
+    requires { count ≤ 128 }
+    ensures { IfOk result (λ _. out.new.items ≡ out.old.items ++ replicate count 0) }
+{
+    match out.resize(out.len() + count, 0) {
+        Ok(()) => Ok(()),
+        Err(_) => Err(NoMemory),
+    }
+}
+
+/// Puts the numbers of a column.
+fn put_numbers(
+    out: &mut Vec<u8>,
+    size: usize,
+    base: u64,
+    files: &Mentions,
+    column: Column,
+    stretches: &[Stretch],
+) -> Result<(), NoMemory>
+    requires { size ≤ 8 }
+    ensures { IfOk result (λ _. out.new.items ≡ out.old.items
+        ++ column_bytes size (column_of base (order_of files.now) column stretches.now)) }
+{
+    for stretch in stretches {
+        put_number(out, size, number_of(base, files, column, stretch))?;
+    }
+    Ok(())
+}
+
+/// Puts 0 behind a part that begins at `start`, up to a multiple of 8 bytes from there.
+pub fn pad(out: &mut Vec<u8>, start: usize) -> Result<(), NoMemory>
+    requires { start ≤ vec_len out.old }
+    ensures { IfOk result (λ _. out.new.items ≡ out.old.items
+        ++ replicate (rounded (vec_len out.old - start) - (vec_len out.old - start)) 0) }
+{
+    let len = out.len() - start;
+    let rest = (len + 7) / 8 * 8 - len;
+    match out.resize(out.len() + rest, 0) {
+        Ok(()) => Ok(()),
+        Err(_) => Err(NoMemory),
+    }
+}
+
+/// Puts a column in its least width, which it answers.
+pub fn put_column(
+    out: &mut Vec<u8>,
+    base: u64,
+    files: &Mentions,
+    column: Column,
+    stretches: &[Stretch],
+) -> Result<Width, NoMemory>
+    ensures width { IfOk result (λ width. size_of width
+        ≡ least_size (greatest (column_of base (order_of files.now) column stretches.now))) }
+    ensures part { let numbers = column_of base (order_of files.now) column stretches.now in
+        IfOk result (λ _. out.new.items ≡ out.old.items ++ padded (column_bytes (least_size (greatest numbers)) numbers)) }
+{
+    let start = out.len();
+    let width = least_width(greatest_of(base, files, column, stretches));
+    put_numbers(out, width.size(), base, files, column, stretches)?;
+    pad(out, start)?;
+    Ok(width)
+}
+
+/// Puts the five columns in their least widths, which it answers.
+pub fn put_columns(
+    out: &mut Vec<u8>,
+    base: u64,
+    files: &Mentions,
+    stretches: &[Stretch],
+) -> Result<[u8; 5], NoMemory>
+    ensures widths { IfOk result (λ widths. widths ≡ map (width_by base (order_of files.now) stretches.now) columns_of) }
+    ensures parts { IfOk result (λ _. out.new.items ≡ out.old.items
+        ++ flat_map padded (map (part_by base (order_of files.now) stretches.now) columns_of)) }
+{
+    let starts = put_column(out, base, files, Column::Start, stretches)?;
+    let numbers = put_column(out, base, files, Column::File, stretches)?;
+    let lines = put_column(out, base, files, Column::Line, stretches)?;
+    let columns = put_column(out, base, files, Column::Column, stretches)?;
+    let discriminators = put_column(out, base, files, Column::Discriminator, stretches)?;
+    Ok([
+        starts.size() as u8,
+        numbers.size() as u8,
+        lines.size() as u8,
+        columns.size() as u8,
+        discriminators.size() as u8,
+    ])
+}
+
+/// 1 where the row of stretch `i` is a recommended place for a breakpoint; 0 in a gap, and where there is none.
+fn bit_at(stretches: &[Stretch], i: usize) -> u8
+    ensures bit { result ≡ bit_at stretches.now i }
+    ensures small { result ≤ 1 }
+{
+    match stretches.get(i) {
+        Some(stretch) => match stretch.told {
+            Some(told) => u8::from(told.is_stmt),
+            None => 0,
+        },
+        None => 0,
+    }
+}
+
+/// The bits of stretches from `k * 8` on.
+fn byte_at(stretches: &[Stretch], k: usize) -> u8
+    requires { k ≤ length stretches.now }
+    ensures { result ≡ byte_at stretches.now k }
+{
+    let i = k * 8;
+    let low = bit_at(stretches, i)
+        + 2 * bit_at(stretches, i + 1)
+        + 4 * bit_at(stretches, i + 2)
+        + 8 * bit_at(stretches, i + 3);
+    let high = 16 * bit_at(stretches, i + 4)
+        + 32 * bit_at(stretches, i + 5)
+        + 64 * bit_at(stretches, i + 6)
+        + 128 * bit_at(stretches, i + 7);
+    low + high
+}
+
+/// Puts the bits of all stretches.
+pub fn put_statements(out: &mut Vec<u8>, stretches: &[Stretch]) -> Result<(), NoMemory>
+    ensures { IfOk result (λ _. out.new.items ≡ out.old.items ++ padded (statement_bytes stretches.now)) }
+{
+    let start = out.len();
+    put_bits(out, stretches)?;
+    pad(out, start)
+}
+
+/// Puts the bytes of these bits.
+fn put_bits(out: &mut Vec<u8>, stretches: &[Stretch]) -> Result<(), NoMemory>
+    ensures { IfOk result (λ _. out.new.items ≡ out.old.items ++ statement_bytes stretches.now) }
+{
+    for k in 0..(stretches.len() / 8 + usize::from(stretches.len() % 8 > 0)) {
+        let Ok(()) = out.push(byte_at(stretches, k)) else {
+            return Err(NoMemory);
+        };
+    }
+    Ok(())
+}

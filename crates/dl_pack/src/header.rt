@@ -1,0 +1,143 @@
+//! The header of an index.
+
+ghost use Rattle.std.specs.Prelude.{◌≡◌, ◌++◌, ◌≤◌, IfOk, length, drop, vec_len};
+ghost use Rattle.dl_pack.specs.Columns.{column_bytes};
+ghost use Rattle.dl_pack.specs.IndexOf.{header_front, header_back, header_with, header_of, whole_of};
+
+use crate::columns::{put_number, put_slice, put_zeros};
+use dl_crc::crc_32;
+use dl_look::NoMemory;
+use std::alloc::Global;
+
+/// What the header says before its own sum.
+#[derive(Drop)]
+struct Header {
+    /// 1 where each sequence counts, else 0.
+    flags: u32,
+    /// The length of the whole, the base, and how many stretches, files, texts and bytes of texts there are.
+    numbers: [u64; 6],
+    /// The widths of the columns.
+    widths: [u8; 5],
+    /// The sum of all bytes after the header.
+    sum: u32,
+}
+
+/// What the header says of a body, beside its length and its sum.
+#[derive(Drop)]
+pub struct Described {
+    /// 1 where each sequence counts, else 0.
+    pub flags: u32,
+    /// The first address of all.
+    pub base: u64,
+    /// How many stretches there are, how many files, how many texts, and how many bytes of texts.
+    pub count: u64,
+    pub files: u64,
+    pub texts: u64,
+    pub text_bytes: u64,
+    /// The widths of the columns.
+    pub widths: [u8; 5],
+}
+
+/// Puts numbers of eight bytes.
+fn put_numbers(out: &mut Vec<u8>, numbers: &[u64]) -> Result<(), NoMemory>
+    ensures { IfOk result (λ _. out.new.items ≡ out.old.items ++ column_bytes 8 numbers.now) }
+{
+    for number in numbers {
+        put_number(out, 8, *number)?;
+    }
+    Ok(())
+}
+
+/// Puts the header up to its own sum.
+fn put_front(out: &mut Vec<u8>, header: &Header) -> Result<(), NoMemory>
+    ensures { IfOk result (λ _. out.new.items ≡ out.old.items
+        ++ header_front header.now.flags header.now.numbers header.now.widths header.now.sum) }
+{
+    put_slice(out, b"dlineidx")?;
+    put_number(out, 4, 1)?;
+    put_number(out, 4, u64::from(header.flags))?;
+    put_numbers(out, &header.numbers)?;
+    put_slice(out, &header.widths)?;
+    put_slice(out, &[0, 0, 0])?;
+    put_number(out, 4, u64::from(header.sum))?;
+    Ok(())
+}
+
+/// Puts the header after its own sum: the build ID.
+fn put_back(out: &mut Vec<u8>, build_id: &[u8]) -> Result<(), NoMemory>
+    requires { length build_id.now ≤ 32 }
+    ensures { IfOk result (λ _. out.new.items ≡ out.old.items ++ header_back build_id.now) }
+{
+    put_number(out, 1, build_id.len() as u64)?;
+    put_slice(out, &[0, 0, 0])?;
+    put_slice(out, build_id)?;
+    put_zeros(out, 44 - build_id.len())?;
+    Ok(())
+}
+
+/// The header with this sum of its own.
+fn header_with(
+    alloc: Global,
+    header: &Header,
+    build_id: &[u8],
+    sum: u32,
+) -> Result<Vec<u8>, NoMemory>
+    requires { length build_id.now ≤ 32 }
+    ensures { IfOk result (λ bytes. bytes.items
+        ≡ header_with (header_front header.now.flags header.now.numbers header.now.widths header.now.sum) build_id.now sum) }
+{
+    let mut bytes = Vec::new(alloc);
+    put_front(&mut bytes, header)?;
+    put_number(&mut bytes, 4, u64::from(sum))?;
+    put_back(&mut bytes, build_id)?;
+    Ok(bytes)
+}
+
+/// The header.
+fn header_bytes(alloc: Global, header: &Header, build_id: &[u8]) -> Result<Vec<u8>, NoMemory>
+    requires { length build_id.now ≤ 32 }
+    ensures { IfOk result (λ bytes. bytes.items
+        ≡ header_of (header_front header.now.flags header.now.numbers header.now.widths header.now.sum) build_id.now) }
+{
+    let summed = header_with(alloc, header, build_id, 0)?;
+    let sum = crc_32(summed.as_slice());
+    header_with(alloc, header, build_id, sum)
+}
+
+/// Puts the header in place of the first 128 bytes, which a body follows.
+pub fn fill_header(
+    alloc: Global,
+    bytes: &mut Vec<u8>,
+    described: &Described,
+    build_id: &[u8],
+) -> Result<(), NoMemory>
+    requires room { 128 ≤ vec_len bytes.old }
+    requires short { length build_id.now ≤ 32 }
+    ensures { IfOk result (λ _. let d = described.now in bytes.new.items
+        ≡ whole_of d.flags d.base d.count d.files d.texts d.text_bytes d.widths build_id.now (drop 128 bytes.old.items)) }
+{
+    let header = Header {
+        flags: described.flags,
+        numbers: [
+            bytes.len() as u64,
+            described.base,
+            described.count,
+            described.files,
+            described.texts,
+            described.text_bytes,
+        ],
+        widths: described.widths,
+        sum: crc_32(&bytes[128..]),
+    };
+    let header = header_bytes(alloc, &header, build_id)?;
+    replace_front(bytes.as_mut_slice(), header.as_slice());
+    Ok(())
+}
+
+/// Puts these bytes in place of the first ones.
+fn replace_front(bytes: &mut [u8], front: &[u8])
+    requires { length front.now ≤ length bytes.old }
+    ensures { bytes.new ≡ front.now ++ drop (length front.now) bytes.old }
+{
+    bytes[..front.len()].copy_from_slice(front);
+}

@@ -1,0 +1,14 @@
+//! The bytes of an index, made of stretches and of what the numbers of their files stand for.
+#![tactic(auto)]
+
+mod columns;
+mod fault;
+mod header;
+mod making;
+mod mentions;
+mod names;
+mod tables;
+
+pub use fault::PackFault;
+pub use making::index_bytes;
+pub use names::{FileTexts, Names};

@@ -1,0 +1,168 @@
+//! What the numbers of files stand for.
+
+ghost use Rattle.std.specs.Prelude.{◌≡◌, ◌<◌, ◌^◌, length, Some, slice_get, is_ok, IfOk, if◌then◌else◌};
+ghost use Rattle.dl_pack.specs.Named.{with_text};
+ghost use Rattle.dl_pack.specs.Within.{texts_in};
+ghost use Rattle.std.specs.List.{All};
+ghost use Rattle.dl_pack.specs.Within.{HasTexts};
+
+use dl_look::NoMemory;
+use indexmap::IndexSet;
+use std::alloc::Global;
+
+/// A file: the offset of its unit in the line section, and the numbers of the texts that its path is made of, from 1;
+/// 0 stands for none.
+#[derive(Debug, Clone, Copy, PartialEq, Eq)]
+pub struct FileTexts {
+    pub unit: u64,
+    pub texts: [u32; 3],
+}
+
+/// Files by their numbers, from 0, and the texts of their paths by theirs, from 1, each of which is kept once.
+#[derive(Drop)]
+pub struct Names {
+    alloc: Global,
+    texts: IndexSet<Vec<u8>>,
+    files: Vec<FileTexts>,
+    ghost few: { length texts.keys < 2 ^ 32 },
+    ghost within: { All (HasTexts (length texts.keys)) files.items },
+}
+
+impl Names {
+    ghost use Rattle.std.specs.Prelude.{◌≡◌, ◌+◌, ◌-◌, ◌≤◌, ◌++◌, ◌∷◌, [], Some, length, slice_get, is_ok, IfOk, if◌then◌else◌};
+    ghost use Rattle.std.specs.Option.{option_copied, option_map, option_to_list};
+    ghost use Rattle.dl_pack.specs.Named.{text_of, file_of, with_text};
+    ghost use Rattle.dl_pack.specs.Shown.{named, named_files, texts_of};
+
+    /// No file, and no text.
+    pub fn new(alloc: Global) -> Names
+        ensures texts { texts_of result ≡ [] }
+        ensures files { named_files result ≡ [] }
+    {
+        Names {
+            alloc,
+            texts: IndexSet::new(alloc),
+            files: Vec::new(alloc),
+        }
+    }
+
+    /// The number of a text. It is refused where there would be 2^32 of them, as where memory is.
+    pub fn add_text(&mut self, text: &[u8]) -> Result<u32, NoMemory>
+        ensures text { IfOk result (λ n. (1 ≤ n) × (slice_get (texts_of self.new) (n - 1) ≡ Some text.now)) }
+        ensures texts { texts_of self.new ≡ (if is_ok result then with_text (texts_of self.old) text.now
+            else texts_of self.old) }
+        ensures files { named_files self.new ≡ named_files self.old }
+    {
+        if self.texts.len() >= 0xffff_ffff {
+            return Err(NoMemory);
+        }
+        let index = put(self.alloc, &mut self.texts, text)?;
+        Ok(index as u32 + 1)
+    }
+
+    /// Adds a file, of the unit at this offset, whose path is made of the texts of these numbers; one that stands for no
+    /// text, as 0, is left out. The number of the file is how many there were before.
+    pub fn add_file(&mut self, unit: u64, texts: [u32; 3]) -> Result<u64, NoMemory>
+        ensures number { IfOk result (λ n. n ≡ length (named_files self.old)) }
+        ensures files { IfOk result (λ _. named_files self.new ≡ named_files self.old
+            ++ file_of (texts_of self.old) unit texts ∷ []) }
+        ensures texts { texts_of self.new ≡ texts_of self.old }
+    {
+        let number = self.files.len() as u64;
+        let known = [
+            self.known(texts[0]),
+            self.known(texts[1]),
+            self.known(texts[2]),
+        ];
+        match self.files.push(FileTexts { unit, texts: known }) {
+            Ok(()) => Ok(number),
+            Err(_) => Err(NoMemory),
+        }
+    }
+
+    /// The same number; 0 where it stands for no text.
+    fn known(&self, text: u32) -> u32
+        ensures same { text_of (texts_of self.now) result ≡ text_of (texts_of self.now) text }
+        ensures within { result ≤ length self.now.texts.keys }
+    {
+        if text as usize <= self.texts.len() {
+            text
+        } else {
+            0
+        }
+    }
+
+    /// The file of a number; None where there is none of it.
+    pub fn file(&self, number: u64) -> Option<FileTexts>
+        ensures { option_map (named (texts_of self.now)) result ≡ slice_get (named_files self.now) number }
+    {
+        self.files.as_slice().get(number as usize).copied()
+    }
+
+    /// The text of a number; None of 0, and where there is none of it.
+    pub fn text(&self, number: u32) -> Option<&[u8]>
+        ensures { option_to_list (option_copied result) ≡ text_of (texts_of self.now) number }
+    {
+        let index = number.checked_sub(1)?;
+        Some(self.texts.get_index(index as usize)?.as_slice())
+    }
+}
+
+impl Names {
+    ghost use Rattle.std.specs.Prelude.{get_or, [], ◌≤◌};
+    ghost use Rattle.std.specs.List.{All};
+    ghost use Rattle.dl_pack.specs.Shown.{files_of, texts_of};
+    ghost use Rattle.dl_pack.specs.Tables.{no_file};
+
+    /// How many files there are.
+    pub(crate) fn file_count(&self) -> usize
+        ensures { result ≡ length (files_of self.now) }
+    {
+        self.files.len()
+    }
+
+    /// How many texts there are.
+    pub(crate) fn text_count(&self) -> usize
+        ensures { result ≡ length (texts_of self.now) }
+    {
+        self.texts.len()
+    }
+
+    /// The file at a place; none of a unit at 0 past the last one.
+    pub(crate) fn file_at(&self, place: usize) -> FileTexts
+        ensures file { result ≡ get_or (files_of self.now) place no_file }
+        ensures within { All (λ text. text ≤ length (texts_of self.now)) result.texts }
+    {
+        match self.files.as_slice().get(place) {
+            Some(file) => *file,
+            None => FileTexts {
+                unit: 0,
+                texts: [0; 3],
+            },
+        }
+    }
+
+    /// The text at a place; an empty one past the last one.
+    pub(crate) fn text_at(&self, place: usize) -> &[u8]
+        ensures { result.now ≡ get_or (texts_of self.now) place [] }
+    {
+        match self.texts.get_index(place) {
+            Some(text) => text.as_slice(),
+            None => &[],
+        }
+    }
+}
+
+/// The place of a text, which goes last where it is new.
+fn put(alloc: Global, texts: &mut IndexSet<Vec<u8>>, text: &[u8]) -> Result<usize, NoMemory>
+    ensures index { IfOk result (λ i. slice_get (texts_in texts.new) i ≡ Some text.now) }
+    ensures texts { texts_in texts.new ≡ (if is_ok result then with_text (texts_in texts.old) text.now else texts_in texts.old) }
+{
+    let Ok(copy) = Vec::from_slice(alloc, text) else {
+        return Err(NoMemory);
+    };
+    match texts.insert_full(copy) {
+        Ok(placed) => Ok(placed.0),
+        Err(_) => Err(NoMemory),
+    }
+}
