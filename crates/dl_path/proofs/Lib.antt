@@ -1,4 +1,5 @@
 pub mod PathLemmas
+pub mod PathTextLemmas
 pub mod NewerPaths
 pub mod BasenameLemmas
 pub mod WindowsLemmas

@@ -86,10 +86,10 @@ module _ (f : List ℕ → List ℕ) (nothing : f [] ≡ [])
         ∙ sym (append_assoc (f (b ∷ directory)) (0x2f ∷ []) (f path))
         ∙ ap (λ (l : List ℕ). (f (b ∷ directory) ++ l) ++ f path) (sym slash)
 
-  pub parts_apart : (base directory name : List ℕ)
+  pub over_parts : (base directory name : List ℕ)
       → f (under (under base directory) name)
       ≡ ((f base ++ slash_after base) ++ (f directory ++ slash_after directory)) ++ f name
-  parts_apart base directory name =
+  over_parts base directory name =
       apart (under base directory) name
       ∙ ap (λ (l : List ℕ). (l ++ slash_after (under base directory)) ++ f name) (apart base directory)
       ∙ ap (λ (l : List ℕ). (((f base ++ slash_after base) ++ f directory) ++ l) ++ f name)

@@ -3,6 +3,8 @@ pub mod Paths
 pub mod PathLaws
 pub mod Parts
 pub mod Shown
+pub mod PathTexts
+pub mod TextLaws
 pub mod PathParts
 -- Of contracts inside the crate, and of proofs; no public contract reaches these.
 pub mod Windows

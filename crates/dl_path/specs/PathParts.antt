@@ -8,6 +8,7 @@ use Rattle.dl_path.specs.declared.parts.Parts.{Parts}
 use Rattle.dl_path.specs.declared.parts.Text.{Text}
 use Rattle.dl_path.specs.declared.parts.Text.TheVariants.{Section, Header}
 use Rattle.dl_path.specs.Paths.{directory_text, under}
+use Rattle.dl_path.specs.PathTexts.{FileParts}
 
 abbrev pub text_seen : Text → List ℕ
 text_seen (Section w) = w.now
@@ -16,6 +17,10 @@ text_seen (Header w) = w.now
 -- nothing where there is no directory
 abbrev pub directory_seen : Option Directory → List ℕ
 directory_seen d = unwrap_or (option_map (λ (d : Directory). text_seen d.text) d) []
+
+-- the parts, by their texts alone
+abbrev pub parts_apart : Parts → FileParts
+parts_apart p = record { base = directory_seen p.base; directory = directory_seen p.directory; name = text_seen p.name }
 
 abbrev pub parts_seen : Parts → List ℕ
 parts_seen p = under (under (directory_seen p.base) (directory_seen p.directory)) (text_seen p.name)

@@ -1,15 +1,15 @@
 //! The texts that the path of a file is made of, each with where it stands. Section 6.2.4.
 
-ghost use Rattle.std.specs.Prelude.{◌≡◌, ◌≤◌, ◌==◌, ◌||◌, [], Some, IfSome, drop, if◌then◌else◌, length, unwrap_or};
+ghost use Rattle.std.specs.Prelude.{◌≡◌, ◌≤◌, Some, IfSome, drop, length};
 ghost use Rattle.std.specs.Option.{option_copied, option_map};
 ghost use Rattle.dl_table.specs.EntryHeld.{entry_items};
 ghost use Rattle.dl_table.specs.Held.{value_lent};
 ghost use Rattle.dl_print.specs.ValueText.{strings_of};
 ghost use Rattle.dl_path.specs.Parts.{path_seen};
-ghost use Rattle.dl_path.specs.PathParts.{FromDirectories, IsDirectory, directory_seen, parts_seen};
+ghost use Rattle.dl_path.specs.PathParts.{FromDirectories, IsDirectory, directory_seen, parts_apart, parts_seen};
 ghost use Rattle.dl_path.specs.PathParts.{text_of_directory, text_seen};
-ghost use Rattle.dl_path.specs.Paths.{text_of, own_path, directory_of, directory_path, directory_text, number_or_zero};
-ghost use Rattle.dl_path.specs.Paths.{is_whole, path_of, under};
+ghost use Rattle.dl_path.specs.Paths.{text_of, own_path, directory_of, directory_text, number_or_zero, path_of};
+ghost use Rattle.dl_path.specs.PathTexts.{base_of, by_itself, file_parts, parts_in};
 
 use crate::path::{Path, is_whole};
 use dl_head::{Entry, Header, ValueRef};
@@ -53,6 +53,7 @@ pub fn parts_of<'s, 'h>(
     file: u64,
 ) -> Option<Parts<'s, 'h>>
     ensures seen { option_map parts_seen result ≡ path_of (strings_of strings.now) (option_copied header.entry) file }
+    ensures apart { option_map parts_apart result ≡ file_parts (strings_of strings.now) (option_copied header.entry) file }
     ensures numbered { IfSome result (FromDirectories (text_of_directory (strings_of strings.now)
         (option_copied header.entry))) }
 {
@@ -64,7 +65,7 @@ fn parts_under<'s, 'h>(
     header: &'h Header,
     file: u64,
 ) -> Option<Parts<'s, 'h>>
-    ensures seen { option_map parts_seen result ≡ path_of (strings_of strings.now) (Some header.now) file }
+    ensures apart { option_map parts_apart result ≡ file_parts (strings_of strings.now) (Some header.now) file }
     ensures numbered { IfSome result (FromDirectories (directory_text (strings_of strings.now) header.now)) }
 {
     let entry = header.file(file)?;
@@ -82,8 +83,7 @@ fn parts_within<'s, 'h>(
     number: u64,
     name: Text<'s, 'h>,
 ) -> Parts<'s, 'h>
-    ensures seen { parts_seen result
-        ≡ under (unwrap_or (directory_path (strings_of strings.now) header.now number) []) (text_seen name.entry) }
+    ensures apart { parts_apart result ≡ parts_in (strings_of strings.now) header.now number (text_seen name.entry) }
     ensures numbered { FromDirectories (directory_text (strings_of strings.now) header.now) result }
 {
     let Some(text) = directory_text(strings, header, number) else {
@@ -103,8 +103,7 @@ fn base_of<'s, 'h>(
     number: u64,
     directory: &[u8],
 ) -> Option<Directory<'s, 'h>>
-    ensures seen { directory_seen result ≡ (if is_whole directory.now || (number == 0) then []
-        else unwrap_or (directory_text (strings_of strings.now) header.now 0) []) }
+    ensures seen { directory_seen result ≡ base_of (strings_of strings.now) header.now number directory.now }
     ensures numbered { IsDirectory (directory_text (strings_of strings.now) header.now) result }
 {
     if is_whole(directory) || number == 0 {
@@ -116,7 +115,7 @@ fn base_of<'s, 'h>(
 
 /// A path with no directory before it.
 pub fn alone<'s, 'h>(name: Text<'s, 'h>) -> Parts<'s, 'h>
-    ensures seen { parts_seen result ≡ text_seen name.entry }
+    ensures apart { parts_apart result ≡ by_itself (text_seen name.entry) }
     ensures base { result.base ≡ None }
     ensures directory { result.directory ≡ None }
 {

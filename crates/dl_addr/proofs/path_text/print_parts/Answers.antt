@@ -12,7 +12,7 @@ use Rattle.dl_addr.specs.Printing.{inner_text}
 use Rattle.dl_path.specs.Shown.{shown}
 use Rattle.dl_addr.specs.Texts.{path_in_table, text_at, text_or_none}
 use Rattle.dl_path.proofs.FrontLemmas.{json_at_slash, json_nothing}
-use Rattle.dl_path.proofs.PathLemmas.{parts_apart}
+use Rattle.dl_path.proofs.PathLemmas.{over_parts}
 use Rattle.dl_path.proofs.PrintLemmas.{loses_front, loses_same, loses_then, more_then, prints_same, prints_then}
 use Rattle.dl_path.proofs.ShownLemmas.{shown_at_slash}
 use Rattle.dl_addr.proofs.path_text.print_parts.Goals as goal
@@ -29,10 +29,10 @@ directory_of p = text_or_none p.texts.now p.file.now.directory
 apart : (form : Form) (p : KeptPath) (name : List ℕ)
     → inner_text form (path_in_table p name)
     ≡ (folder form (base_of p) ++ folder form (directory_of p)) ++ inner_text form name
-apart Location p name = parts_apart shown refl shown_at_slash (base_of p) (directory_of p) name
-apart AddressAndLocation p name = parts_apart shown refl shown_at_slash (base_of p) (directory_of p) name
+apart Location p name = over_parts shown refl shown_at_slash (base_of p) (directory_of p) name
+apart AddressAndLocation p name = over_parts shown refl shown_at_slash (base_of p) (directory_of p) name
 apart Json p name =
-    parts_apart (λ w. escape (utf8_lossy w)) json_nothing json_at_slash (base_of p) (directory_of p) name
+    over_parts (λ w. escape (utf8_lossy w)) json_nothing json_at_slash (base_of p) (directory_of p) name
 
 -- by what was looked up
 apart_by : (form : Form) (p : KeptPath) (name : List ℕ) (base directory : Option (List ℕ))

@@ -1,6 +1,7 @@
 use Rattle.std.proofs.Common.{sym, ap, ◌∙◌, List, ℕ}
 use Rattle.dl_path.specs.Paths.{is_of_windows, under}
 use Rattle.dl_path.specs.PathParts.{directory_seen, text_seen}
+use Rattle.dl_path.specs.PathTexts.{joined}
 use Rattle.dl_path.specs.Shown.{after_the_last, separates}
 use Rattle.dl_path.proofs.WindowsLemmas.{basename_under}
 use Rattle.dl_path.proofs.component.basename.Goals as goal
@@ -11,7 +12,7 @@ returns-clause-seen c =
     let of_windows = c.lies_in_windows.result in
     let sep = separates of_windows in
     let whole = c.path-whole.ensures in
-    c.alone.ensures.seen
+    ap joined c.alone.ensures.apart
     ∙ c.text_from.ensures
     ∙ ap (λ (w : List ℕ). Rattle.std.specs.Prelude.drop c.component_start-start.result w) (sym whole.name)
     ∙ c.component_start-start.ensures.seen
