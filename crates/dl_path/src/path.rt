@@ -3,9 +3,10 @@
 ghost use Rattle.std.specs.Prelude.{◌≡◌, [], ◌∷◌, if◌then◌else◌};
 ghost use Rattle.std.specs.Option.{option_copied, option_map};
 ghost use Rattle.dl_print.specs.ValueText.{strings_of};
-ghost use Rattle.dl_path.specs.Parts.{path_seen};
+ghost use Rattle.dl_path.specs.Parts.{path_apart, path_seen};
 ghost use Rattle.dl_path.specs.Paths.{has_drive, has_machine, is_letter, is_of_windows, is_slash, is_whole, path_of};
 ghost use Rattle.dl_path.specs.Paths.{slash_after};
+ghost use Rattle.dl_path.specs.PathTexts.{file_parts};
 
 use crate::parts::{parts_of, path};
 use dl_head::Header;
@@ -30,7 +31,8 @@ pub fn path_of<'a>(
     header: Option<&'a Header>,
     file: u64,
 ) -> Option<Path<'a>>
-    ensures { option_map path_seen result ≡ path_of (strings_of strings.now) (option_copied header.entry) file }
+    ensures seen { option_map path_seen result ≡ path_of (strings_of strings.now) (option_copied header.entry) file }
+    ensures apart { option_map path_apart result ≡ file_parts (strings_of strings.now) (option_copied header.entry) file }
 {
     Some(path(parts_of(strings, header, file)?))
 }
