@@ -6,14 +6,14 @@ use Rattle.std.specs.Global.{Vec}
 use Rattle.std.specs.List.{All, list_any}
 use Rattle.std.specs.Option.{option_map, option_to_list}
 use Rattle.std.specs.Str.{bytes_eq}
-use Rattle.std.proofs.lemmas.List.Elements.{All-head, All-tail}
+use Rattle.std.proofs.lemmas.List.Elements.{All-head, All-tail, All-weaker}
 use Rattle.std.proofs.lemmas.Option.{slice_get-map}
 use Rattle.std.proofs.lemmas.Slice.Eq.{bytes_eq-Decides}
 use Rattle.indexmap.specs.IndexSet.{IndexSet, insert_key}
 use Rattle.dl_pack.specs.declared.names.FileTexts.{FileTexts}
 use Rattle.dl_pack.specs.Named.{text_of, parts_of, with_text}
 use Rattle.dl_pack.specs.Within.{HasTexts, texts_in}
-use Rattle.dl_pack.specs.Shown.{named}
+use Rattle.dl_pack.specs.Named.{named}
 
 abbrev items_of : Vec ℕ → List ℕ
 items_of v = v.items
@@ -105,3 +105,10 @@ pub files_stay : (put : Bool) (texts after : List (List ℕ)) (text : List ℕ) 
 files_stay true texts after text files within e =
     ap (λ ts. map (named ts) files) e ∙ cases_grown (list_any (bytes_eq text) texts) texts text files within
 files_stay false texts after text files within e = ap (λ ts. map (named ts) files) e
+
+has_more : (n m : ℕ) (f : FileTexts) → n ≤ m → HasTexts n f → HasTexts m f
+has_more n m f le within = All-weaker (λ k. k ≤ n) (λ k. k ≤ m) (λ k is. omega arith) f.texts within
+
+-- as texts come, files have no number that there is no text of
+pub still_within : (n m : ℕ) (files : List FileTexts) → n ≤ m → All (HasTexts n) files → All (HasTexts m) files
+still_within n m files le within = All-weaker (HasTexts n) (HasTexts m) (λ f is. has_more n m f le is) files within

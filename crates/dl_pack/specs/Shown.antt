@@ -1,6 +1,6 @@
 -- What names stand for.
 use Rattle.std.specs.Prelude.{ℕ, List, map}
-use Rattle.dl_pack.specs.Named.{Named, file_of}
+use Rattle.dl_pack.specs.Named.{Named, named}
 use Rattle.dl_pack.specs.declared.names.FileTexts.{FileTexts}
 use Rattle.dl_pack.specs.declared.names.Names.{Names}
 
@@ -8,14 +8,10 @@ use Rattle.dl_pack.specs.declared.names.Names.{Names}
 abbrev pub texts_of : Names → List (List ℕ)
 texts_of names = map (λ text. text.items) names.texts.keys
 
--- what a file stands for
-abbrev pub named : List (List ℕ) → FileTexts → Named
-named texts f = file_of texts f.unit f.texts
-
 -- the files, of which number n is the one at place n
 abbrev pub named_files : Names → List Named
-named_files names = map (named (texts_of names)) names.files.items
+named_files names = map (named (texts_of names)) names.files.keys
 
 -- the files as they are kept
 abbrev pub files_of : Names → List FileTexts
-files_of names = names.files.items
+files_of names = names.files.keys

@@ -1,10 +1,9 @@
 //! What the numbers of files stand for.
 
-ghost use Rattle.std.specs.Prelude.{◌≡◌, ◌<◌, ◌^◌, length, Some, slice_get, is_ok, IfOk, if◌then◌else◌};
-ghost use Rattle.dl_pack.specs.Named.{with_text};
-ghost use Rattle.dl_pack.specs.Within.{texts_in};
+ghost use Rattle.std.specs.Prelude.{◌≡◌, ◌+◌, ◌≤◌, ◌<◌, ◌^◌, ℕ, List, length, map, Some, slice_get, is_ok, IfOk, if◌then◌else◌};
 ghost use Rattle.std.specs.List.{All};
-ghost use Rattle.dl_pack.specs.Within.{HasTexts};
+ghost use Rattle.dl_pack.specs.Named.{Once, named, parts_of, text_of, with_text};
+ghost use Rattle.dl_pack.specs.Within.{HasTexts, Packed, texts_in};
 
 use dl_look::NoMemory;
 use indexmap::IndexSet;
@@ -12,7 +11,7 @@ use std::alloc::Global;
 
 /// A file: the offset of its unit in the line section, and the numbers of the texts that its path is made of, from 1;
 /// 0 stands for none.
-#[derive(Debug, Clone, Copy, PartialEq, Eq)]
+#[derive(Debug, Clone, Copy, PartialEq, Eq, Hash)]
 pub struct FileTexts {
     pub unit: u64,
     pub texts: [u32; 3],
@@ -23,16 +22,18 @@ pub struct FileTexts {
 pub struct Names {
     alloc: Global,
     texts: IndexSet<Vec<u8>>,
-    files: Vec<FileTexts>,
+    files: IndexSet<FileTexts>,
     ghost few: { length texts.keys < 2 ^ 32 },
-    ghost within: { All (HasTexts (length texts.keys)) files.items },
+    ghost within: { All (HasTexts (length texts.keys)) files.keys },
+    ghost packed: { All (λ f. Packed f.texts) files.keys },
+    ghost once: { Once (map (named (texts_in texts)) files.keys) },
 }
 
 impl Names {
     ghost use Rattle.std.specs.Prelude.{◌≡◌, ◌+◌, ◌-◌, ◌≤◌, ◌++◌, ◌∷◌, [], Some, length, slice_get, is_ok, IfOk, if◌then◌else◌};
     ghost use Rattle.std.specs.Option.{option_copied, option_map, option_to_list};
-    ghost use Rattle.dl_pack.specs.Named.{text_of, file_of, with_text};
-    ghost use Rattle.dl_pack.specs.Shown.{named, named_files, texts_of};
+    ghost use Rattle.dl_pack.specs.Named.{Grows, Once, named, text_of, file_of, with_text};
+    ghost use Rattle.dl_pack.specs.Shown.{named_files, texts_of};
 
     /// No file, and no text.
     pub fn new(alloc: Global) -> Names
@@ -42,7 +43,7 @@ impl Names {
         Names {
             alloc,
             texts: IndexSet::new(alloc),
-            files: Vec::new(alloc),
+            files: IndexSet::new(alloc),
         }
     }
 
@@ -61,34 +62,24 @@ impl Names {
     }
 
     /// Adds a file, of the unit at this offset, whose path is made of the texts of these numbers; one that stands for no
-    /// text, as 0, is left out. The number of the file is how many there were before.
+    /// text, as 0, is left out. Answers the number of the file: that of the same one, where it was added before.
     pub fn add_file(&mut self, unit: u64, texts: [u32; 3]) -> Result<u64, NoMemory>
-        ensures number { IfOk result (λ n. n ≡ length (named_files self.old)) }
-        ensures files { IfOk result (λ _. named_files self.new ≡ named_files self.old
-            ++ file_of (texts_of self.old) unit texts ∷ []) }
+        ensures number { IfOk result (λ n. slice_get (named_files self.new) n ≡ Some (file_of (texts_of self.old) unit texts)) }
+        ensures grows { Grows (named_files self.old) (named_files self.new) }
+        ensures once { Once (named_files self.new) }
         ensures texts { texts_of self.new ≡ texts_of self.old }
     {
-        let number = self.files.len() as u64;
-        let known = [
-            self.known(texts[0]),
-            self.known(texts[1]),
-            self.known(texts[2]),
-        ];
-        match self.files.push(FileTexts { unit, texts: known }) {
-            Ok(()) => Ok(number),
+        let count = self.texts.len();
+        let [first, second, third] = texts;
+        let texts = packed([
+            known(first, count),
+            known(second, count),
+            known(third, count),
+        ]);
+        let file = FileTexts { unit, texts };
+        match self.files.insert_full(file) {
+            Ok(placed) => Ok(placed.0 as u64),
             Err(_) => Err(NoMemory),
-        }
-    }
-
-    /// The same number; 0 where it stands for no text.
-    fn known(&self, text: u32) -> u32
-        ensures same { text_of (texts_of self.now) result ≡ text_of (texts_of self.now) text }
-        ensures within { result ≤ length self.now.texts.keys }
-    {
-        if text as usize <= self.texts.len() {
-            text
-        } else {
-            0
         }
     }
 
@@ -96,7 +87,7 @@ impl Names {
     pub fn file(&self, number: u64) -> Option<FileTexts>
         ensures { option_map (named (texts_of self.now)) result ≡ slice_get (named_files self.now) number }
     {
-        self.files.as_slice().get(number as usize).copied()
+        self.files.get_index(number as usize).copied()
     }
 
     /// The text of a number; None of 0, and where there is none of it.
@@ -133,7 +124,7 @@ impl Names {
         ensures file { result ≡ get_or (files_of self.now) place no_file }
         ensures within { All (λ text. text ≤ length (texts_of self.now)) result.texts }
     {
-        match self.files.as_slice().get(place) {
+        match self.files.get_index(place) {
             Some(file) => *file,
             None => FileTexts {
                 unit: 0,
@@ -157,6 +148,9 @@ impl Names {
 fn put(alloc: Global, texts: &mut IndexSet<Vec<u8>>, text: &[u8]) -> Result<usize, NoMemory>
     ensures index { IfOk result (λ i. slice_get (texts_in texts.new) i ≡ Some text.now) }
     ensures texts { texts_in texts.new ≡ (if is_ok result then with_text (texts_in texts.old) text.now else texts_in texts.old) }
+    ensures within { IfOk result (λ i. i ≤ length texts.old.keys) }
+    ensures more { length texts.old.keys ≤ length texts.new.keys }
+    ensures few { length texts.new.keys ≤ length texts.old.keys + 1 }
 {
     let Ok(copy) = Vec::from_slice(alloc, text) else {
         return Err(NoMemory);
@@ -164,5 +158,31 @@ fn put(alloc: Global, texts: &mut IndexSet<Vec<u8>>, text: &[u8]) -> Result<usiz
     match texts.insert_full(copy) {
         Ok(placed) => Ok(placed.0),
         Err(_) => Err(NoMemory),
+    }
+}
+
+/// The same number; 0 where there are fewer texts.
+fn known(text: u32, count: usize) -> u32
+    ensures same { (texts : List (List ℕ)) → count ≡ length texts → text_of texts result ≡ text_of texts text }
+    ensures within { result ≤ count }
+{
+    if text as usize <= count { text } else { 0 }
+}
+
+/// The same numbers, those that are 0 last.
+fn packed(texts: [u32; 3]) -> [u32; 3]
+    ensures packed { Packed result }
+    ensures same { (all : List (List ℕ)) → parts_of all result ≡ parts_of all texts }
+    ensures within { (count : ℕ) → All (λ n. n ≤ count) texts → All (λ n. n ≤ count) result }
+{
+    let [first, second, third] = texts;
+    if first == 0 && second == 0 {
+        [third, 0, 0]
+    } else if first == 0 {
+        [second, third, 0]
+    } else if second == 0 {
+        [first, third, 0]
+    } else {
+        texts
     }
 }

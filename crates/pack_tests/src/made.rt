@@ -1,6 +1,6 @@
 //! Bytes of indices, and what they answer.
 
-use crate::sample::{BUILD_ID, EMPTY, INDEX, STRETCHES, has_numbers, names};
+use crate::sample::{BUILD_ID, EMPTY, INDEX, STRETCHES, has_file_numbers, has_numbers, names};
 use dl_index::{IndexRef, open};
 use dl_pack::{Names, index_bytes};
 use dl_stretch::Stretch;
@@ -76,5 +76,11 @@ fn it_is_opened_and_asked(rt: HostRuntime) {
 #[test]
 fn texts_have_their_numbers(rt: HostRuntime) -> Result<(), Fail> {
     assert!(rt; has_numbers(rt.alloc())?);
+    Ok(())
+}
+
+#[test]
+fn files_have_one_number_each(rt: HostRuntime) -> Result<(), Fail> {
+    assert!(rt; has_file_numbers(rt.alloc())?);
     Ok(())
 }
