@@ -200,7 +200,7 @@ pub none_seen : (m : BTreeMap ℕ ℕ) → m.entries ≡ [] → (q k : ℕ) → 
 none_seen m none q k at = none_is_some (sym (ap (lookup (is_at (nat_cmp q))) none) ∙ at)
 
 -- from the end of the numbers on there are no entries
-numbered_past : (first : ℕ) (t : TableData) (n : ℕ) → first + length t.entries ≤ n → entry_numbered first t n ≡ None
+pub numbered_past : (first : ℕ) (t : TableData) (n : ℕ) → first + length t.entries ≤ n → entry_numbered first t n ≡ None
 numbered_past first t n past = by (nat_lt n first) where
   by : (is : Bool)
       → (if is then None else option_map (with_content t.pairs) (slice_get t.entries (n - first))) ≡ None

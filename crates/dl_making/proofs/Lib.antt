@@ -1,0 +1,2 @@
+pub mod TextNumbers
+pub mod NumberLemmas

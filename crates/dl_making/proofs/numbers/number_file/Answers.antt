@@ -1,0 +1,31 @@
+use Rattle.std.proofs.Common.{◌≡◌, refl, sym, ap, ◌∙◌, ◌-◌, min, ℕ, arith, length, vec_len, rules}
+use Rattle.std.specs.Global.{Vec}
+use Rattle.dl_pack.specs.Shown.{named_files}
+use Rattle.dl_making.proofs.NumberLemmas.{seen_set, numbered_set, others_set, numbered_seen, any_default}
+use Rattle.dl_making.proofs.numbers.number_file.Goals as goal
+
+len_of : (v : Vec ℕ) → vec_len v ≡ length v.items
+len_of v = search rules
+
+pub returns-in_ok-numbers-clause-seen : goal.returns-in_ok-numbers-clause-seen
+returns-in_ok-numbers-clause-seen c =
+    seen_set c.args.unit.now (named_files c.args.names.now) (named_files c.file_number.new.names) c.args.numbers.now.items c.min-entry.result
+    c.in_ok-numbers.field-0 (omega (arith, c.requires, c.min-entry.ensures, c.len.ensures, len_of c.args.numbers.now)) c.in_ok-numbers.ensures.grows c.in_ok-numbers.ensures.number
+
+pub returns-in_ok-numbers-clause-numbered : goal.returns-in_ok-numbers-clause-numbered
+returns-in_ok-numbers-clause-numbered c seen =
+    numbered_set c.args.unit.now (named_files c.args.names.now) (named_files c.file_number.new.names) c.args.numbers.now.items c.min-entry.result
+    c.in_ok-numbers.field-0 (omega (arith, c.requires, c.min-entry.ensures, c.len.ensures, len_of c.args.numbers.now)) c.in_ok-numbers.ensures.grows c.in_ok-numbers.ensures.number
+    c.args.file c.ranges.file.fits (c.min-entry.ensures ∙ ap (λ n. min c.args.file (n - 1)) (c.len.ensures ∙ len_of c.args.numbers.now))
+
+pub returns-in_ok-numbers-clause-others : goal.returns-in_ok-numbers-clause-others
+returns-in_ok-numbers-clause-others c =
+    others_set c.args.unit.now (named_files c.args.names.now) (named_files c.file_number.new.names) c.args.numbers.now.items c.min-entry.result
+    c.in_ok-numbers.field-0 (omega (arith, c.requires, c.min-entry.ensures, c.len.ensures, len_of c.args.numbers.now)) c.in_ok-numbers.ensures.grows c.in_ok-numbers.ensures.number
+
+pub returns-else-index-clause-numbered : goal.returns-else-index-clause-numbered
+returns-else-index-clause-numbered c seen =
+    numbered_seen c.args.unit.now (named_files c.args.names.now) (named_files c.args.names.now) c.args.numbers.now.items c.args.file
+    c.min-entry.result c.requires c.ranges.file.fits
+    (c.min-entry.ensures ∙ ap (λ n. min c.args.file (n - 1)) (c.len.ensures ∙ len_of c.args.numbers.now)) (λ e. c.if-index.false (c.index.ensures
+    ∙ any_default c.args.numbers.now.items c.min-entry.result _ (omega (arith, c.requires, c.min-entry.ensures, c.len.ensures, len_of c.args.numbers.now)) ∙ e)) seen

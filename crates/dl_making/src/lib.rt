@@ -1,0 +1,5 @@
+//! Indices of line sections.
+#![tactic(auto)]
+
+mod files;
+mod numbers;

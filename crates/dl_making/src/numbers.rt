@@ -1,0 +1,82 @@
+//! The numbers of the files that a unit's runs name.
+
+ghost use Rattle.std.specs.Prelude.{◌≡◌, ℕ, ◌<◌, ◌^◌, Some, IfOk, OnOk, length, map, slice_get};
+ghost use Rattle.std.specs.List.{Contains};
+ghost use Rattle.std.specs.Option.{option_copied, option_map_or};
+ghost use Rattle.dl_addr.specs.Texts.{files_end};
+ghost use Rattle.dl_pack.specs.Named.{Grows, Once};
+ghost use Rattle.dl_pack.specs.Shown.{named_files};
+ghost use Rattle.dl_stretch.specs.declared.run.Run as each;
+ghost use Rattle.dl_stretch.specs.Runs.{number_in};
+ghost use Rattle.dl_making.specs.Numbers.{AreSeen, IsNumbered};
+ghost use Rattle.dl_making.specs.UnitFile.{file_in};
+
+use crate::files::{UnitFiles, file_number};
+use dl_head::Header;
+use dl_look::NoMemory;
+use dl_pack::Names;
+use dl_stretch::Run;
+use std::alloc::Global;
+
+/// What stands for the number of a file that wasn't looked up.
+const UNSEEN: u64 = 0xffff_ffff_ffff_ffff;
+
+/// The numbers of the files that the runs of a unit name, each at the place of the number that the unit gives it, and
+/// the number of the files past those of the unit's table. What stands at other places says nothing.
+pub(crate) fn numbers_of(
+    alloc: Global,
+    names: &mut Names,
+    unit: &UnitFiles<'_, '_>,
+    runs: &[Run],
+) -> Result<(Vec<u64>, u64), NoMemory>
+    ensures numbers { IfOk result (λ r. (file : ℕ) → Contains (map (λ (x : each.Run). x.told.file) runs.now) file
+        → slice_get (named_files names.new) (number_in r.0.items r.1 file) ≡ Some (file_in unit.now file)) }
+    ensures grows { Grows (named_files names.old) (named_files names.new) }
+    ensures once { Once (named_files names.old) → Once (named_files names.new) }
+{
+    let end = files_end(unit.header);
+    let Ok(mut numbers) = Vec::from_elem(alloc, UNSEEN, end.saturating_add(1)) else {
+        return Err(NoMemory);
+    };
+    for run in runs {
+        number_file(alloc, names, unit, &mut numbers, run.told.file)?;
+    }
+    let other = numbers[end];
+    Ok((numbers, other))
+}
+
+/// A number from which on a unit's table has no files.
+fn files_end(header: Option<&Header>) -> usize
+    ensures { result ≡ option_map_or files_end (option_copied header.entry) 0 }
+{
+    match header {
+        Some(header) => header.first_number().saturating_add(header.files().len() as u64) as usize,
+        None => 0,
+    }
+}
+
+/// Looks the number of a file up, where that wasn't done before.
+fn number_file(
+    alloc: Global,
+    names: &mut Names,
+    unit: &UnitFiles<'_, '_>,
+    numbers: &mut Vec<u64>,
+    file: u64,
+) -> Result<(), NoMemory>
+    requires { 0 < length numbers.old.items }
+    ensures len { length numbers.new.items ≡ length numbers.old.items }
+    ensures seen { OnOk result (AreSeen unit.now (named_files names.old) numbers.old.items
+        → AreSeen unit.now (named_files names.new) numbers.new.items) }
+    ensures numbered { OnOk result (AreSeen unit.now (named_files names.old) numbers.old.items
+        → IsNumbered unit.now (named_files names.new) numbers.new.items file) }
+    ensures others { OnOk result ((other : ℕ) → IsNumbered unit.now (named_files names.old) numbers.old.items other
+        → IsNumbered unit.now (named_files names.new) numbers.new.items other) }
+    ensures grows { Grows (named_files names.old) (named_files names.new) }
+    ensures once { Once (named_files names.old) → Once (named_files names.new) }
+{
+    let entry = (file as usize).min(numbers.len() - 1);
+    if numbers[entry] == UNSEEN {
+        numbers[entry] = file_number(alloc, names, unit, entry as u64)?;
+    }
+    Ok(())
+}
