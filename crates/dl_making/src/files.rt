@@ -1,0 +1,151 @@
+//! The files of units, of which each is kept once with the texts of its path. Sections 3.1.1 and 6.2.4.
+
+ghost use Rattle.std.specs.Prelude.{◌≡◌, ◌≤◌, ◌++◌, [], Some, IfOk, length, slice_get};
+ghost use Rattle.std.specs.Option.{option_copied, option_map, option_map_or};
+ghost use Rattle.dl_path.specs.Parts.{path_apart, path_seen};
+ghost use Rattle.dl_path.specs.PathTexts.{folder, root_of, text_if_any, texts_under};
+ghost use Rattle.dl_pack.specs.Named.{Grows, Once, parts_of, text_of};
+ghost use Rattle.dl_pack.specs.Shown.{named_files, texts_of};
+ghost use Rattle.dl_making.specs.UnitFile.{file_in};
+
+use dl_head::Header;
+use dl_look::NoMemory;
+use dl_pack::Names;
+use dl_path::{Path, is_whole_path, path_of, slash_after};
+use dl_print::StringSections;
+use std::alloc::Global;
+
+/// What a unit says of its files.
+#[derive(Clone, Copy)]
+pub(crate) struct UnitFiles<'a, 'o> {
+    pub(crate) strings: &'a StringSections<'o>,
+    /// None where the unit has no header, and so no file.
+    pub(crate) header: Option<&'a Header>,
+    /// The compilation directory that counts for the unit, if it is known.
+    pub(crate) directory: Option<&'a [u8]>,
+    /// The offset of the unit in the line section.
+    pub(crate) offset: u64,
+}
+
+/// The number of a file of a unit in an index. Where the index has no file of that unit with the same texts, it is
+/// added; one that has no path has no text. `NoMemory` where a growth is refused, or there would be 2^32 texts.
+pub(crate) fn file_number(
+    alloc: Global,
+    names: &mut Names,
+    unit: &UnitFiles<'_, '_>,
+    file: u64,
+) -> Result<u64, NoMemory>
+    ensures number { IfOk result (λ n. slice_get (named_files names.new) n ≡ Some (file_in unit.now file)) }
+    ensures grows { Grows (named_files names.old) (named_files names.new) }
+    ensures once { Once (named_files names.new) }
+{
+    let path = path_of(unit.strings, unit.header, file);
+    let texts = text_numbers(alloc, names, unit.directory, path)?;
+    names.add_file(unit.offset, texts)
+}
+
+/// The numbers of the texts of a path, if there is one, under a compilation directory.
+fn text_numbers(
+    alloc: Global,
+    names: &mut Names,
+    directory: Option<&[u8]>,
+    path: Option<Path<'_>>,
+) -> Result<[u32; 3], NoMemory>
+    ensures texts { IfOk result (λ numbers. parts_of (texts_of names.new) numbers
+        ≡ option_map_or (texts_under (option_copied directory.entry)) (option_map path_apart path.entry) []) }
+    ensures files { named_files names.new ≡ named_files names.old }
+{
+    match path {
+        Some(path) => path_numbers(alloc, names, directory, path),
+        None => Ok([0; 3]),
+    }
+}
+
+/// The numbers of the texts of a path that is known, which are added where they aren't there; 0 for one that is left out.
+fn path_numbers(
+    alloc: Global,
+    names: &mut Names,
+    directory: Option<&[u8]>,
+    path: Path<'_>,
+) -> Result<[u32; 3], NoMemory>
+    ensures texts { IfOk result (λ numbers. parts_of (texts_of names.new) numbers
+        ≡ texts_under (option_copied directory.entry) (path_apart path.entry)) }
+    ensures files { named_files names.new ≡ named_files names.old }
+{
+    let root = root_of(directory, path);
+    let before = folders_number(alloc, names, root, path.base)?;
+    let directory = folders_number(alloc, names, b"", path.directory)?;
+    let name = names.add_text(path.name)?;
+    Ok([before, directory, name])
+}
+
+/// The compilation directory, where it comes before a path; else nothing.
+fn root_of<'a>(directory: Option<&'a [u8]>, path: Path<'_>) -> &'a [u8]
+    ensures { result.now ≡ root_of (option_copied directory.entry) (path_seen path.entry) }
+{
+    if is_whole_path(path) {
+        return b"";
+    }
+    match directory {
+        Some(directory) => directory,
+        None => b"",
+    }
+}
+
+/// The number of the text of two directories, each with what stands between it and a path in it; 0 where that is empty.
+fn folders_number(
+    alloc: Global,
+    names: &mut Names,
+    first: &[u8],
+    second: &[u8],
+) -> Result<u32, NoMemory>
+    ensures text { IfOk result (λ n. text_of (texts_of names.new) n
+        ≡ text_if_any (folder first.now ++ folder second.now)) }
+    ensures within { IfOk result (λ n. n ≤ length (texts_of names.new)) }
+    ensures grows { Grows (texts_of names.old) (texts_of names.new) }
+    ensures files { named_files names.new ≡ named_files names.old }
+{
+    let text = folders(alloc, first, second)?;
+    text_number(names, text.as_slice())
+}
+
+/// The number of a text, which is added where it isn't there; 0 of an empty one.
+fn text_number(names: &mut Names, text: &[u8]) -> Result<u32, NoMemory>
+    ensures text { IfOk result (λ n. text_of (texts_of names.new) n ≡ text_if_any text.now) }
+    ensures within { IfOk result (λ n. n ≤ length (texts_of names.new)) }
+    ensures grows { Grows (texts_of names.old) (texts_of names.new) }
+    ensures files { named_files names.new ≡ named_files names.old }
+{
+    if text.is_empty() {
+        return Ok(0);
+    }
+    names.add_text(text)
+}
+
+/// Two directories, each with what stands between it and a path in it.
+fn folders(alloc: Global, first: &[u8], second: &[u8]) -> Result<Vec<u8>, NoMemory>
+    ensures { IfOk result (λ text. text.items ≡ folder first.now ++ folder second.now) }
+{
+    let mut text = Vec::new(alloc);
+    put_folder(&mut text, first)?;
+    put_folder(&mut text, second)?;
+    Ok(text)
+}
+
+/// Puts a directory after a text, and what stands between it and a path in it.
+fn put_folder(text: &mut Vec<u8>, directory: &[u8]) -> Result<(), NoMemory>
+    ensures { IfOk result (λ _. text.new.items ≡ text.old.items ++ folder directory.now) }
+{
+    put(text, directory)?;
+    put(text, slash_after(directory))
+}
+
+/// Puts bytes after a text.
+fn put(text: &mut Vec<u8>, bytes: &[u8]) -> Result<(), NoMemory>
+    ensures { IfOk result (λ _. text.new.items ≡ text.old.items ++ bytes.now) }
+{
+    match text.extend_from_slice(bytes) {
+        Ok(()) => Ok(()),
+        Err(_) => Err(NoMemory),
+    }
+}

@@ -1,0 +1,4 @@
+//! Indices of line sections.
+#![tactic(auto)]
+
+mod files;
