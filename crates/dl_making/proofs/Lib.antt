@@ -1,2 +1,3 @@
 pub mod TextNumbers
 pub mod NumberLemmas
+pub mod MakerLemmas

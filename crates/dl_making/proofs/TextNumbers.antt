@@ -1,13 +1,12 @@
 -- The numbers of the texts of a path stand for these texts as more texts come.
 use Rattle.std.proofs.Common.{◌≡◌, ℕ, zero, suc, ◌-◌, ◌≤◌, Bool, true, false, List, [], ◌∷◌, ◌++◌, length, Some, arith}
-use Rattle.std.proofs.Common.{append-nil, length-append, refl, sym, ap, ap₂, ◌∙◌}
+use Rattle.std.proofs.Common.{append-nil, length-append, sym, ap, ap₂, ◌∙◌}
 use Rattle.std.specs.Prelude.{if◌then◌else◌, slice_get}
 use Rattle.std.specs.List.{list_any}
 use Rattle.std.specs.Option.{option_to_list}
 use Rattle.std.specs.Str.{bytes_eq}
 use Rattle.dl_pack.specs.Named.{Grows, parts_of, text_of, with_text}
 use Rattle.dl_pack.proofs.NameLemmas.{text_grown}
-
 
 text_stays : (old new : List (List ℕ)) (n : ℕ) → n ≤ length old → Grows old new → text_of new n ≡ text_of old n
 text_stays old new n within (more, is) = ap (λ (texts : List (List ℕ)). text_of texts n) is ∙ text_grown old more n within
@@ -34,6 +33,6 @@ three_texts one two three a b c first second last is within grows is' within' gr
     ap₂ (λ (x y : List (List ℕ)). x ++ y)
     (text_stays two three a later grows' ∙ text_stays one two a within grows ∙ is)
     (ap₂ (λ (x y : List (List ℕ)). x ++ y) (text_stays two three b within' grows' ∙ is') is'')
-    where
-  more : Grows one two → a ≤ length one → a ≤ length two
-  more (texts, e) le = rw e (omega (arith, le, length-append one texts))
+  where
+    more : Grows one two → a ≤ length one → a ≤ length two
+    more (texts, e) le = rw e (omega (arith, le, length-append one texts))

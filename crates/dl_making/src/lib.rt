@@ -1,5 +1,6 @@
-//! Indices of line sections.
+//! The index of a line table, made of its units as they are read.
 #![tactic(auto)]
 
 mod files;
+mod maker;
 mod numbers;

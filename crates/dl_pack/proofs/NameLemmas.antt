@@ -68,7 +68,7 @@ get_grown [] more n lt = absurd (omega arith)
 get_grown (t ∷ texts) more zero lt = refl
 get_grown (t ∷ texts) more (suc n) lt = get_grown texts more n (omega arith)
 
-text_grown : (texts more : List (List ℕ)) (n : ℕ) → n ≤ length texts → text_of (texts ++ more) n ≡ text_of texts n
+pub text_grown : (texts more : List (List ℕ)) (n : ℕ) → n ≤ length texts → text_of (texts ++ more) n ≡ text_of texts n
 text_grown texts more zero le = refl
 text_grown texts more (suc n) le = ap option_to_list (get_grown texts more n (omega arith))
 

@@ -1,7 +1,5 @@
-use Rattle.std.proofs.Common.{◌++◌, [], ap}
-use Rattle.std.specs.Option.{option_copied}
+use Rattle.std.proofs.Common.{◌++◌}
 use Rattle.std.specs.Prelude.{is_ok}
-use Rattle.dl_path.specs.Parts.{path_apart}
 use Rattle.dl_path.specs.PathTexts.{folder, text_if_any}
 use Rattle.dl_pack.specs.Shown.{texts_of}
 use Rattle.dl_making.proofs.TextNumbers.{more_texts, numbered_text, three_texts}

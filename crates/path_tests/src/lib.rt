@@ -1,0 +1,5 @@
+//! Paths of files, in their parts.
+#![tactic(auto)]
+
+#[cfg(test)]
+mod parts;
