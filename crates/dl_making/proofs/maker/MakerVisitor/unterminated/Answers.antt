@@ -1,0 +1,14 @@
+use Rattle.std.proofs.Common.{[], ◌∷◌, refl, subst, sym}
+use Rattle.dl_run.specs.Section.{of_open}
+use Rattle.dl_run.proofs.VisitLemmas.{rows_after-append}
+use Rattle.dl_stretch.specs.Stands.{Stands}
+use Rattle.dl_making.specs.Making.{code_of}
+use Rattle.dl_making.proofs.MakerLemmas.{goes_on}
+use Rattle.dl_making.proofs.maker.MakerVisitor.unterminated.Goals as goal
+
+pub returns : goal.returns
+returns g c first start visits s =
+    let more = of_open ∷ [] in
+    goes_on first c.args.self.now c.args.self.now start (g.W.Write.contents c.args._output.now) visits more s
+    (λ rows n x. refl) (record { code = refl; directories = refl; strings = refl }) refl refl refl
+    (λ units e stands. subst (Stands (code_of first) c.args.self.now.runs units) (sym (rows_after-append [] visits more)) stands)

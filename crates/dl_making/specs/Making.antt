@@ -1,0 +1,83 @@
+-- What a maker of an index is told, and what it keeps of it. No promise rests on this file.
+use Rattle.std.specs.Prelude.{◌≡◌, ℕ, ◌<◌, ◌^◌, Bool, false, List, [], ◌∷◌, ◌++◌, slice_get, Option, Some}
+use Rattle.std.specs.Option.{option_copied, option_map}
+use Rattle.std.specs.Io.KnownBytes.{Appends}
+use Rattle.dl_field.specs.HeaderData.{HeaderData}
+use Rattle.dl_rows.specs.declared.row.Row.{Row}
+use Rattle.dl_look.specs.LiveRows.{live_answer}
+use Rattle.dl_print.specs.ValueText.{strings_of}
+use Rattle.dl_path.specs.Paths.{beside_table, has_directory_0}
+use Rattle.dl_dirs.specs.Compilation.{directory_by}
+use Rattle.dl_run.specs.declared.fault.RunFault.TheVariants.{NoMemory}
+use Rattle.dl_run.specs.Copying.{offset_after}
+use Rattle.dl_run.specs.RowsTold.{rows_after}
+use Rattle.dl_run.specs.Section.{Visit}
+use Rattle.dl_run.specs.Visiting.{Story}
+use Rattle.dl_addr.specs.Code.{is_code}
+use Rattle.dl_addr.specs.Locating.{located_after}
+use Rattle.dl_index.specs.Stretches.{Told}
+use Rattle.dl_stretch.specs.Runs.{place_at}
+use Rattle.dl_stretch.specs.Stands.{Stands}
+use Rattle.dl_stretch.specs.ToldUnits.{UnitRows, told_of_units}
+use Rattle.dl_pack.specs.Named.{Named, Grows, Once}
+use Rattle.dl_pack.specs.Shown.{named_files}
+use Rattle.dl_pack.specs.Telling.{named_told}
+use Rattle.dl_making.specs.declared.maker.Maker.{Maker}
+use Rattle.dl_making.specs.Files.{named_file}
+use Rattle.dl_making.specs.Telling.{told_of}
+
+abbrev pub code_of : Maker → ℕ → Bool
+code_of m = is_code (option_copied m.code)
+
+-- what the visits tell of an address
+abbrev pub told_after : Maker → List Visit → ℕ → Option Told
+told_after first visits a =
+    option_map (told_of (strings_of first.strings.now) (directory_by first.directories))
+    (located_after (code_of first) (place_at a) [] first.unit visits)
+
+-- a file of the current unit, whose header this is
+abbrev pub file_named : Maker → Option HeaderData → ℕ → Named
+file_named m h file =
+    named_file (strings_of m.strings.now) (beside_table (has_directory_0 h) (directory_by m.directories m.unit)) h m.unit file
+
+-- what it was made with, and is told of the section
+pub record IsSame (first now : Maker) : Type 0 where
+  pub code : now.code ≡ first.code
+  pub directories : now.directories ≡ first.directories
+  pub strings : now.strings.now ≡ first.strings.now
+
+-- the runs and the files tell what the visits do
+pub record Tells (first now : Maker) (visits : List Visit) : Type 0 where
+  pub units : List UnitRows
+  pub stands : Stands (code_of first) now.runs units (rows_after [] visits)
+  pub tells : (a : ℕ) → a < 2 ^ 64
+      → option_map (named_told (named_files now.names)) (told_of_units (code_of first) units a)
+      ≡ option_map Some (told_after first visits a)
+  pub once : Once (named_files now.names)
+
+-- it was told these visits; where memory was refused no more is known than that
+pub record Making (first now : Maker) (start held : Option (List ℕ)) (visits : List Visit) : Type 0 where
+  pub same : IsSame first now
+  pub unit : now.unit ≡ offset_after first.unit visits
+  pub tells : now.is_refused ≡ false → Tells first now visits
+  pub nothing : Appends start held []
+
+-- the current unit has ended, with this header: its files have their numbers
+pub record EndsUnit (old new : Maker) (h : Option HeaderData) : Type 0 where
+  pub grows : Grows (named_files old.names) (named_files new.names)
+  pub once : Once (named_files old.names) → Once (named_files new.names)
+  pub number : ℕ → ℕ
+  pub stands : (live : ℕ → Bool) (units : List UnitRows) (rows : List Row) → Stands live old.runs units rows
+      → Stands live new.runs (units ++ record { number = number; rows = rows } ∷ []) []
+  pub numbered : (live : ℕ → Bool) (units : List UnitRows) (rows : List Row) → Stands live old.runs units rows
+      → (a : ℕ) (r : Row) → a < 2 ^ 64 → live_answer live rows (place_at a) ≡ Some r
+      → slice_get (named_files new.names) (number r.file) ≡ Some (file_named old h r.file)
+
+-- nothing is printed, and it stops for want of memory alone
+abbrev pub making_story : Story Maker
+making_story = record {
+  text = λ first visits. [];
+  tells = Making;
+  is_done = λ first new start now visits. ⊥;
+  refuses = λ first visits fault. fault ≡ NoMemory;
+}
