@@ -1,3 +1,5 @@
 pub mod TextNumbers
 pub mod NumberLemmas
 pub mod MakerLemmas
+pub mod IndexLemmas
+pub mod MakingLemmas

@@ -10,16 +10,15 @@ use Rattle.dl_rows.specs.declared.row.Row.{Row}
 use Rattle.dl_rows.specs.declared.sink.Flow.{Flow}
 use Rattle.dl_rows.specs.declared.sink.Flow.TheVariants as flow
 use Rattle.dl_look.specs.declared.place.Place.{Place}
-use Rattle.dl_look.specs.Answer.{answer}
-use Rattle.dl_look.specs.LiveRows.{live_rows, live_answer}
+use Rattle.dl_look.specs.LiveRows.{live_answer}
 use Rattle.dl_look.proofs.LiveLemmas.{of_live_rows}
-use Rattle.dl_print.specs.ValueText.{Strings, strings_of}
+use Rattle.dl_print.specs.ValueText.{strings_of}
 use Rattle.dl_path.specs.Paths.{beside_table, has_directory_0}
 use Rattle.dl_dirs.specs.Compilation.{directory_by}
 use Rattle.dl_run.specs.declared.fault.RunFault.TheVariants as fault
 use Rattle.dl_run.specs.Copying.{offset_after}
 use Rattle.dl_run.specs.RowsTold.{rows_after}
-use Rattle.dl_run.specs.Section.{Visit, of_header, of_version, of_row, of_open, of_end, of_damage}
+use Rattle.dl_run.specs.Section.{Visit, of_end, of_damage}
 use Rattle.dl_run.specs.declared.around.Damage.{Damage}
 use Rattle.dl_run.specs.GoingOn.{IsTold}
 use Rattle.dl_run.specs.Visiting.{GoesOn, StopsIn}
@@ -42,7 +41,7 @@ use Rattle.dl_pack.specs.Shown.{named_files}
 use Rattle.dl_pack.specs.Telling.{named_told, told_as}
 use Rattle.dl_making.specs.declared.files.UnitFiles.{UnitFiles}
 use Rattle.dl_making.specs.declared.maker.Maker.{Maker}
-use Rattle.dl_making.specs.Making.{IsSame, Tells, Making, EndsUnit, code_of, file_named, making_story, told_after}
+use Rattle.dl_making.specs.Making.{IsSame, Making, EndsUnit, code_of, file_named, making_story, told_after}
 use Rattle.dl_making.specs.Telling.{told_of}
 use Rattle.dl_making.specs.UnitFile.{file_in}
 use Rattle.dl_making.proofs.NumberLemmas.{still_there}
@@ -129,25 +128,25 @@ named_grown old new t u grows is = by (slice_get old t.file) refl is where
 
 -- told: by the units before; then the row that answers in the unit that ends
 module _ (old new : List Named) (grows : Grows old new) (number : ℕ → ℕ) (located : Row → Located) (tell : Located → index.Told)
-    where
-  abbrev Right : Option Row → Type 0
-  Right found = (r : Row) → found ≡ Some r → named_told new (runs.told_of number r) ≡ Some (tell (located r))
+  where
+    abbrev Right : Option Row → Type 0
+    Right found = (r : Row) → found ≡ Some r → named_told new (runs.told_of number r) ≡ Some (tell (located r))
 
-  row_told : (found : Option Row) → Right found
-      → option_map (named_told new) (option_map (runs.told_of number) found)
-      ≡ option_map Some (option_map tell (option_map located found))
-  row_told None right = refl
-  row_told (Some r) right = ap Some (right r refl)
+    row_told : (found : Option Row) → Right found
+        → option_map (named_told new) (option_map (runs.told_of number) found)
+        ≡ option_map Some (option_map tell (option_map located found))
+    row_told None right = refl
+    row_told (Some r) right = ap Some (right r refl)
 
-  pub end_told : (told : Option Told) (before : Option Located) (found : Option Row)
-      → option_map (named_told old) told ≡ option_map Some (option_map tell before) → Right found
-      → option_map (named_told new) (option_or told (option_map (runs.told_of number) found))
-      ≡ option_map Some (option_map tell (option_or before (option_map located found)))
-  end_told None None found is right = row_told found right
-  end_told None (Some l) found is right = absurd (none_some (Some (tell l)) is)
-  end_told (Some t) None found is right = absurd (none_some (named_told old t) (sym is))
-  end_told (Some t) (Some l) found is right =
-      ap Some (named_grown old new t (tell l) grows (some_same (named_told old t) (Some (tell l)) is))
+    pub end_told : (told : Option Told) (before : Option Located) (found : Option Row)
+        → option_map (named_told old) told ≡ option_map Some (option_map tell before) → Right found
+        → option_map (named_told new) (option_or told (option_map (runs.told_of number) found))
+        ≡ option_map Some (option_map tell (option_or before (option_map located found)))
+    end_told None None found is right = row_told found right
+    end_told None (Some l) found is right = absurd (none_some (Some (tell l)) is)
+    end_told (Some t) None found is right = absurd (none_some (named_told old t) (sym is))
+    end_told (Some t) (Some l) found is right =
+        ap Some (named_grown old new t (tell l) grows (some_same (named_told old t) (Some (tell l)) is))
 
 module _ (first old new : Maker) (start held : Option (List ℕ)) (visits : List Visit) (h : Option HeaderData)
     (s : Making first old start held visits) (same : IsSame old new) (unit : new.unit ≡ old.unit)
@@ -168,8 +167,11 @@ module _ (first old new : Maker) (start held : Option (List ℕ)) (visits : List
   tell = told_of (strings_of first.strings.now) (directory_by first.directories)
 
   file_same : (file : ℕ) → file_named old h file
-      ≡ record { unit = offset; parts = Rattle.dl_path.specs.PathTexts.path_texts (strings_of first.strings.now)
-      (beside_table (has_directory_0 h) (directory_by first.directories offset)) h file }
+      ≡ record {
+        unit = offset;
+        parts = Rattle.dl_path.specs.PathTexts.path_texts (strings_of first.strings.now)
+            (beside_table (has_directory_0 h) (directory_by first.directories offset)) h file;
+      }
   file_same file =
       ap₂ (λ ss ds. Rattle.dl_making.specs.Files.named_file (strings_of ss) (beside_table (has_directory_0 h) (directory_by ds old.unit)) h old.unit file)
       s.same.strings s.same.directories

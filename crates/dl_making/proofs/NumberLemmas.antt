@@ -1,7 +1,7 @@
 -- The numbers of the files of a unit, as they are looked up.
 use Rattle.std.proofs.Common.{◌≡◌, ◌≢◌, ◌⊎◌, inl, inr, ℕ, zero, suc, ◌+◌, ◌-◌, ◌<◌, ◌≤◌, ◌^◌, min, List, [], ◌∷◌, ◌++◌, length, map, take}
 use Rattle.std.proofs.Common.{Option, Some, None, arith, refl, sym, ap, ◌∙◌, subst}
-use Rattle.std.specs.Prelude.{get_or, slice_get, slice_index_or, slice_set, unwrap_or, option_map}
+use Rattle.std.specs.Prelude.{get_or, slice_get, slice_index_or, slice_set, unwrap_or}
 use Rattle.std.specs.Option.{option_and_then, option_copied, option_map_or}
 use Rattle.std.specs.List.{All, Contains}
 use Rattle.std.proofs.lemmas.List.Elements.{All-contains, All-map, All-more, All-weaker}

@@ -1,6 +1,8 @@
 -- What the public contracts say rests on these, in reading order.
 pub mod Files
 pub mod Telling
+pub mod IsIndexOf
+pub mod Makes
 -- Of contracts inside the crate, and of proofs; no public contract reaches these.
 pub mod UnitFile
 pub mod Numbers

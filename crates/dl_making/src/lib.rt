@@ -3,4 +3,7 @@
 
 mod files;
 mod maker;
+mod making;
 mod numbers;
+
+pub use making::{MadeAround, Table, make_index, make_index_around};

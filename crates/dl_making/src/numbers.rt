@@ -50,7 +50,9 @@ fn files_end(header: Option<&Header>) -> usize
     ensures { result ≡ option_map_or files_end (option_copied header.entry) 0 }
 {
     match header {
-        Some(header) => header.first_number().saturating_add(header.files().len() as u64) as usize,
+        Some(header) => header
+            .first_number()
+            .saturating_add(header.files().len() as u64) as usize,
         None => 0,
     }
 }

@@ -1,4 +1,4 @@
-use Rattle.std.proofs.Common.{◌≡◌, refl, sym, ap, ◌∙◌, ◌-◌, min, ℕ, arith, length, vec_len, rules}
+use Rattle.std.proofs.Common.{◌≡◌, ap, ◌∙◌, ◌-◌, min, ℕ, arith, length, vec_len, rules}
 use Rattle.std.specs.Global.{Vec}
 use Rattle.dl_pack.specs.Shown.{named_files}
 use Rattle.dl_making.proofs.NumberLemmas.{seen_set, numbered_set, others_set, numbered_seen, any_default}

@@ -1,8 +1,7 @@
-use Rattle.std.proofs.Common.{◌≡◌, refl, sym, ap, ◌∙◌, arith, length, subst}
-use Rattle.dl_pack.specs.Named.{Grows}
+use Rattle.std.proofs.Common.{refl, ◌∙◌, arith}
 use Rattle.dl_pack.specs.Shown.{named_files}
 use Rattle.dl_stretch.specs.Made.{no_run}
-use Rattle.dl_making.proofs.NumberLemmas.{numbered_more, numbered_all, grows_trans, grows_none}
+use Rattle.dl_making.proofs.NumberLemmas.{numbered_more, numbered_all, grows_trans}
 use Rattle.dl_making.proofs.numbers.numbers_of.Goals as goal
 
 pub returns-in_err-number_file-clause-grows : goal.returns-in_err-number_file-clause-grows

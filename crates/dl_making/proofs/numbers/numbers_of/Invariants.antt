@@ -1,6 +1,6 @@
 use Rattle.std.proofs.Common.{◌≡◌, ◌+◌, take, length}
 use Rattle.std.specs.List.{All}
-use Rattle.dl_pack.specs.Named.{Grows, Once}
+use Rattle.dl_pack.specs.Named.{Grows}
 use Rattle.dl_pack.specs.Shown.{named_files}
 use Rattle.dl_stretch.specs.declared.run.Run.{Run}
 use Rattle.dl_making.specs.Numbers.{AreSeen, IsNumbered}

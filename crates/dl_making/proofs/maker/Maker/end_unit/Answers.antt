@@ -1,4 +1,4 @@
-use Rattle.std.proofs.Common.{◌≡◌, ◌∙◌, ◌++◌, ◌∷◌, [], ap₂, refl, subst}
+use Rattle.std.proofs.Common.{◌∙◌, ◌++◌, ◌∷◌, [], ap₂, refl, subst}
 use Rattle.dl_path.specs.Paths.{beside_table}
 use Rattle.dl_stretch.specs.Runs.{number_in}
 use Rattle.dl_stretch.specs.Stands.{Stands}

@@ -1,4 +1,4 @@
-use Rattle.std.proofs.Common.{true, refl, subst, ◌∙◌}
+use Rattle.std.proofs.Common.{true, refl, subst}
 use Rattle.dl_run.specs.Section.{of_end}
 use Rattle.dl_making.specs.Making.{EndsUnit}
 use Rattle.dl_making.proofs.MakerLemmas.{ends, stops}
@@ -12,7 +12,7 @@ returns-in-Ok g c first start visits s told =
 
 pub returns : goal.returns
 returns g c first start visits s told =
-    stops first c.args.self.now (record c.end_unit.new.self { is_refused = true; }) start
+    stops first c.args.self.now (record c.end_unit.new.self { is_refused = true }) start
     (g.W.Write.contents c.args._output.now) visits (of_end c.args.header) s
     (let e = c.end_unit.ensures.same in record { code = e.code; directories = e.directories; strings = e.strings })
     c.end_unit.ensures.unit refl

@@ -1,6 +1,5 @@
-use Rattle.std.proofs.Common.{◌≡◌, true, [], ◌∷◌, ◌++◌, refl, subst, sym, ap, ◌∙◌}
+use Rattle.std.proofs.Common.{true, [], ◌∷◌, refl, subst, sym, ap, ◌∙◌}
 use Rattle.std.specs.Option.{option_copied}
-use Rattle.dl_look.specs.FinderRows.{unended}
 use Rattle.dl_run.specs.RowsTold.{rows_after}
 use Rattle.dl_run.specs.Section.{of_row}
 use Rattle.dl_run.proofs.VisitLemmas.{rows_after-append}
@@ -16,7 +15,7 @@ returns-in-Ok g c first start visits s =
     let rows = rows_after [] visits in
     let r = c.args.row.now in
     let more = of_row r ∷ [] in
-    goes_on first c.args.self.now (record c.args.self.now { runs = c.row.new.self; }) start
+    goes_on first c.args.self.now (record c.args.self.now { runs = c.row.new.self }) start
     (g.W.Write.contents c.args._output.now) visits more s
     (λ rows n x. refl) (record { code = refl; directories = refl; strings = refl }) refl refl refl
     (λ units e stands. subst (Stands live c.row.new.self units) (sym (rows_after-append [] visits more))
@@ -25,6 +24,6 @@ returns-in-Ok g c first start visits s =
 
 pub returns-in-Err : goal.returns-in-Err
 returns-in-Err g c first start visits s =
-    stops first c.args.self.now (record c.args.self.now { runs = c.row.new.self; is_refused = true; }) start
+    stops first c.args.self.now (record c.args.self.now { runs = c.row.new.self; is_refused = true }) start
     (g.W.Write.contents c.args._output.now) visits (of_row c.args.row.now) s
     (record { code = refl; directories = refl; strings = refl }) refl refl

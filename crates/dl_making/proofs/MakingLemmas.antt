@@ -1,0 +1,134 @@
+-- What the making of an index comes to.
+use Rattle.std.proofs.Common.{◌≡◌, inl, inr, ℕ, List, [], Option, Ok, Err}
+use Rattle.std.proofs.Common.{arith, ap, ap₂, ◌∙◌}
+use Rattle.std.specs.Prelude.{Bool}
+use Rattle.std.specs.Option.{option_copied, option_map}
+use Rattle.std.specs.Global.{Vec}
+use Rattle.dl_head.specs.declared.dialect.Dialect.{Dialect}
+use Rattle.dl_print.specs.declared.summary.Summary.{Summary}
+use Rattle.dl_print.specs.ValueText.{Strings, strings_of}
+use Rattle.dl_dirs.specs.Compilation.{directory_by}
+use Rattle.dl_run.specs.declared.around.Survey.{Survey}
+use Rattle.dl_run.specs.declared.fault.RunFault.{RunFault}
+use Rattle.dl_run.specs.declared.fault.RunFault.TheVariants as fault
+use Rattle.dl_run.specs.Around.{RanAround, visits_around}
+use Rattle.dl_run.specs.Section.{Visit, section_visits}
+use Rattle.dl_run.specs.Visiting.{Ran}
+use Rattle.dl_addr.specs.Code.{is_code}
+use Rattle.dl_addr.specs.Locating.{located_after}
+use Rattle.dl_addr.specs.Locations.{Located}
+use Rattle.dl_addr.proofs.AroundEnds.{located_of_around}
+use Rattle.dl_addr.proofs.LocatedLemmas.{located_of_section}
+use Rattle.dl_index.specs.Stretches.{Told}
+use Rattle.dl_stretch.specs.Runs.{place_at}
+use Rattle.dl_making.specs.declared.maker.Maker.{Maker}
+use Rattle.dl_making.specs.declared.making.MadeAround.{MadeAround}
+use Rattle.dl_making.specs.declared.making.Table.{Table}
+use Rattle.dl_making.specs.IsIndexOf.{IsIndexOf}
+use Rattle.dl_making.specs.Makes.{Makes, MakesAround, id_kept, told_around, told_in}
+use Rattle.dl_making.specs.Making.{Making, code_of, making_story, told_after}
+use Rattle.dl_making.specs.Telling.{told_of}
+
+-- of what tells the same
+same_index : (all : Bool) (build_id : List ℕ) (f g : ℕ → Option Told) (b : List ℕ) → ((a : ℕ) → f a ≡ g a)
+    → IsIndexOf all build_id f b → IsIndexOf all build_id g b
+same_index all build_id f g b same is = record {
+  is_index = is.is_index;
+  right = λ a lt. is.right a lt ∙ same a;
+  apart = is.apart;
+  first = is.first;
+  stretches = is.stretches;
+  files = is.files;
+  texts = is.texts;
+  written = is.written;
+}
+
+-- a maker that is made with a table
+pub record Knows (first : Maker) (table : Table) (s : Strings) : Type 0 where
+  pub code : first.code ≡ table.code
+  pub directories : first.directories ≡ table.directories
+  pub strings : strings_of first.strings.now ≡ s
+
+module _ (dialect : Dialect) (first : Maker) (table : Table) (s : Strings) (knows : Knows first table s) where
+  told_same : (visits : List Visit) (a : ℕ) (look_up : (ℕ → Bool) → Option Located)
+      → ((live : ℕ → Bool) → located_after live (place_at a) [] first.unit visits ≡ look_up live)
+      → told_after first visits a
+      ≡ option_map (told_of s (directory_by table.directories)) (look_up (is_code (option_copied table.code)))
+  told_same visits a look_up is =
+      ap (option_map (told_of (strings_of first.strings.now) (directory_by first.directories))) (is (code_of first)
+      ∙ ap (λ code. look_up (is_code (option_copied code))) knows.code)
+      ∙ ap₂ (λ ss ds. option_map (told_of ss (directory_by ds)) (look_up (is_code (option_copied table.code))))
+      knows.strings knows.directories
+
+  module _ (limit : ℕ) (bytes : List ℕ) (left : Option (List ℕ)) (new : Maker) (start now : Option (List ℕ)) where
+    pub makes : (summary : Summary) (index : Vec ℕ)
+        → Ran making_story dialect limit bytes left first new start now (Ok summary)
+        → ((visits : List Visit) → Making first new start now visits
+        → IsIndexOf table.all (id_kept table) (told_after first visits) index.items)
+        → Makes dialect s table limit bytes left (Ok index)
+    makes summary index (inl (units, ends, settled)) made = (
+      units,
+      summary,
+      ends,
+      same_index table.all (id_kept table) (told_after first (section_visits dialect units []))
+          (told_in dialect s table units) index.items
+          (λ a. told_same (section_visits dialect units []) a
+          (λ live. Rattle.dl_addr.specs.Locations.located dialect live units (place_at a))
+          (λ live. located_of_section live (place_at a) dialect first.unit units []))
+          (made (section_visits dialect units []) settled.tells),
+    )
+    makes summary index (inr done) made = absurd done.4.tells
+
+    pub fails : (f : RunFault) → Ran making_story dialect limit bytes left first new start now (Err f)
+        → Makes dialect s table limit bytes left (Err f)
+    fails (fault.Write out) (units, b, back, has, writes) = absurd (let below = writes.3.0 in omega arith)
+    fails fault.NoMemory ran = tt
+    fails (fault.Damage offset kind) (units, b, back, inl (ends, settled)) = (units, b, back, ends)
+    fails (fault.Damage offset kind) (units, b, back, inr (has, sound, stops)) = absurd (let e = stops.reason in cc)
+    fails fault.Read (units, b, back, inl (ends, settled)) = (units, b, back, ends)
+    fails fault.Read (units, b, back, inr (has, sound, stops)) = absurd (let e = stops.reason in cc)
+    fails fault.SectionTooLong (units, b, back, inl (ends, settled)) = (units, b, back, ends)
+    fails fault.SectionTooLong (units, b, back, inr (has, sound, stops)) = absurd (let e = stops.reason in cc)
+    fails fault.NotFound (units, b, back, inl (ends, settled)) = (units, b, back, ends)
+    fails fault.NotFound (units, b, back, inr (has, sound, stops)) = absurd (let e = stops.reason in cc)
+    fails (fault.ForeignUnit unit) (units, b, back, inl (ends, settled)) = (units, b, back, ends)
+    fails (fault.ForeignUnit unit) (units, b, back, inr (has, sound, stops)) = absurd (let e = stops.reason in cc)
+    fails (fault.Emit unit e) (units, b, back, inl (ends, settled)) = (units, b, back, ends)
+    fails (fault.Emit unit e) (units, b, back, inr (has, sound, stops)) = absurd (let r = stops.reason in cc)
+
+    pub makes_around : (survey : Survey) (made : MadeAround) → made.damaged ≡ survey.damaged
+        → RanAround making_story dialect limit bytes left first new start now (Ok survey)
+        → ((visits : List Visit) → Making first new start now visits
+        → IsIndexOf table.all (id_kept table) (told_after first visits) made.index.items)
+        → MakesAround dialect s table limit bytes left (Ok made)
+    makes_around survey made damaged (inl (blocks, rest, ends, settled)) is_made = (
+      blocks,
+      rest,
+      survey,
+      ends,
+      damaged,
+      same_index table.all (id_kept table) (told_after first (visits_around dialect blocks rest))
+          (told_around dialect s table blocks) made.index.items
+          (λ a. told_same (visits_around dialect blocks rest) a
+          (λ live. Rattle.dl_addr.specs.AroundCommands.located_around dialect live blocks (place_at a))
+          (λ live. located_of_around dialect live (place_at a) first.unit blocks rest))
+          (is_made (visits_around dialect blocks rest) settled.tells),
+    )
+    makes_around survey made damaged (inr done) is_made = absurd done.4.tells
+
+    pub fails_around : (f : RunFault) → RanAround making_story dialect limit bytes left first new start now (Err f)
+        → MakesAround dialect s table limit bytes left (Err f)
+    fails_around (fault.Write out) (blocks, rest, others, cut, writes) = absurd (let below = writes.3.0 in omega arith)
+    fails_around fault.NoMemory ran = tt
+    fails_around (fault.Damage offset kind) (blocks, rest, inl (ends, settled)) = (blocks, rest, ends)
+    fails_around (fault.Damage offset kind) (blocks, rest, inr stops) = absurd (let e = stops.3.reason in cc)
+    fails_around fault.Read (blocks, rest, inl (ends, settled)) = (blocks, rest, ends)
+    fails_around fault.Read (blocks, rest, inr stops) = absurd (let e = stops.3.reason in cc)
+    fails_around fault.SectionTooLong (blocks, rest, inl (ends, settled)) = (blocks, rest, ends)
+    fails_around fault.SectionTooLong (blocks, rest, inr stops) = absurd (let e = stops.3.reason in cc)
+    fails_around fault.NotFound (blocks, rest, inl (ends, settled)) = (blocks, rest, ends)
+    fails_around fault.NotFound (blocks, rest, inr stops) = absurd (let e = stops.3.reason in cc)
+    fails_around (fault.ForeignUnit unit) (blocks, rest, inl (ends, settled)) = (blocks, rest, ends)
+    fails_around (fault.ForeignUnit unit) (blocks, rest, inr stops) = absurd (let e = stops.3.reason in cc)
+    fails_around (fault.Emit unit e) (blocks, rest, inl (ends, settled)) = (blocks, rest, ends)
+    fails_around (fault.Emit unit e) (blocks, rest, inr stops) = absurd (let r = stops.3.reason in cc)

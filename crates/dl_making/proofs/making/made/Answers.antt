@@ -1,0 +1,34 @@
+use Rattle.std.proofs.Common.{◌<◌, ◌∙◌, ap, sym, subst, ℕ, List, [], length, map}
+use Rattle.std.specs.List.{All}
+use Rattle.std.proofs.lemmas.List.{length-map}
+use Rattle.dl_run.specs.RowsTold.{rows_after}
+use Rattle.dl_stretch.specs.declared.stretch.Stretch.{Stretch}
+use Rattle.dl_stretch.specs.ToldUnits.{told_of_units}
+use Rattle.dl_pack.specs.IndexOf.{files_told, index_of}
+use Rattle.dl_pack.specs.Named.{named}
+use Rattle.dl_pack.specs.Shown.{files_of, named_files, texts_of}
+use Rattle.dl_pack.specs.Telling.{StretchesRise}
+use Rattle.dl_making.specs.Makes.{id_kept}
+use Rattle.dl_making.specs.Making.{code_of, told_after}
+use Rattle.dl_making.proofs.IndexLemmas.{is_index_of, rise}
+use Rattle.dl_making.proofs.making.made.Goals as goal
+
+pub returns-in-Ok : goal.returns-in-Ok
+returns-in-Ok c first start held visits m =
+    let t = m.tells c.if-maker.false in
+    let names = c.args.maker.now.names in
+    let are = c.in_ok-stretches.ensures (code_of first) t.units (rows_after [] visits) t.stands in
+    let stretches = c.in_ok-stretches.stretches.items in
+    let here = c.as_slice.ensures.value in
+    let made = c.in-Ok.ensures in
+    is_index_of c.args.table.now.all (id_kept c.args.table.now) (told_after first visits) (told_of_units (code_of first) t.units)
+    c.in-Ok.index.items stretches (files_of names) (texts_of names) (named_files names) are t.once
+    (subst (λ (l : List Stretch). All (λ file. file < length (named_files names)) (files_told l)) here
+    (subst (λ (n : ℕ). All (λ file. file < n) (files_told c.as_slice.result.now))
+    (sym (length-map (files_of names) (named (texts_of names)))) made.named))
+    t.tells (made.opens (subst StretchesRise (sym here) (rise stretches are.apart)))
+    (made.tells (subst StretchesRise (sym here) (rise stretches are.apart))
+    ∙ ap (map (Rattle.dl_pack.specs.Telling.named_stretch (named_files names))) here)
+    (made.made
+    ∙ ap (λ l. index_of c.args.table.now.all c.front.result.now l (files_of names) (texts_of names)) here
+    ∙ ap (λ id. index_of c.args.table.now.all id stretches (files_of names) (texts_of names)) c.front.ensures)

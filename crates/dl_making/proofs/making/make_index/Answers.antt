@@ -1,0 +1,42 @@
+use Rattle.std.proofs.Common.{None, ap, ◌∙◌}
+use Rattle.std.proofs.KnownBytes.{Appends-nil}
+use Rattle.dl_print.specs.ValueText.{strings_of}
+use Rattle.dl_run.proofs.Names.{err_from_is_err_and}
+use Rattle.dl_run.specs.Commands.{strings_in}
+use Rattle.dl_making.proofs.MakerLemmas.{begins}
+use Rattle.dl_making.proofs.MakingLemmas.{Knows, fails, makes}
+use Rattle.dl_making.proofs.making.make_index.Goals as goal
+
+pub returns-in_err-read_units : goal.returns-in_err-read_units
+returns-in_err-read_units g c =
+    let p = err_from_is_err_and c.from_residual.result c.from_residual.ensures.1 in
+    let read = c.in_err-read_units.ensures in
+    let maker = c.new-maker.ensures in
+    let options = c.args.options.now in
+    let first = c.new-maker.result in
+    let knows : Knows first c.args.table.now (strings_in options) =
+    record { code = maker.code; directories = maker.directories; strings = ap strings_of maker.strings ∙ c.new-strings.ensures } in
+    rw (p.1, p.2) (
+      read.0,
+      read.1,
+      fails options.dialect first c.args.table.now (strings_in options) knows options.limit read.0
+          (g.R.Read.remaining c.read_units.new.input) c.read_units.new.visitor None None _
+          (read.2 (begins first None maker.runs maker.names (Appends-nil None)) (Appends-nil None)),
+    )
+
+pub returns-in-Ok : goal.returns-in-Ok
+returns-in-Ok g c =
+    let read = c.in_ok-read_units.ensures in
+    let maker = c.new-maker.ensures in
+    let options = c.args.options.now in
+    let first = c.new-maker.result in
+    let new = c.read_units.new.visitor in
+    let knows : Knows first c.args.table.now (strings_in options) =
+    record { code = maker.code; directories = maker.directories; strings = ap strings_of maker.strings ∙ c.new-strings.ensures } in (
+      read.0,
+      read.1,
+      makes options.dialect first c.args.table.now (strings_in options) knows options.limit read.0
+          (g.R.Read.remaining c.read_units.new.input) new None None c.in_ok-read_units.field-0 c.in-Ok.index
+          (read.2 (begins first None maker.runs maker.names (Appends-nil None)) (Appends-nil None))
+          (λ visits m. c.in-Ok.ensures first None None visits m),
+    )

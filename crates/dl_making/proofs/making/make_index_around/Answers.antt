@@ -1,0 +1,43 @@
+use Rattle.std.proofs.Common.{None, ap, refl, ◌∙◌}
+use Rattle.std.proofs.KnownBytes.{Appends-nil}
+use Rattle.dl_print.specs.ValueText.{strings_of}
+use Rattle.dl_run.proofs.Names.{err_from_is_err_and}
+use Rattle.dl_run.specs.Commands.{strings_in}
+use Rattle.dl_making.proofs.MakerLemmas.{begins}
+use Rattle.dl_making.proofs.MakingLemmas.{Knows, fails_around, makes_around}
+use Rattle.dl_making.proofs.making.make_index_around.Goals as goal
+
+pub returns-in_err-survey : goal.returns-in_err-survey
+returns-in_err-survey g c =
+    let p = err_from_is_err_and c.from_residual.result c.from_residual.ensures.1 in
+    let read = c.in_err-survey.ensures in
+    let maker = c.new-maker.ensures in
+    let options = c.args.options.now in
+    let first = c.new-maker.result in
+    let knows : Knows first c.args.table.now (strings_in options) =
+    record { code = maker.code; directories = maker.directories; strings = ap strings_of maker.strings ∙ c.new-strings.ensures } in
+    rw (p.1, p.2) (
+      read.0,
+      read.1,
+      fails_around options.dialect first c.args.table.now (strings_in options) knows options.limit read.0
+          (g.R.Read.remaining c.read_units_around.new.input) c.read_units_around.new.visitor None None _
+          (read.2 (begins first None maker.runs maker.names (Appends-nil None)) (Appends-nil None)),
+    )
+
+pub returns-in-Ok : goal.returns-in-Ok
+returns-in-Ok g c =
+    let read = c.in_ok-survey.ensures in
+    let maker = c.new-maker.ensures in
+    let options = c.args.options.now in
+    let first = c.new-maker.result in
+    let new = c.read_units_around.new.visitor in
+    let knows : Knows first c.args.table.now (strings_in options) =
+    record { code = maker.code; directories = maker.directories; strings = ap strings_of maker.strings ∙ c.new-strings.ensures } in (
+      read.0,
+      read.1,
+      makes_around options.dialect first c.args.table.now (strings_in options) knows options.limit read.0
+          (g.R.Read.remaining c.read_units_around.new.input) new None None c.in_ok-survey.survey
+          (record { index = c.in-Ok.index; damaged = c.in_ok-survey.survey.damaged }) refl
+          (read.2 (begins first None maker.runs maker.names (Appends-nil None)) (Appends-nil None))
+          (λ visits m. c.in-Ok.ensures first None None visits m),
+    )

@@ -1,0 +1,123 @@
+//! The index of the units of a section. Section 6.2.4.
+
+ghost use Rattle.std.specs.Prelude.{◌≡◌, ◌≤◌, ℕ, List, Option, IfOk, take};
+ghost use Rattle.std.specs.Io.KnownBytes.{Consumes};
+ghost use Rattle.dl_run.specs.Commands.{strings_in};
+ghost use Rattle.dl_run.specs.Section.{Visit};
+ghost use Rattle.dl_making.specs.declared.maker.Maker as makers;
+ghost use Rattle.dl_making.specs.IsIndexOf.{IsIndexOf};
+ghost use Rattle.dl_making.specs.Makes.{Makes, MakesAround, id_kept};
+ghost use Rattle.dl_making.specs.Making.{Making, told_after};
+
+use crate::maker::Maker;
+use dl_dirs::CompilationDirectories;
+use dl_look::{CodeRanges, NoMemory};
+use dl_pack::index_bytes;
+use dl_print::StringSections;
+use dl_run::{DamagedUnits, Options, RunFault, SECTION_LIMIT, read_units, read_units_around};
+use std::alloc::Global;
+use std::io;
+use std::io::Read;
+
+/// What an index is made with, beside the section.
+#[derive(Clone, Copy)]
+pub struct Table<'a> {
+    /// Where there is code: a sequence is told where its first address is one of these. None: each sequence is told.
+    pub code: Option<&'a CodeRanges>,
+    /// Where paths stand that aren't whole.
+    pub directories: CompilationDirectories<'a>,
+    /// Whether each sequence was asked for, which the index says.
+    pub all: bool,
+    /// The build ID of the file; of a longer one its first 32 bytes are kept.
+    pub build_id: &'a [u8],
+}
+
+/// The index of a section of which units may be damaged.
+#[derive(Drop)]
+pub struct MadeAround {
+    pub index: Vec<u8>,
+    pub damaged: Option<DamagedUnits>,
+}
+
+/// Makes the index of a section: the bytes that answer each address as the units of the section do, in their order.
+///
+/// The faults are those of `check`, but for failed writes; `NoMemory` also where a growth is refused for the runs of
+/// rows, for files and texts, or for the index, and where there would be 2^32 texts.
+pub fn make_index<R: Read>(
+    alloc: Global,
+    input: &mut R,
+    table: &Table<'_>,
+    options: &Options<'_>,
+) -> Result<Vec<u8>, RunFault>
+    requires { options.now.limit ≤ SECTION_LIMIT }
+    ensures { (bs : List ℕ) × Consumes (R.remaining input.old) (R.remaining input.new) bs
+        × Makes options.now.dialect (strings_in options.now) table.now options.now.limit bs (R.remaining input.new) result }
+{
+    let strings = StringSections::new(options.debug_line_str, options.debug_str);
+    let mut maker = Maker::new(alloc, &strings, table.code, table.directories);
+    read_units(alloc, input, &mut io::sink(), options, &mut maker)?;
+    match made(alloc, &maker, table) {
+        Ok(index) => Ok(index),
+        Err(NoMemory) => Err(RunFault::NoMemory),
+    }
+}
+
+/// Makes the index of a section as `make_index` does, and goes on after units that are damaged, of which nothing is
+/// told.
+///
+/// The section is read as `read_units_around` reads it. The faults are those of `make_index` but for `Damage`: of damaged
+/// units the answer says what is wrong with the first, and how many others there are.
+pub fn make_index_around<R: Read>(
+    alloc: Global,
+    input: &mut R,
+    table: &Table<'_>,
+    options: &Options<'_>,
+) -> Result<MadeAround, RunFault>
+    requires { options.now.limit ≤ SECTION_LIMIT }
+    ensures { (bs : List ℕ) × Consumes (R.remaining input.old) (R.remaining input.new) bs
+        × MakesAround options.now.dialect (strings_in options.now) table.now options.now.limit bs (R.remaining input.new) result }
+{
+    let strings = StringSections::new(options.debug_line_str, options.debug_str);
+    let mut maker = Maker::new(alloc, &strings, table.code, table.directories);
+    let survey = read_units_around(alloc, input, &mut io::sink(), options, &mut maker)?;
+    match made(alloc, &maker, table) {
+        Ok(index) => Ok(MadeAround {
+            index,
+            damaged: survey.damaged,
+        }),
+        Err(NoMemory) => Err(RunFault::NoMemory),
+    }
+}
+
+/// The index of what a maker was told.
+fn made(alloc: Global, maker: &Maker<'_, '_, '_>, table: &Table<'_>) -> Result<Vec<u8>, NoMemory>
+    ensures { IfOk result (λ index. (first : makers.Maker) (start held : Option (List ℕ)) (visits : List Visit)
+        → Making first maker.now start held visits
+        → IsIndexOf table.now.all (id_kept table.now) (told_after first visits) index.items) }
+{
+    if maker.is_refused {
+        return Err(NoMemory);
+    }
+    let stretches = maker.runs.stretches(alloc)?;
+    match index_bytes(
+        alloc,
+        stretches.as_slice(),
+        &maker.names,
+        table.all,
+        front(table.build_id),
+    ) {
+        Ok(index) => Ok(index),
+        Err(_) => Err(NoMemory),
+    }
+}
+
+/// The first 32 bytes.
+fn front(build_id: &[u8]) -> &[u8]
+    ensures { result.now ≡ take 32 build_id.now }
+{
+    if build_id.len() <= 32 {
+        build_id
+    } else {
+        &build_id[..32]
+    }
+}
