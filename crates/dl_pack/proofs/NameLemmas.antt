@@ -72,7 +72,7 @@ text_grown : (texts more : List (List ℕ)) (n : ℕ) → n ≤ length texts →
 text_grown texts more zero le = refl
 text_grown texts more (suc n) le = ap option_to_list (get_grown texts more n (omega arith))
 
-within_at : (count : ℕ) (numbers : List ℕ) (i : ℕ) → All (λ n. n ≤ count) numbers → get_or numbers i 0 ≤ count
+pub within_at : (count : ℕ) (numbers : List ℕ) (i : ℕ) → All (λ n. n ≤ count) numbers → get_or numbers i 0 ≤ count
 within_at count [] i within = omega arith
 within_at count (n ∷ numbers) zero within = All-head (λ n. n ≤ count) n numbers within
 within_at count (n ∷ numbers) (suc i) within =

@@ -5,7 +5,9 @@ pub mod Numbering
 pub mod Columns
 pub mod Tables
 pub mod IndexOf
+pub mod Telling
 -- For what a value stands; public contracts name this, and don't rest on how it is said.
 pub mod Within
 -- Of contracts inside the crate, and of proofs; no public contract reaches these.
 pub mod Mentioned
+pub mod Fits
