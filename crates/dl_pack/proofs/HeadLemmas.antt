@@ -1,6 +1,6 @@
 -- What the header says reads back.
 use Rattle.std.proofs.Common.{◌≡◌, ℕ, ◌+◌, ◌-◌, ◌<◌, ◌≤◌, ◌^◌, List, [], ◌∷◌, ◌++◌, length, take, drop, replicate, codes}
-use Rattle.std.proofs.Common.{refl, sym, ap, ◌∙◌, arith, length-append}
+use Rattle.std.proofs.Common.{refl, sym, ap, ◌∙◌, arith, subst, get_or, length-append, length-drop}
 use Rattle.std.proofs.lemmas.List.{length-replicate}
 use Rattle.std.proofs.Math.Seq.{drop-append_seam, take-append_seam}
 use Rattle.dl_num.specs.declared.fixed.Order.TheVariants.{Little}
@@ -8,7 +8,9 @@ use Rattle.dl_num.proofs.FixedLaws.{fixed_reads_back}
 use Rattle.dl_index.specs.Layout.{field, version_in, length_in, base_in, count_in, files_in, texts_in, text_bytes_in}
 use Rattle.dl_index.specs.Layout.{width_in, build_id_len_in}
 use Rattle.dl_index.specs.IsIndex.{summed_header}
-use Rattle.dl_pack.specs.IndexOf.{header_front, header_back, header_with}
+use Rattle.dl_crc.specs.Crc32.{crc_32}
+use Rattle.dl_pack.specs.IndexOf.{header_front, header_back, header_with, whole_of}
+use Rattle.dl_pack.specs.Fits.{SumsFit}
 use Rattle.dl_pack.proofs.WholeLemmas.{header_len}
 
 -- the numbers of a header
@@ -125,3 +127,68 @@ said h build_id body room short = record {
   rest = body_said h build_id body short;
   whole = whole_said h build_id body short;
 }
+
+five_cells : (w : List ℕ) → length w ≡ 5
+    → get_or w 0 0 ∷ get_or w 1 0 ∷ get_or w 2 0 ∷ get_or w 3 0 ∷ get_or w 4 0 ∷ [] ≡ w
+five_cells [] e = absurd (omega arith)
+five_cells (a ∷ []) e = absurd (omega arith)
+five_cells (a ∷ b ∷ []) e = absurd (omega arith)
+five_cells (a ∷ b ∷ c ∷ []) e = absurd (omega arith)
+five_cells (a ∷ b ∷ c ∷ d ∷ []) e = absurd (omega arith)
+five_cells (a ∷ b ∷ c ∷ d ∷ f ∷ []) e = refl
+five_cells (a ∷ b ∷ c ∷ d ∷ f ∷ g ∷ w) e = absurd (omega arith)
+
+sums_by : (h : Head) (build_id body : List ℕ) → length build_id ≤ 32 → 128 + length body < 2 ^ 64
+    → crc_32 (header_with (front_by h) build_id 0) < 2 ^ 32 → crc_32 body < 2 ^ 32
+    → SumsFit (whole_by h build_id body)
+sums_by h build_id body short len header sum = record {
+  len = omega (arith, whole_said h build_id body short);
+  header = subst (λ bytes. crc_32 bytes < 2 ^ 32) (sym (summed_said h build_id body short)) header;
+  body = subst (λ bytes. crc_32 bytes < 2 ^ 32) (sym (body_said h build_id body short)) sum;
+}
+
+pub sums_whole : (flags base count files texts text_bytes : ℕ) (widths build_id body : List ℕ) → length widths ≡ 5
+    → length build_id ≤ 32 → 128 + length body < 2 ^ 64 → crc_32 body < 2 ^ 32
+    → crc_32 (header_with (header_front flags ((128 + length body) ∷ base ∷ count ∷ files ∷ texts ∷ text_bytes ∷ []) widths (crc_32 body)) build_id 0) < 2 ^ 32
+    → SumsFit (whole_of flags base count files texts text_bytes widths build_id body)
+sums_whole flags base count files texts text_bytes widths build_id body five short len sum =
+    let front : List ℕ → List ℕ = λ w.
+    header_front flags ((128 + length body) ∷ base ∷ count ∷ files ∷ texts ∷ text_bytes ∷ []) w (crc_32 body) in
+    let cells : List ℕ =
+    get_or widths 0 0 ∷ get_or widths 1 0 ∷ get_or widths 2 0 ∷ get_or widths 3 0 ∷ get_or widths 4 0 ∷ [] in
+    let h : Head = record {
+      flags = flags;
+      len = 128 + length body;
+      base = base;
+      count = count;
+      files = files;
+      texts = texts;
+      text_bytes = text_bytes;
+      starts = get_or widths 0 0;
+      numbers = get_or widths 1 0;
+      lines = get_or widths 2 0;
+      columns = get_or widths 3 0;
+      discriminators = get_or widths 4 0;
+      sum = crc_32 body;
+      own = crc_32 (header_with (front cells) build_id 0);
+    } in
+    subst
+    (λ w. crc_32 (header_with (front w) build_id 0) < 2 ^ 32
+    → SumsFit (whole_of flags base count files texts text_bytes w build_id body))
+    (five_cells widths five) (λ header. sums_by h build_id body short len header sum)
+
+-- the sums of bytes in whose place the header was put
+pub filled_sums : (len : ℕ) (items after : List ℕ) (flags base count files texts text_bytes sum : ℕ)
+    (widths build_id : List ℕ) → len ≡ length items → len < 2 ^ 64 → 128 ≤ length items → length widths ≡ 5
+    → length build_id ≤ 32 → sum ≡ crc_32 (drop 128 items) → sum < 2 ^ 32
+    → crc_32 (header_with (header_front flags (len ∷ base ∷ count ∷ files ∷ texts ∷ text_bytes ∷ []) widths sum) build_id 0) < 2 ^ 32
+    → after ≡ whole_of flags base count files texts text_bytes widths build_id (drop 128 items) → SumsFit after
+filled_sums len items after flags base count files texts text_bytes sum widths build_id same small room five short sum_is sum_small header is =
+    let body : List ℕ = drop 128 items in
+    let len_is : len ≡ 128 + length body = omega (arith, length-drop 128 items) in
+    let all : 128 + length body < 2 ^ 64 = omega arith in
+    subst SumsFit (sym is)
+    (sums_whole flags base count files texts text_bytes widths build_id body five short all
+    (subst (λ n. n < 2 ^ 32) sum_is sum_small)
+    (subst (λ s. crc_32 (header_with (header_front flags ((128 + length body) ∷ base ∷ count ∷ files ∷ texts ∷ text_bytes ∷ []) widths s) build_id 0) < 2 ^ 32) sum_is
+    (subst (λ n. crc_32 (header_with (header_front flags (n ∷ base ∷ count ∷ files ∷ texts ∷ text_bytes ∷ []) widths sum) build_id 0) < 2 ^ 32) len_is header)))

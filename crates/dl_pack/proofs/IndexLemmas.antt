@@ -17,7 +17,7 @@ use Rattle.dl_pack.specs.Columns.{told_number, column_of, greatest, width_by}
 use Rattle.dl_pack.specs.Tables.{texts_at}
 use Rattle.dl_pack.specs.IndexOf.{base_of, parts_by, body_by, index_by}
 use Rattle.dl_pack.specs.Telling.{StretchesRise}
-use Rattle.dl_pack.specs.Fits.{SumsFit, Fits}
+use Rattle.dl_pack.specs.Fits.{SumsFit, GivenFits}
 use Rattle.dl_pack.proofs.HeadLemmas.{Says}
 use Rattle.dl_pack.proofs.PartLemmas.{head_of, sizes_are, index_says}
 use Rattle.dl_pack.proofs.CutLemmas.{parts_len}
@@ -116,7 +116,7 @@ module _ (files_first texts_first : List ℕ) (stretches : List Stretch) (files 
 
 -- the bytes of an index are well-formed
 pub is_index : (all : Bool) (build_id files_first texts_first : List ℕ) (stretches : List Stretch) (files : List FileTexts)
-    (texts : List (List ℕ)) → length build_id ≤ 32 → Fits files_first texts_first stretches files texts
+    (texts : List (List ℕ)) → length build_id ≤ 32 → GivenFits files_first texts_first stretches files texts
     → SumsFit (index_by all build_id files_first texts_first stretches files texts) → StretchesRise stretches
     → IsIndex (index_by all build_id files_first texts_first stretches files texts)
 is_index all build_id files_first texts_first stretches files texts short fits sums rise =

@@ -15,7 +15,7 @@ use Rattle.dl_pack.specs.declared.columns.Column.TheVariants as columns
 use Rattle.dl_pack.specs.Columns.{column_of, number_of, told_number, greatest, width_by, part_by, told_bit}
 use Rattle.dl_pack.specs.Tables.{text_number, texts_at, total_len}
 use Rattle.dl_pack.specs.IndexOf.{base_of, parts_by, body_by}
-use Rattle.dl_pack.specs.Fits.{Fits}
+use Rattle.dl_pack.specs.Fits.{GivenFits}
 use Rattle.dl_pack.proofs.HeadLemmas.{Says}
 use Rattle.dl_pack.proofs.PartLemmas.{head_of, sizes_are, part_is}
 use Rattle.dl_pack.proofs.ReadLemmas.{no_stretch, column_read, bit_read, file_in_order, unit_read, text_read}
@@ -59,7 +59,7 @@ column_kept base order stretches kind b i width bytes small k lt =
 
 -- the bytes of an index keep what it is made of
 pub index_keeps : (all : Bool) (build_id files_first texts_first : List ℕ) (stretches : List Stretch) (files : List FileTexts)
-    (texts : List (List ℕ)) (b : List ℕ) → Fits files_first texts_first stretches files texts
+    (texts : List (List ℕ)) (b : List ℕ) → GivenFits files_first texts_first stretches files texts
     → Says b (head_of all build_id files_first texts_first stretches files texts) build_id
     (body_by (base_of stretches) files_first texts_first stretches files texts)
     → Keeps b files_first texts_first stretches files texts

@@ -4,7 +4,7 @@ use Rattle.std.proofs.Common.{refl, sym, ap, subst, ◌∙◌}
 use Rattle.std.specs.List.{All, flat_map}
 use Rattle.std.proofs.lemmas.List.{take_more, append-nil}
 use Rattle.std.proofs.lemmas.Grind.{flat_map-append}
-use Rattle.std.proofs.lemmas.List.Elements.{All-append}
+use Rattle.std.proofs.lemmas.List.Elements.{All-append, All-more}
 use Rattle.dl_pack.specs.Numbering.{with_mention, mentioned}
 
 pub mentioned-append : (order a b : List ℕ) → mentioned order (a ++ b) ≡ mentioned (mentioned order a) b
@@ -40,3 +40,10 @@ within_more f xs i d n count lt same was more =
     subst (All (λ item. item < count)) (sym (flat_push f xs i d lt))
     (All-append (λ item. item < count) (flat_map f (take i xs)) (f (get_or xs i d)) was
     (subst (λ n. All (λ item. item < n) (f (get_or xs i d))) same more))
+
+-- what holds of the items of a list that is another one's
+pub all_items : (P : ℕ → Type 0) (items order : List ℕ) (i d : ℕ) → items ≡ order → i < length items
+    → All P (take i order) → P (get_or items i d) → All P (take (i + 1) order)
+all_items P items order i d same lt before more =
+    subst (λ order. All P (take (i + 1) order)) same
+    (All-more P items i d lt (subst (λ order. All P (take i order)) (sym same) before) more)

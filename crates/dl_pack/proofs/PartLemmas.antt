@@ -16,7 +16,7 @@ use Rattle.dl_pack.specs.declared.columns.Column.TheVariants as column
 use Rattle.dl_pack.specs.Columns.{padded, column_of, number_of, width_by, part_by, byte_at}
 use Rattle.dl_pack.specs.Tables.{no_file, file_bytes, texts_at, total_len}
 use Rattle.dl_pack.specs.IndexOf.{header_with, base_of, parts_by, body_by, index_by}
-use Rattle.dl_pack.specs.Fits.{SumsFit, Fits}
+use Rattle.dl_pack.specs.Fits.{SumsFit, GivenFits}
 use Rattle.dl_pack.proofs.HeadLemmas.{Head, front_by, Says, said, body_said, summed_said, whole_said}
 use Rattle.dl_pack.proofs.ItemLemmas.{items_len, size_is}
 use Rattle.dl_pack.proofs.CutLemmas.{cut_parts}
@@ -53,7 +53,7 @@ base_fits (s ∷ stretches) at = at 0 s (omega arith)
 
 -- the header of an index says its numbers
 pub index_says : (all : Bool) (build_id files_first texts_first : List ℕ) (stretches : List Stretch) (files : List FileTexts)
-    (texts : List (List ℕ)) → length build_id ≤ 32 → Fits files_first texts_first stretches files texts
+    (texts : List (List ℕ)) → length build_id ≤ 32 → GivenFits files_first texts_first stretches files texts
     → SumsFit (index_by all build_id files_first texts_first stretches files texts)
     → Says (index_by all build_id files_first texts_first stretches files texts)
     (head_of all build_id files_first texts_first stretches files texts) build_id

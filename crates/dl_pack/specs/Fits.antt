@@ -31,7 +31,7 @@ pub record SumsFit (b : List ℕ) : Type 0 where
   pub body : crc_32 (drop 128 b) < 2 ^ 32
 
 -- what an index is made of, with files and texts in these orders
-pub record Fits (files_first texts_first : List ℕ) (stretches : List Stretch) (files : List FileTexts) (texts : List (List ℕ)) : Type 0 where
+pub record GivenFits (files_first texts_first : List ℕ) (stretches : List Stretch) (files : List FileTexts) (texts : List (List ℕ)) : Type 0 where
   pub starts : AtAddresses stretches
   pub numbers : NumbersFit (base_of stretches) files_first stretches
   pub known : AreKnown files (length texts) files_first

@@ -1,14 +1,16 @@
 //! The columns of an index, and the bits of is_stmt.
 
-ghost use Rattle.std.specs.Prelude.{◌≡◌, ◌+◌, ◌-◌, ◌≤◌, ◌++◌, IfOk, length, map, max, vec_len, replicate};
+ghost use Rattle.std.specs.Prelude.{◌≡◌, ◌+◌, ◌-◌, ◌<◌, ◌≤◌, ◌^◌, ◌++◌, IfOk, length, map, max, vec_len, replicate};
 ghost use Rattle.std.specs.List.{flat_map};
 ghost use Rattle.dl_num.specs.Fixed.{little_bytes};
 ghost use Rattle.dl_index.specs.Columns.{size_of};
 ghost use Rattle.dl_index.specs.Layout.{rounded};
+ghost use Rattle.dl_stretch.specs.Laws.{AtAddresses};
 ghost use Rattle.dl_pack.specs.Columns.{told_number, number_of, column_of, column_bytes, greatest, least_size, padded};
 ghost use Rattle.dl_pack.specs.Columns.{bit_at, byte_at, statement_bytes};
 ghost use Rattle.dl_pack.specs.Columns.{columns_of, width_by, part_by};
 ghost use Rattle.dl_pack.specs.Mentioned.{order_of};
+ghost use Rattle.dl_pack.specs.Fits.{NumbersFit};
 
 use crate::mentions::Mentions;
 use dl_index::Width;
@@ -44,17 +46,20 @@ fn told_number(files: &Mentions, column: Column, told: Option<Told>) -> u64
 
 /// The number of a stretch in a column.
 fn number_of(base: u64, files: &Mentions, column: Column, stretch: &Stretch) -> u64
-    ensures { result ≡ number_of base (order_of files.now) column stretch.now }
+    ensures number { result ≡ number_of base (order_of files.now) column stretch.now }
+    ensures start { stretch.now.start < 2 ^ 64 }
 {
+    let above_base = stretch.start.saturating_sub(base);
     match column {
-        Column::Start => stretch.start.saturating_sub(base),
+        Column::Start => above_base,
         _ => told_number(files, column, stretch.told),
     }
 }
 
 /// The greatest number of a column.
 fn greatest_of(base: u64, files: &Mentions, column: Column, stretches: &[Stretch]) -> u64
-    ensures { result ≡ greatest (column_of base (order_of files.now) column stretches.now) }
+    ensures greatest { result ≡ greatest (column_of base (order_of files.now) column stretches.now) }
+    ensures starts { AtAddresses stretches.now }
 {
     let mut greatest = 0;
     for stretch in stretches {
@@ -156,6 +161,8 @@ pub fn put_column(
         ≡ least_size (greatest (column_of base (order_of files.now) column stretches.now))) }
     ensures part { let numbers = column_of base (order_of files.now) column stretches.now in
         IfOk result (λ _. out.new.items ≡ out.old.items ++ padded (column_bytes (least_size (greatest numbers)) numbers)) }
+    ensures small { IfOk result (λ _. greatest (column_of base (order_of files.now) column stretches.now) < 2 ^ 64) }
+    ensures starts { IfOk result (λ _. AtAddresses stretches.now) }
 {
     let start = out.len();
     let width = least_width(greatest_of(base, files, column, stretches));
@@ -174,6 +181,8 @@ pub fn put_columns(
     ensures widths { IfOk result (λ widths. widths ≡ map (width_by base (order_of files.now) stretches.now) columns_of) }
     ensures parts { IfOk result (λ _. out.new.items ≡ out.old.items
         ++ flat_map padded (map (part_by base (order_of files.now) stretches.now) columns_of)) }
+    ensures small { IfOk result (λ _. NumbersFit base (order_of files.now) stretches.now) }
+    ensures starts { IfOk result (λ _. AtAddresses stretches.now) }
 {
     let starts = put_column(out, base, files, Column::Start, stretches)?;
     let numbers = put_column(out, base, files, Column::File, stretches)?;

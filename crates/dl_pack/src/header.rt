@@ -1,8 +1,10 @@
 //! The header of an index.
 
-ghost use Rattle.std.specs.Prelude.{◌≡◌, ◌++◌, ◌≤◌, IfOk, length, drop, vec_len};
+ghost use Rattle.std.specs.Prelude.{◌≡◌, ◌++◌, ◌<◌, ◌≤◌, ◌^◌, IfOk, length, drop, vec_len};
+ghost use Rattle.dl_crc.specs.Crc32.{crc_32};
 ghost use Rattle.dl_pack.specs.Columns.{column_bytes};
 ghost use Rattle.dl_pack.specs.IndexOf.{header_front, header_back, header_with, header_of, whole_of};
+ghost use Rattle.dl_pack.specs.Fits.{SumsFit};
 
 use crate::columns::{put_number, put_slice, put_zeros};
 use dl_crc::crc_32;
@@ -96,8 +98,11 @@ fn header_with(
 /// The header.
 fn header_bytes(alloc: Global, header: &Header, build_id: &[u8]) -> Result<Vec<u8>, NoMemory>
     requires { length build_id.now ≤ 32 }
-    ensures { IfOk result (λ bytes. bytes.items
+    ensures bytes { IfOk result (λ bytes. bytes.items
         ≡ header_of (header_front header.now.flags header.now.numbers header.now.widths header.now.sum) build_id.now) }
+    ensures sum { IfOk result (λ _.
+        crc_32 (header_with (header_front header.now.flags header.now.numbers header.now.widths header.now.sum) build_id.now 0)
+        < 2 ^ 32) }
 {
     let summed = header_with(alloc, header, build_id, 0)?;
     let sum = crc_32(summed.as_slice());
@@ -113,8 +118,9 @@ pub fn fill_header(
 ) -> Result<(), NoMemory>
     requires room { 128 ≤ vec_len bytes.old }
     requires short { length build_id.now ≤ 32 }
-    ensures { IfOk result (λ _. let d = described.now in bytes.new.items
+    ensures whole { IfOk result (λ _. let d = described.now in bytes.new.items
         ≡ whole_of d.flags d.base d.count d.files d.texts d.text_bytes d.widths build_id.now (drop 128 bytes.old.items)) }
+    ensures sums { IfOk result (λ _. SumsFit bytes.new.items) }
 {
     let header = Header {
         flags: described.flags,

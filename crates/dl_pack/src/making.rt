@@ -1,6 +1,6 @@
 //! The bytes of an index.
 
-ghost use Rattle.std.specs.Prelude.{◌≡◌, ◌<◌, ◌≤◌, ◌++◌, [], length, map, IfOk};
+ghost use Rattle.std.specs.Prelude.{◌≡◌, ℕ, ◌<◌, ◌≤◌, ◌++◌, [], length, map, IfOk};
 ghost use Rattle.std.specs.List.{All};
 ghost use Rattle.dl_pack.specs.IndexOf.{files_of_stretch, files_told, file_order, text_place, file_places, text_order};
 ghost use Rattle.dl_pack.specs.IndexOf.{base_of, body_by, index_by, index_of};
@@ -8,7 +8,12 @@ ghost use Rattle.dl_pack.specs.Columns.{columns_of, width_by};
 ghost use Rattle.dl_pack.specs.Tables.{texts_at, total_len};
 ghost use Rattle.dl_pack.specs.Numbering.{mentioned};
 ghost use Rattle.dl_pack.specs.Mentioned.{order_of, count_of};
-ghost use Rattle.dl_pack.specs.Shown.{files_of, texts_of};
+ghost use Rattle.dl_pack.specs.Shown.{files_of, texts_of, named_files};
+ghost use Rattle.dl_pack.specs.Fits.{AreKnown, NumbersFit, SumsFit, GivenFits};
+ghost use Rattle.dl_pack.specs.Telling.{StretchesRise, named_stretch};
+ghost use Rattle.dl_stretch.specs.Laws.{AtAddresses};
+ghost use Rattle.dl_index.specs.IsIndex.{IsIndex};
+ghost use Rattle.dl_index.specs.Telling.{stretches_in};
 
 use crate::columns::{put_columns, put_statements, put_zeros};
 use crate::fault::PackFault;
@@ -78,7 +83,8 @@ fn mention_file(texts: &mut Mentions, file: FileTexts) -> Result<(), NoMemory>
 
 /// The texts of the files that were mentioned, in the order in which these first name them.
 fn mention_texts(alloc: Global, files: &Mentions, names: &Names) -> Result<Mentions, NoMemory>
-    ensures { IfOk result (λ texts. order_of texts ≡ text_order (files_of names.now) (order_of files.now)) }
+    ensures order { IfOk result (λ texts. order_of texts ≡ text_order (files_of names.now) (order_of files.now)) }
+    ensures known { IfOk result (λ _. AreKnown (files_of names.now) (length (texts_of names.now)) (order_of files.now)) }
 {
     let mut texts = Mentions::new(alloc, names.text_count())?;
     for file in files.order() {
@@ -110,6 +116,8 @@ fn put_body(
     ensures total { IfOk result (λ put. put.1 ≡ total_len (texts_at (texts_of names.now) (order_of texts.now))) }
     ensures body { IfOk result (λ _. bytes.new.items ≡ bytes.old.items
         ++ body_by base (order_of files.now) (order_of texts.now) stretches.now (files_of names.now) (texts_of names.now)) }
+    ensures small { IfOk result (λ _. NumbersFit base (order_of files.now) stretches.now) }
+    ensures starts { IfOk result (λ _. AtAddresses stretches.now) }
 {
     let widths = put_columns(bytes, base, files, stretches)?;
     put_statements(bytes, stretches)?;
@@ -129,8 +137,11 @@ fn made(
     build_id: &[u8],
 ) -> Result<Vec<u8>, NoMemory>
     requires { length build_id.now ≤ 32 }
-    ensures { IfOk result (λ bytes. bytes.items ≡ index_by all build_id.now (order_of files.now)
+    ensures made { IfOk result (λ bytes. bytes.items ≡ index_by all build_id.now (order_of files.now)
         (text_order (files_of names.now) (order_of files.now)) stretches.now (files_of names.now) (texts_of names.now)) }
+    ensures fits { IfOk result (λ _. GivenFits (order_of files.now) (text_order (files_of names.now) (order_of files.now))
+        stretches.now (files_of names.now) (texts_of names.now)) }
+    ensures sums { IfOk result (λ bytes. SumsFit bytes.items) }
 {
     let base = first_start(stretches);
     let texts = mention_texts(alloc, files, names)?;
@@ -163,6 +174,9 @@ pub fn index_bytes(
         ≡ index_of all build_id.now stretches.now (files_of names.now) (texts_of names.now)) }
     ensures named { IfOk result (λ _. All (λ file. file < length (files_of names.now)) (files_told stretches.now)) }
     ensures short { IfOk result (λ _. length build_id.now ≤ 32) }
+    ensures opens { IfOk result (λ bytes. StretchesRise stretches.now → IsIndex bytes.items) }
+    ensures tells { IfOk result (λ bytes. StretchesRise stretches.now
+        → stretches_in bytes.items ≡ map (named_stretch (named_files names.now)) stretches.now) }
 {
     if build_id.len() > 32 {
         return Err(PackFault::BuildId);

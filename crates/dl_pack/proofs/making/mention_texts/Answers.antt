@@ -1,10 +1,11 @@
-use Rattle.std.proofs.Common.{◌∙◌, ap, get_or}
+use Rattle.std.proofs.Common.{arith, ◌∙◌, ap, get_or, length, subst}
 use Rattle.dl_pack.specs.Numbering.{mentioned}
 use Rattle.dl_pack.specs.Tables.{no_file}
 use Rattle.dl_pack.specs.IndexOf.{file_places}
-use Rattle.dl_pack.specs.Shown.{files_of}
+use Rattle.dl_pack.specs.Shown.{files_of, texts_of}
 use Rattle.dl_pack.specs.Mentioned.{order_of}
-use Rattle.dl_pack.proofs.OrderLemmas.{mentioned_items}
+use Rattle.dl_pack.specs.Fits.{IsKnown}
+use Rattle.dl_pack.proofs.OrderLemmas.{mentioned_items, all_items}
 use Rattle.dl_pack.proofs.making.mention_texts.Goals as goal
 
 pub loop-file-preserved : goal.loop-file-preserved
@@ -14,5 +15,10 @@ loop-file-preserved c = record {
       c.order-file-items.ensures.order c.loop-file-test.true c.loop-file.invariant.order
       (c.in_ok-mention_file.ensures.order
       ∙ ap (λ f. mentioned (order_of c.loop-file.texts) (file_places f)) c.file_at.ensures.file);
+  known = all_items (λ place. IsKnown (length (texts_of c.args.names.now)) (get_or (files_of c.args.names.now) place no_file))
+      c.order-file-items.result.now (order_of c.args.files.now) c.loop-file.file-index _ c.order-file-items.ensures.order
+      c.loop-file-test.true c.loop-file.invariant.known
+      (subst (IsKnown (length (texts_of c.args.names.now))) c.file_at.ensures.file
+      (record { unit = omega arith; texts = c.file_at.ensures.within }));
   count = c.mention_file.ensures.count ∙ c.loop-file.invariant.count;
 }
