@@ -6,6 +6,7 @@ pub mod HeadLemmas
 pub mod IndexLemmas
 pub mod ItemLemmas
 pub mod KeptLemmas
+pub mod LawLemmas
 pub mod MentionLemmas
 pub mod NameLemmas
 pub mod OnceLemmas

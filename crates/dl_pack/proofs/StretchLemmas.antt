@@ -4,8 +4,8 @@ use Rattle.std.specs.List.{All, flat_map}
 use Rattle.dl_index.specs.IsIndex.{IsIndex}
 use Rattle.dl_index.specs.Telling.{stretches_in}
 use Rattle.dl_stretch.specs.declared.stretch.Stretch.{Stretch}
-use Rattle.dl_pack.specs.Named.{named}
 use Rattle.dl_pack.specs.declared.names.FileTexts.{FileTexts}
+use Rattle.dl_pack.specs.Named.{named}
 use Rattle.dl_pack.specs.Numbering.{number_in}
 use Rattle.dl_pack.specs.Tables.{no_file}
 use Rattle.dl_pack.specs.IndexOf.{files_told, file_order, file_places, text_order, index_of}

@@ -19,7 +19,7 @@ use Rattle.dl_stretch.specs.declared.told.Told.{Told}
 use Rattle.dl_stretch.specs.declared.stretch.Stretch.{Stretch}
 use Rattle.dl_pack.specs.declared.names.FileTexts.{FileTexts}
 use Rattle.dl_pack.specs.declared.columns.Column.TheVariants as columns
-use Rattle.dl_pack.specs.Named.{Named, text_of, parts_of, named}
+use Rattle.dl_pack.specs.Named.{Named, named, text_of, parts_of}
 use Rattle.dl_pack.specs.Numbering.{number_in}
 use Rattle.dl_pack.specs.Columns.{told_number, told_bit}
 use Rattle.dl_pack.specs.Tables.{no_file, text_number, texts_at}

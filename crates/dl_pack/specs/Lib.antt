@@ -6,6 +6,7 @@ pub mod Columns
 pub mod Tables
 pub mod IndexOf
 pub mod Telling
+pub mod Laws
 -- For what a value stands; public contracts name this, and don't rest on how it is said.
 pub mod Within
 -- Of contracts inside the crate, and of proofs; no public contract reaches these.

@@ -11,7 +11,7 @@ use Rattle.dl_pack.specs.Named.{Named}
 abbrev pub StretchesRise : List Stretch → Type 0
 StretchesRise stretches = Neighbours (λ (s : Stretch) (t : Stretch). s.start < t.start) stretches
 
--- what is told of a file, in the terms of an index
+-- what is told, in the terms of an index: with this file in the place of its number
 abbrev pub told_as : Told → Named → index.Told
 told_as t file = record {
   unit = file.unit;
@@ -22,9 +22,10 @@ told_as t file = record {
   is_stmt = t.is_stmt;
 }
 
--- the same of its number; nothing where there is no file of it
+-- with the file of that number; nothing where there is none of it
 abbrev pub named_told : List Named → Told → Option index.Told
 named_told files t = option_map (told_as t) (slice_get files t.file)
 
+-- a stretch, in the terms of an index
 abbrev pub named_stretch : List Named → Stretch → index.Stretch
 named_stretch files s = record { start = s.start; told = option_and_then (named_told files) s.told }

@@ -4,6 +4,7 @@
 mod columns;
 mod fault;
 mod header;
+pub mod laws;
 mod making;
 mod mentions;
 mod names;

@@ -162,7 +162,7 @@ fn made(
 }
 
 /// The bytes of the index of stretches, whose files have these names; `all` where each sequence counts. The build ID has
-/// at most 32 bytes.
+/// at most 32 bytes. Where each stretch begins above the one before it, `dl_index::open` opens them.
 pub fn index_bytes(
     alloc: Global,
     stretches: &[Stretch],

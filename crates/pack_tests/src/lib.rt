@@ -4,6 +4,8 @@
 #[cfg(test)]
 mod faults;
 #[cfg(test)]
+mod listed;
+#[cfg(test)]
 mod made;
 #[cfg(test)]
 mod sample;
