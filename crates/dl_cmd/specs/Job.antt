@@ -1,8 +1,9 @@
 -- What the words ask for, as a job.
 use Rattle.std.specs.Prelude.{ℕ, Bool, List, Option, map, option_map}
 use Rattle.dl_cmd.specs.declared.job.Job.{Job}
-use Rattle.dl_cmd.specs.declared.job.Job.TheVariants.{Addr, Dump, Check, Find, Copy}
+use Rattle.dl_cmd.specs.declared.job.Job.TheVariants.{Addr, Dump, Check, Find, Copy, Index}
 use Rattle.dl_cmd.specs.declared.job.AddrWords.{AddrWords}
+use Rattle.dl_cmd.specs.declared.job.IndexWords.{IndexWords}
 use Rattle.dl_cmd.specs.declared.job.UnitWords.{UnitWords}
 
 -- the text of a word, by its bytes
@@ -33,6 +34,17 @@ pub record AddrTexts : Type 0 where
   pub line_str : Option Text
   pub strings : Option Text
 
+-- the words of `index`, by their texts
+pub record IndexTexts : Type 0 where
+  pub file : Option Text
+  pub output : Option Text
+  pub list : Bool
+  pub all : Bool
+  pub keep_going : Bool
+  pub section : Option Text
+  pub units : UnitTexts
+  pub comp_dir : Option Text
+
 -- a job, by the texts of its words
 pub data Request : Type 0 where
   dump : (file : Option Text) (big : Bool) (units : UnitTexts) (line_str strings : Option Text)
@@ -42,6 +54,7 @@ pub data Request : Type 0 where
       (section line_str strings : Option Text) → Request
   copy : (file : Option Text) (big : Bool) (units : UnitTexts) (to_5 : Bool) (comp_dir : Option Text) → Request
   addr : AddrTexts → Request
+  index : IndexTexts → Request
 
 abbrev pub unit_words_made : UnitWords → UnitTexts
 unit_words_made w = record {
@@ -69,6 +82,18 @@ addr_words_made w = record {
   strings = option_map (λ s. s.now) w.strings;
 }
 
+abbrev pub index_words_made : IndexWords → IndexTexts
+index_words_made w = record {
+  file = option_map (λ s. s.now) w.file;
+  output = option_map (λ s. s.now) w.output;
+  list = w.list;
+  all = w.all;
+  keep_going = w.keep_going;
+  section = option_map (λ s. s.now) w.section;
+  units = unit_words_made w.units;
+  comp_dir = option_map (λ s. s.now) w.comp_dir;
+}
+
 abbrev pub request_made : Job → Request
 request_made (Dump file big units line_str strings keep_going) =
     dump (option_map (λ s. s.now) file) big (unit_words_made units) (option_map (λ s. s.now) line_str)
@@ -81,3 +106,4 @@ request_made (Find file big units address op section line_str strings) =
 request_made (Copy file big units to_5 comp_dir) =
     copy (option_map (λ s. s.now) file) big (unit_words_made units) to_5 (option_map (λ s. s.now) comp_dir)
 request_made (Addr w) = addr (addr_words_made w)
+request_made (Index w) = index (index_words_made w)

@@ -65,6 +65,28 @@ pub enum Job<'a> {
     },
     /// Print where addresses are in the source.
     Addr(AddrWords<'a>),
+    /// Make the index of a file, or list one.
+    Index(IndexWords<'a>),
+}
+
+/// The words of `index`.
+#[derive(Clone, Copy, Debug, PartialEq, Eq)]
+pub struct IndexWords<'a> {
+    /// The path of the ELF file; of an index, where that is listed.
+    pub file: Option<&'a str>,
+    /// The path under which the index is written; `-` stands for standard output.
+    pub output: Option<&'a str>,
+    /// The stretches of an index are listed, and none is made.
+    pub list: bool,
+    /// Sequences that begin outside executable sections count too.
+    pub all: bool,
+    /// After a unit that is damaged the next one is read.
+    pub keep_going: bool,
+    /// The name of the section of an object file whose addresses are told.
+    pub section: Option<&'a str>,
+    pub units: UnitWords<'a>,
+    /// The compilation directory, in place of the one that the file says.
+    pub comp_dir: Option<&'a str>,
 }
 
 /// The words of `addr`. A path `-` of an ELF file stands for a section on standard input.

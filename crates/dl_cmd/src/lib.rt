@@ -7,5 +7,5 @@ mod job;
 mod words;
 
 pub use address::{digit_of, read_address, read_hex_address};
-pub use job::{AddrWords, Job, UnitWords};
+pub use job::{AddrWords, IndexWords, Job, UnitWords};
 pub use words::{read_job, word_status};
