@@ -4,6 +4,8 @@
 #[cfg(test)]
 mod addresses;
 #[cfg(test)]
+mod index_words;
+#[cfg(test)]
 mod lines;
 #[cfg(test)]
 mod words;

@@ -44,6 +44,19 @@ file_rule = record (new_rule (codes "file")) { value_names = 1; is_free = false 
 abbrev pub addr_file_rule : Rule
 addr_file_rule = record (new_rule (codes "file")) { value_names = 1; is_free = false }
 
+-- `FILE` of `index`, which has to be there
+abbrev pub index_file_rule : Rule
+index_file_rule = record (new_rule (codes "file")) { required = true; value_names = 1 }
+
+-- `-o PATH`, or `--output PATH`, which is wanted unless `--list` is there
+abbrev pub output_rule : Rule
+output_rule = record (new_rule (codes "output")) {
+  long = Some (codes "output");
+  short = Some 111;
+  value_names = 1;
+  is_free = false;
+}
+
 -- `-e FILE`, or `--exe FILE`
 abbrev pub exe_rule : Rule
 exe_rule = record (new_rule (codes "exe")) { long = Some (codes "exe"); short = Some 101; value_names = 1 }
@@ -76,6 +89,10 @@ letter_rule id letter = record (switch_rule id) { short = Some letter }
 abbrev pub json_rule : Rule
 json_rule = record (switch_rule (codes "json")) { is_free = false }
 
+-- `--list`, which excludes all that is said of an index that is made
+abbrev pub list_rule : Rule
+list_rule = record (switch_rule (codes "list")) { is_free = false }
+
 -- `--id`, with a value
 abbrev pub value_rule : Text → Rule
 value_rule id = record (new_rule id) { long = Some id; value_names = 1 }
@@ -93,10 +110,13 @@ abbrev pub with_units : App → App
 with_units a =
     with_rule (with_rule (with_rule a (value_rule (codes "older"))) (wanting_rule (codes "address-size"))) version_5_rule
 
+-- the same of a FILE that is always there
+abbrev pub with_units_of_file : App → App
+with_units_of_file a = with_rule (with_rule a (value_rule (codes "address-size"))) version_5_rule
+
 -- the same of `addr`, whose FILE may be named by a letter
 abbrev pub with_units_of_addr : App → App
-with_units_of_addr a =
-    with_rule (with_rule (with_rule a (value_rule (codes "older"))) (value_rule (codes "address-size"))) version_5_rule
+with_units_of_addr a = with_units_of_file (with_rule a (value_rule (codes "older")))
 
 -- units of versions 2 to 4 are copied as those of version 5
 abbrev pub with_to_5 : App → App
@@ -140,6 +160,18 @@ with_addresses a =
 abbrev pub addr_app : App
 addr_app = with_addresses (new_app (codes "addr"))
 
+-- what an index is made of
+abbrev pub with_making : App → App
+with_making a =
+    with_rule (with_units_of_file (with_rule (with_keep_going (with_rule a (switch_rule (codes "all")))) section_rule))
+    (value_rule (codes "comp-dir"))
+
+-- `index [--all] [--keep-going] [-j NAME] [--address-size SIZE] [--version-5] [--comp-dir DIR] -o PATH FILE`, or
+-- `index --list FILE`
+abbrev pub index_app : App
+index_app =
+    with_rule (with_rule (with_rule (with_making (new_app (codes "index"))) list_rule) output_rule) index_file_rule
+
 -- `dump [--keep-going] [--older SIZE] [--address-size SIZE] [--version-5] [--big] [--line-str PATH] [--str PATH]
 -- [FILE]`
 abbrev pub dump_app : App
@@ -170,8 +202,8 @@ top_app =
 abbrev pub command_line : App
 command_line =
     with_subcommand
-    (with_subcommand (with_subcommand (with_subcommand (with_subcommand top_app addr_app.top) dump_app.top)
-    check_app.top) find_app.top) copy_app.top
+    (with_subcommand (with_subcommand (with_subcommand (with_subcommand (with_subcommand top_app addr_app.top)
+    index_app.top) dump_app.top) check_app.top) find_app.top) copy_app.top
 
 -- a command without global arguments, of which a parse reads this
 abbrev pub IsApp : App → Command → Type 0

@@ -6,7 +6,7 @@ use Rattle.clap.specs.Words.{Row, all_of, first_of, one_of}
 use Rattle.clap.specs.Walk.{byte_or_zero}
 use Rattle.clap.specs.declared.error.kind.ErrorKind.{ErrorKind}
 use Rattle.clap.specs.declared.error.kind.ErrorKind.TheVariants.{DisplayHelp, DisplayVersion, OutOfMemory}
-use Rattle.dl_cmd.specs.Job.{AddrTexts, Request, Text, UnitTexts, addr, check, copy, dump, find}
+use Rattle.dl_cmd.specs.Job.{AddrTexts, IndexTexts, Request, Text, UnitTexts, addr, check, copy, dump, find, index}
 
 -- the value of an argument that is a text, texts, a byte or a flag, in the matches of a subcommand
 abbrev pub text_of : Text → List Row → Option Text
@@ -55,6 +55,18 @@ addr_words_of rows = record {
   strings = text_of (codes "str") rows;
 }
 
+abbrev pub index_words_of : List Row → IndexTexts
+index_words_of rows = record {
+  file = text_of (codes "file") rows;
+  output = text_of (codes "output") rows;
+  list = flag_of (codes "list") rows;
+  all = flag_of (codes "all") rows;
+  keep_going = flag_of (codes "keep-going") rows;
+  section = text_of (codes "section") rows;
+  units = unit_words_of rows;
+  comp_dir = text_of (codes "comp-dir") rows;
+}
+
 -- what the subcommand of this name asks for, with these matches
 abbrev pub request_of : Text → List Row → Option Request
 request_of name rows =
@@ -65,6 +77,7 @@ request_of name rows =
     let strings = text_of (codes "str") rows in
     let keep_going = flag_of (codes "keep-going") rows in
     if bytes_eq name (codes "addr") then Some (addr (addr_words_of rows)) else
+    if bytes_eq name (codes "index") then Some (index (index_words_of rows)) else
     if bytes_eq name (codes "dump") then Some (dump file big units line_str strings keep_going) else
     if bytes_eq name (codes "check") then Some (check file big units keep_going) else
     if bytes_eq name (codes "find")

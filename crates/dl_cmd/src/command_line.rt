@@ -7,7 +7,8 @@ ghost use Rattle.dl_cmd.specs.CommandLine.{Wants, json_rule, section_of_file_rul
 ghost use Rattle.dl_cmd.specs.CommandLine.{switch_rule, letter_rule, addr_app, with_addresses, with_input};
 ghost use Rattle.dl_cmd.specs.CommandLine.{with_printing, with_settings, with_strings, dump_app, check_app, find_app, copy_app};
 ghost use Rattle.dl_cmd.specs.CommandLine.{value_rule, version_5_rule, wanting_rule, with_to_5, with_units, with_units_of_addr};
-ghost use Rattle.dl_cmd.specs.CommandLine.{command_line, top_app, with_keep_going};
+ghost use Rattle.dl_cmd.specs.CommandLine.{command_line, top_app, with_keep_going, with_units_of_file};
+ghost use Rattle.dl_cmd.specs.CommandLine.{index_app, index_file_rule, list_rule, output_rule, with_making};
 
 use clap::{Arg, ArgAction, Command};
 use std::alloc::{AllocError, Global};
@@ -142,6 +143,49 @@ fn exe<'a>(alloc: Global) -> Arg<'a>
         .help("The file to read, in place of the first word; all words are addresses then")
 }
 
+/// The file of `index`.
+fn index_file<'a>(alloc: Global) -> Arg<'a>
+    ensures { IsRule index_file_rule result }
+{
+    Arg::new(alloc, "file")
+        .required(true)
+        .value_name("FILE")
+        .help("ELF file to read, or with --list the index to list")
+}
+
+/// Where the index is written. It is wanted unless one is listed.
+fn output<'a>(alloc: Global) -> Result<Arg<'a>, AllocError>
+    ensures rule { IfOk result (IsRule output_rule) }
+    ensures wanted { IfOk result (IsWantedUnless (codes "list" ∷ [])) }
+{
+    Arg::new(alloc, "output")
+        .long("output")
+        .short('o')
+        .value_name("PATH")
+        .help("File to write the index to, or - for standard output")
+        .required_unless_present("list")
+}
+
+/// `--list`. No index is made then, so nothing that is said of one that is made may be used with it.
+fn list<'a>(alloc: Global) -> Result<Arg<'a>, AllocError>
+    ensures rule { IfOk result (IsRule list_rule) }
+    ensures excludes { IfOk result (Excludes (codes "output" ∷ codes "all" ∷ codes "keep-going" ∷ codes "section"
+        ∷ codes "address-size" ∷ codes "version-5" ∷ codes "comp-dir" ∷ [])) }
+{
+    let list = switch(
+        alloc,
+        "list",
+        "List the stretches of an index in place of making one",
+    );
+    let list = excluding(Ok(list), "output");
+    let list = excluding(list, "all");
+    let list = excluding(list, "keep-going");
+    let list = excluding(list, "section");
+    let list = excluding(list, "address-size");
+    let list = excluding(list, "version-5");
+    excluding(list, "comp-dir")
+}
+
 /// `--json`. An object has its address in any case, so `--addresses` may not be used with it.
 fn json<'a>(alloc: Global) -> Result<Arg<'a>, AllocError>
     ensures rule { IfOk result (IsRule json_rule) }
@@ -152,6 +196,16 @@ fn json<'a>(alloc: Global) -> Result<Arg<'a>, AllocError>
         .action(ArgAction::SetTrue)
         .help("Print a JSON object for each address, one a line")
         .conflicts_with("addresses")
+}
+
+fn all<'a>(alloc: Global) -> Arg<'a>
+    ensures { IsRule (switch_rule (codes "all")) result }
+{
+    switch(
+        alloc,
+        "all",
+        "Look into sequences too that begin outside executable sections",
+    )
 }
 
 fn addresses<'a>(alloc: Global) -> Arg<'a>
@@ -177,7 +231,8 @@ fn base<'a>(alloc: Global) -> Arg<'a>
 
 /// An option `--id` without a value.
 fn switch<'a>(alloc: Global, id: &'a str, help: &'a str) -> Arg<'a>
-    ensures { IsRule (switch_rule id.entry.now) result }
+    ensures rule { IsRule (switch_rule id.entry.now) result }
+    ensures excludes { Excludes [] result }
 {
     Arg::new(alloc, id)
         .long(id)
@@ -209,6 +264,15 @@ fn wanting<'a>(arg: Arg<'a>, id: &'a str) -> Result<Arg<'a>, AllocError>
     ensures wants { (ids : List Text) → Wants ids arg.entry → IfOk result (Wants (ids ++ id.entry.now ∷ [])) }
 {
     arg.requires_arg(id)
+}
+
+/// The same argument, where it could be made, with which one more may not be used.
+fn excluding<'a>(arg: Result<Arg<'a>, AllocError>, id: &'a str) -> Result<Arg<'a>, AllocError>
+    ensures rule { (r : Rule) → IfOk arg.entry (IsRule r) → IfOk result (IsRule (record r { is_free = false })) }
+    ensures excludes { (ids : List Text) → IfOk arg.entry (Excludes ids)
+        → IfOk result (Excludes (ids ++ id.entry.now ∷ [])) }
+{
+    arg?.conflicts_with(id)
 }
 
 fn older<'a>(alloc: Global) -> Arg<'a>
@@ -323,6 +387,17 @@ fn add_units<'a>(
     with_made_arg(command, version_5_of_file(alloc))
 }
 
+/// The same of a FILE that is always there.
+fn add_units_of_file<'a>(
+    alloc: Global,
+    command: Result<Command<'a>, AllocError>,
+) -> Result<Command<'a>, AllocError>
+    ensures { (a : App) → IfOk command.entry (IsApp a) → IfOk result (IsApp (with_units_of_file a)) }
+{
+    let command = with_arg(command, address_size(alloc));
+    with_made_arg(command, version_5(alloc))
+}
+
 /// The same of `addr`, whose FILE may be named by a letter.
 fn add_units_of_addr<'a>(
     alloc: Global,
@@ -330,9 +405,7 @@ fn add_units_of_addr<'a>(
 ) -> Result<Command<'a>, AllocError>
     ensures { (a : App) → IfOk command.entry (IsApp a) → IfOk result (IsApp (with_units_of_addr a)) }
 {
-    let command = with_arg(command, older(alloc));
-    let command = with_arg(command, address_size(alloc));
-    with_made_arg(command, version_5(alloc))
+    add_units_of_file(alloc, with_arg(command, older(alloc)))
 }
 
 /// `--to-5`, and what is said of the units that it copies.
@@ -483,12 +556,7 @@ fn add_settings<'a>(
     let hex = switch(alloc, "hex", "Read digits without 0x as hexadecimal too");
     let command = with_arg(command, hex);
     let command = with_arg(command, base(alloc));
-    let all = switch(
-        alloc,
-        "all",
-        "Look into sequences too that begin outside executable sections",
-    );
-    let command = with_arg(command, all);
+    let command = with_arg(command, all(alloc));
     let stop = switch(
         alloc,
         "stop",
@@ -527,6 +595,35 @@ fn addr<'a>(alloc: Global) -> Result<Command<'a>, AllocError>
     add_addresses(alloc, Ok(command))
 }
 
+/// What an index is made of.
+fn add_making<'a>(
+    alloc: Global,
+    command: Result<Command<'a>, AllocError>,
+) -> Result<Command<'a>, AllocError>
+    ensures { (a : App) → IfOk command.entry (IsApp a) → IfOk result (IsApp (with_making a)) }
+{
+    let command = add_keep_going(alloc, with_arg(command, all(alloc)));
+    let command = with_arg(command, section(alloc));
+    let command = add_units_of_file(alloc, command);
+    with_arg(command, comp_dir(alloc))
+}
+
+fn index<'a>(alloc: Global) -> Result<Command<'a>, AllocError>
+    ensures { IfOk result (IsApp index_app) }
+{
+    let command = Command::new(alloc, "index")
+        .about(
+            "Make the index of a file, which answers addresses without its line table, or list one",
+        )
+        .after_help(
+            "Examples:\n  dwline index -o program.dli program\n  dwline index --list program.dli",
+        );
+    let command = add_making(alloc, Ok(command));
+    let command = with_made_arg(command, list(alloc));
+    let command = with_made_arg(command, output(alloc));
+    with_arg(command, index_file(alloc))
+}
+
 /// The command line without its subcommands, of which one is wanted.
 fn program<'a>(alloc: Global) -> Command<'a>
     ensures { IsApp top_app result }
@@ -550,6 +647,7 @@ pub fn make_command_line<'a>(alloc: Global) -> Result<Command<'a>, AllocError>
     ensures { IfOk result (IsApp command_line) }
 {
     let line = with_command(program(alloc), addr(alloc))?;
+    let line = with_command(line, index(alloc))?;
     let line = with_command(line, dump(alloc))?;
     let line = with_command(line, check(alloc))?;
     let line = with_command(line, find(alloc))?;

@@ -3,12 +3,12 @@
 ghost use Rattle.std.specs.Prelude.{◌≡◌, Option, IfOk, map, option_map};
 ghost use Rattle.clap.specs.Words.{found_of, kind_of, rows_of, subcommand_of};
 ghost use Rattle.dl_cmd.specs.CommandLine.{command_line};
-ghost use Rattle.dl_cmd.specs.Job.{addr_words_made, request_made, unit_words_made};
+ghost use Rattle.dl_cmd.specs.Job.{addr_words_made, index_words_made, request_made, unit_words_made};
 ghost use Rattle.dl_cmd.specs.Words.{addr_words_of, byte_of, file_and_addresses, flag_of, request_of, requested};
-ghost use Rattle.dl_cmd.specs.Words.{text_of, texts_of, unit_words_of, word_status_of};
+ghost use Rattle.dl_cmd.specs.Words.{index_words_of, text_of, texts_of, unit_words_of, word_status_of};
 
 use crate::command_line::make_command_line;
-use crate::job::{AddrWords, Job, UnitWords};
+use crate::job::{AddrWords, IndexWords, Job, UnitWords};
 use clap::error::ErrorKind;
 use clap::{ArgMatches, Error};
 use std::alloc::{AllocError, Global};
@@ -99,6 +99,21 @@ fn addr_words<'a>(alloc: Global, matches: &ArgMatches<'a>) -> Result<AddrWords<'
     })
 }
 
+fn index_words<'a>(matches: &ArgMatches<'a>) -> IndexWords<'a>
+    ensures { index_words_made result ≡ index_words_of (rows_of (found_of matches.now)) }
+{
+    IndexWords {
+        file: text(matches, "file"),
+        output: text(matches, "output"),
+        list: flag(matches, "list"),
+        all: flag(matches, "all"),
+        keep_going: flag(matches, "keep-going"),
+        section: text(matches, "section"),
+        units: unit_words(matches),
+        comp_dir: text(matches, "comp-dir"),
+    }
+}
+
 fn job_of<'a>(
     alloc: Global,
     name: &str,
@@ -109,6 +124,7 @@ fn job_of<'a>(
 {
     let job = match name {
         "addr" => Job::Addr(addr_words(alloc, matches)?),
+        "index" => Job::Index(index_words(matches)),
         "dump" => Job::Dump {
             file: text(matches, "file"),
             big: flag(matches, "big"),
