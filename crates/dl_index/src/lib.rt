@@ -23,6 +23,6 @@ pub use four::Four;
 pub use header::{HEADER_LEN, Header, Widths};
 pub use index::{Found, IndexRef, Listed, PathTexts};
 pub use numbers::Numbers;
-pub use opening::{header_of, length_told, open, open_unchecked};
+pub use opening::{has_magic, header_of, length_told, open, open_unchecked};
 pub use search::{Starts, last_upto, last_upto_four};
 pub use width::Width;

@@ -2,7 +2,7 @@
 
 ghost use Rattle.std.specs.Prelude.{◌≡◌, ℕ, ◌≤◌, List, length, take, MatchBool, IfOk, IfErr, OnOk, IsOk};
 ghost use Rattle.dl_index.specs.Layout.{length_in};
-ghost use Rattle.dl_index.specs.IsIndex.{IsHeaded, HeaderAgrees, IsIndex, HasFault};
+ghost use Rattle.dl_index.specs.IsIndex.{HasMagic, IsHeaded, HeaderAgrees, IsIndex, HasFault};
 ghost use Rattle.dl_index.specs.HeaderIs.{LengthIs, HeaderIs};
 ghost use Rattle.dl_index.specs.Parts.{Fits};
 ghost use Rattle.dl_index.specs.Shown.{bytes_of};
@@ -74,7 +74,7 @@ pub fn length_told(front: &[u8]) -> Result<u64, IndexFault>
     ensures enough { OnOk result (128 ≤ length front.now) }
     ensures said { IfOk result (λ len. len ≡ length_in front.now) }
 {
-    if !front.starts_with(MAGIC) {
+    if !has_magic(front) {
         return Err(IndexFault::NotAnIndex);
     }
     if front.len() < HEADER_LEN {
@@ -85,6 +85,13 @@ pub fn length_told(front: &[u8]) -> Result<u64, IndexFault>
         return Err(IndexFault::Version(version));
     }
     Ok(long_at(front, 16))
+}
+
+/// Whether bytes begin as those of an index do, with `dlineidx`.
+pub fn has_magic(bytes: &[u8]) -> bool
+    ensures { MatchBool result (HasMagic bytes.now) (¬ (HasMagic bytes.now)) }
+{
+    bytes.starts_with(MAGIC)
 }
 
 /// Whether the check value of the header is the one that it says.
