@@ -1,2 +1,4 @@
 pub mod NarrowLemmas
+pub mod OpeningLemmas
+pub mod PlaceLemmas
 pub mod RangeLemmas

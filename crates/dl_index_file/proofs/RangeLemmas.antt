@@ -4,7 +4,6 @@ use Rattle.std.proofs.lemmas.List.{drop-drop, drop-take, take-take, take-append-
 use Rattle.std.proofs.Math.Nat.{add-mul}
 use Rattle.dl_num.specs.Fixed.{little}
 use Rattle.dl_index.specs.Columns.{number_at, size_of}
-use Rattle.dl_index.specs.Layout.{field}
 use Rattle.dl_index.specs.declared.width.Width.{Width}
 use Rattle.dl_index.specs.declared.width.Width.TheVariants.{One, Two, Four, Eight}
 

@@ -7,7 +7,7 @@ use Rattle.dl_index_file.specs.declared.fault.OpenFault.TheVariants.{Read, Index
 use Rattle.dl_index_file.specs.declared.index.IndexFile.{IndexFile}
 
 -- where the bytes of an index come from
-abbrev pub source_of : {S : Type 0} → IndexFile S → S
+abbrev pub source_of : {S : Type 0} {g : _} → IndexFile S g → S
 source_of i = i.source.now
 
 -- of a file with these bytes: it is opened, the first check that fails is told, or a read failed

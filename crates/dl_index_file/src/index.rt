@@ -17,5 +17,5 @@ pub struct IndexFile<'a, S: ReadAt> {
     pub(crate) header: Header,
     pub(crate) places: Places,
     ghost kept: { IsKept header places front },
-    ghost stands: { ForBytes (S.all_bytes source.now) (StandsIn header front) },
+    ghost stands: { ForBytes (S.all_bytes source.now) (StandsIn header places front) },
 }

@@ -44,13 +44,7 @@ pub fn last_upto<S: ReadAt>(
         }
         left -= half;
     }
-    let k = last_in_piece(
-        source,
-        starts.offset + low * size,
-        width,
-        left as usize,
-        x,
-    )?;
+    let k = last_in_piece(source, starts.offset + low * size, width, left as usize, x)?;
     Ok(low + k)
 }
 

@@ -1,4 +1,4 @@
-use Rattle.std.proofs.Common.{ap, ◌∙◌, arith}
+use Rattle.std.proofs.Common.{ap, ◌∙◌}
 use Rattle.dl_num.specs.Fixed.{little}
 use Rattle.dl_index.specs.Columns.{size_of}
 use Rattle.dl_index_file.proofs.RangeLemmas.{read_is, size_small, first_number}

@@ -1,4 +1,4 @@
-use Rattle.std.proofs.Common.{◌≡◌, ℕ, ◌*◌, ◌≤◌, ap, ◌∙◌, arith, subst, take, drop}
+use Rattle.std.proofs.Common.{◌≡◌, ℕ, ◌*◌, ap, ◌∙◌, arith, subst, take, drop}
 use Rattle.std.proofs.lemmas.List.{length-replicate}
 use Rattle.dl_index.specs.Columns.{number_at, size_of}
 use Rattle.dl_index.specs.LookUp.{FindsLast}

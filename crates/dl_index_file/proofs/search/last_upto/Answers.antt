@@ -1,9 +1,7 @@
-use Rattle.std.proofs.Common.{◌≡◌, ◌+◌, ◌-◌, ◌*◌, ◌/◌, ◌≤◌, ◌<◌, ap, sym, ◌∙◌, arith, subst, take, drop}
+use Rattle.std.proofs.Common.{◌+◌, ◌-◌, ◌*◌, ◌/◌, ◌≤◌, ◌<◌, ap, sym, ◌∙◌, arith, subst}
 use Rattle.dl_elf.specs.Elf.{bytes_at}
-use Rattle.dl_num.specs.Fixed.{little}
 use Rattle.dl_index.specs.Columns.{number_at, size_of}
 use Rattle.dl_index.specs.Layout.{field}
-use Rattle.dl_index.specs.LookUp.{FindsLast}
 use Rattle.dl_index_file.proofs.NarrowLemmas.{Narrowed, goes_up, goes_down, narrows}
 use Rattle.dl_index_file.proofs.RangeLemmas.{number_of_piece}
 use Rattle.dl_index_file.proofs.search.last_upto.Goals as goal
@@ -20,30 +18,29 @@ loop-left-preserved g c =
     let low : c.if-branch-x.low + (l.left - half) ≤ c.args.count = elim c.if-branch-x.branch [
       | then-branch-x w ↦ (let is = w.low-is in let within = inv.1 in omega arith)
       | else-branch-x w ↦ (let is = w.low-is in let within = inv.1 in omega arith)
-    ] in
-    (
+    ] in (
       omega arith,
       low,
       inv.2,
       inv.3,
       λ f is short.
-      (let start = number_at s (bytes_at c.args.starts.now.offset c.args.starts.now.size f) in
-      let read =
-      c.in_ok-number_in.ensures.value f is short
-      ∙ ap (λ n. field ((l.low + half) * n) s (bytes_at c.args.starts.now.offset c.args.starts.now.size f)) c.size-size.ensures in
-      let n = inv.4 f is short in
-      elim c.if-branch-x.branch [
-        | then-branch-x w ↦
-            subst
-            (λ k. Narrowed start c.args.count c.args.x k (l.left - half))
-            (sym w.low-is)
-            (goes_up start c.args.count c.args.x l.low l.left inv.1 inv.0 n half (omega arith) (subst (λ m. m ≤ c.args.x) read w.if-branch-x.true))
-        | else-branch-x w ↦
-            subst
-            (λ k. Narrowed start c.args.count c.args.x k (l.left - half))
-            (sym w.low-is)
-            (goes_down start c.args.count c.args.x l.low l.left inv.1 inv.0 n half (omega arith) (subst (λ m. c.args.x < m) read (let no = w.if-branch-x.false in omega arith)))
-      ]),
+          (let start = number_at s (bytes_at c.args.starts.now.offset c.args.starts.now.size f) in
+          let read =
+          c.in_ok-number_in.ensures.value f is short
+          ∙ ap (λ n. field ((l.low + half) * n) s (bytes_at c.args.starts.now.offset c.args.starts.now.size f)) c.size-size.ensures in
+          let n = inv.4 f is short in
+          elim c.if-branch-x.branch [
+            | then-branch-x w ↦
+                subst
+                (λ k. Narrowed start c.args.count c.args.x k (l.left - half))
+                (sym w.low-is)
+                (goes_up start c.args.count c.args.x l.low l.left inv.1 inv.0 n half (omega arith) (subst (λ m. m ≤ c.args.x) read w.if-branch-x.true))
+            | else-branch-x w ↦
+                subst
+                (λ k. Narrowed start c.args.count c.args.x k (l.left - half))
+                (sym w.low-is)
+                (goes_down start c.args.count c.args.x l.low l.left inv.1 inv.0 n half (omega arith) (subst (λ m. c.args.x < m) read (let no = w.if-branch-x.false in omega arith)))
+          ]),
     )
 
 pub returns-clause-last : goal.returns-clause-last
