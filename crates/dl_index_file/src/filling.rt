@@ -28,6 +28,19 @@ pub fn fill_all<S: ReadAt>(source: &S, offset: u64, buffer: &mut [u8]) -> io::Re
     }
 }
 
+/// Fills a buffer with the bytes of a range, from this byte of it on.
+pub fn fill_in<S: ReadAt>(source: &S, range: &Range, at: u64, buffer: &mut [u8]) -> io::Result<()>
+    requires some { 1 ≤ length buffer.old }
+    requires inside { at + length buffer.old ≤ range.now.size }
+    requires below { range.now.offset + range.now.size < 2 ^ 64 }
+    requires within { ForBytes (S.all_bytes source.now) (λ b. range.now.offset + range.now.size ≤ length b) }
+    ensures bytes { ForBytes (S.all_bytes source.now) (λ b. IfOk result (λ _. buffer.new
+        ≡ take (length buffer.old) (drop at (bytes_at range.now.offset range.now.size b)))) }
+    ensures fails { IfErr result (ReadFails (S.all_bytes source.now) (S.fails_with source.now)) }
+{
+    fill_all(source, range.offset + at, buffer)
+}
+
 /// The number of this width that stands in a range, from this byte of it on.
 pub fn number_in<S: ReadAt>(source: &S, range: &Range, at: u64, width: Width) -> io::Result<u64>
     requires inside { at + size_of width ≤ range.now.size }

@@ -14,5 +14,5 @@ mod search;
 mod text;
 
 pub use fault::{OpenFault, TextFault};
-pub use index::IndexFile;
+pub use index::{FileFound, IndexFile, TextPlaces};
 pub use opening::{is_index, open_index};
