@@ -12,7 +12,7 @@ use Rattle.dl_index_file.specs.declared.fault.TextFault.TheVariants.{Read, NoMem
 abbrev pub ReadFails : Option (List ℕ) → (Error → Type 0) → Error → Type 0
 ReadFails known Fails error = Fails error ⊎ ((error_kind error ≡ UnexpectedEof) × ForBytes known (λ _. ⊥))
 
--- a read failed, since the file has ended
+-- a read failed, since the file has ended. No public contract reaches this
 abbrev pub EndsBefore : TextFault → Type 0
 EndsBefore (Read error) = error_kind error ≡ UnexpectedEof
 EndsBefore NoMemory = ⊥
