@@ -25,11 +25,10 @@ build_id_is b front n same small is =
     ∙ ap (λ k. take k (drop 84 b)) (is ∙ byte_is front b same 80 (omega arith))
 
 -- a number of a column
-pub column_is : (s' s w k n : ℕ) (column range : List ℕ) → s' ≡ s → s ≡ w → column ≡ range
-    → n ≡ field (k * s') s range → n ≡ number_at w column k
-column_is s' s w k n column range same width are is =
-    is ∙ ap (λ m. field (k * m) s range) same ∙ ap (λ m. number_at m range k) width
-    ∙ ap (λ x. number_at w x k) (sym are)
+pub column_is : (s w k n : ℕ) (column range : List ℕ) → s ≡ w → column ≡ range → n ≡ number_at s range k
+    → n ≡ number_at w column k
+column_is s w k n column range width are is =
+    is ∙ ap (λ m. number_at m range k) width ∙ ap (λ x. number_at w x k) (sym are)
 
 pub byte_read : (xs : List ℕ) (i : ℕ) → i < length xs → little (take 1 (drop i xs)) ≡ slice_index xs i
 byte_read xs i less =
@@ -37,12 +36,15 @@ byte_read xs i less =
 
 -- a byte of a part
 pub bits_are : (b range : List ℕ) (k n offset size : ℕ) → range ≡ bytes_at offset size b → offset + size ≤ length b
-    → (k + 7) / 8 ≤ size → n < k → (byte : ℕ) → byte ≡ field (n / 8) 1 (bytes_at offset size b)
+    → (k + 7) / 8 ≤ size → n < k → (byte : ℕ) → byte ≡ number_at 1 (bytes_at offset size b) (n / 8)
     → byte ≡ slice_index range (n / 8)
 bits_are b range k n offset size are within enough less byte is =
     let len = length-take size (drop offset b) in
     let rest = length-drop offset b in
-    is ∙ byte_read (bytes_at offset size b) (n / 8) (omega arith) ∙ ap (λ x. slice_index x (n / 8)) (sym are)
+    let at : n / 8 * 1 ≡ n / 8 = omega arith in
+    let column = bytes_at offset size b in
+    is ∙ ap (λ m. little (take 1 (drop m column))) at ∙ byte_read column (n / 8) (omega arith)
+    ∙ ap (λ x. slice_index x (n / 8)) (sym are)
 
 -- a number of a row
 pub row_number : (table row : List ℕ) (at size from len n : ℕ) → row ≡ take size (drop at table) → from + len ≤ size

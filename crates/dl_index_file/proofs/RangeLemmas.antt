@@ -29,14 +29,14 @@ size_some Two = omega arith
 size_some Four = omega arith
 size_some Eight = omega arith
 
--- what was read into the front of a buffer is a piece of a range
-pub read_is : (b zeros part rest : List ℕ) (n s offset size at : ℕ) → n ≡ s → s ≤ length zeros → at + s ≤ size
-    → length part ≡ length (take n zeros) → part ≡ take (length (take n zeros)) (drop (offset + at) b)
-    → take s (take n (part ++ rest)) ≡ take s (drop at (take size (drop offset b)))
-read_is b zeros part rest n s offset size at is small inside len read =
+-- what was read into the front of a buffer
+pub read_is : (rest zeros part tail : List ℕ) (n s at : ℕ) → n ≡ s → s ≤ length zeros
+    → length part ≡ length (take n zeros) → part ≡ take (length (take n zeros)) (drop at rest)
+    → take s (take n (part ++ tail)) ≡ take s (drop at rest)
+read_is rest zeros part tail n s at is small len read =
     let m = length-take n zeros in
-    take-take s n (part ++ rest) (omega arith) ∙ take-append-le s part rest (omega arith) ∙ ap (take s) read
-    ∙ take-take s (length (take n zeros)) (drop (offset + at) b) (omega arith) ∙ sym (piece b offset size at s inside)
+    take-take s n (part ++ tail) (omega arith) ∙ take-append-le s part tail (omega arith) ∙ ap (take s) read
+    ∙ take-take s (length (take n zeros)) (drop at rest) (omega arith)
 
 pub first_number : (s : ℕ) (column : List ℕ) → number_at s column 0 ≡ little (take s column)
 first_number s column =

@@ -12,11 +12,6 @@ use Rattle.dl_index_file.specs.declared.fault.TextFault.TheVariants.{Read, NoMem
 abbrev pub ReadFails : Option (List ℕ) → (Error → Type 0) → Error → Type 0
 ReadFails known Fails error = Fails error ⊎ ((error_kind error ≡ UnexpectedEof) × ForBytes known (λ _. ⊥))
 
--- a read failed, since the file has ended. No public contract reaches this
-abbrev pub EndsBefore : TextFault → Type 0
-EndsBefore (Read error) = error_kind error ≡ UnexpectedEof
-EndsBefore NoMemory = ⊥
-
 -- of bytes up to `end` not all are read: a read failed with an error of the source, or the file ends before, or memory was
 -- refused
 abbrev pub TextFails : Option (List ℕ) → (Error → Type 0) → (end : ℕ) → TextFault → Type 0

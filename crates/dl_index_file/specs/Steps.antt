@@ -1,11 +1,15 @@
 -- What the steps of a look-up find. No promise rests on this file.
 use Rattle.std.specs.Prelude.{◌≡◌, ℕ, ◌-◌, ◌<◌, ◌≤◌, ◌⊎◌, List, Option, IfSome, MatchOption}
 use Rattle.std.specs.Option.{option_map}
+use Rattle.std.specs.IoError.{error_kind}
+use Rattle.std.specs.declared.io.ErrorKind.TheVariants.{UnexpectedEof}
 use Rattle.dl_elf.specs.declared.file.Range.{Range}
 use Rattle.dl_index.specs.Layout.{base_in, count_in, start_in, line_in, column_in, discriminator_in, is_stmt_in}
 use Rattle.dl_index.specs.LookUp.{FindsLast}
 use Rattle.dl_index.specs.Telling.{text_in, texts_of, told_in}
 use Rattle.dl_index_file.specs.Shown.{text_shown, texts_shown, shown, Lies, TextsLie}
+use Rattle.dl_index_file.specs.declared.fault.TextFault.{TextFault}
+use Rattle.dl_index_file.specs.declared.fault.TextFault.TheVariants.{Read, NoMemory}
 use Rattle.dl_index_file.specs.declared.index.FileFound.{FileFound}
 use Rattle.dl_index_file.specs.declared.index.TextPlaces.{TextPlaces}
 use Rattle.dl_index_file.specs.declared.index.StretchNumbers.{StretchNumbers}
@@ -33,3 +37,8 @@ pub record HasNumbers (b : List ℕ) (k : ℕ) (n : StretchNumbers) : Type 0 whe
   pub column : n.column ≡ column_in b k
   pub discriminator : n.discriminator ≡ discriminator_in b k
   pub is_stmt : n.is_stmt ≡ is_stmt_in b k
+
+-- a read failed, since the file has ended
+abbrev pub EndsBefore : TextFault → Type 0
+EndsBefore (Read error) = error_kind error ≡ UnexpectedEof
+EndsBefore NoMemory = ⊥

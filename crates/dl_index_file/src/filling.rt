@@ -1,10 +1,9 @@
 //! Numbers and bytes that stand at a place of a file.
 
-ghost use Rattle.std.specs.Prelude.{◌≡◌, ◌+◌, ◌<◌, ◌≤◌, ◌^◌, length, take, drop, IfOk, IfErr};
+ghost use Rattle.std.specs.Prelude.{◌≡◌, ◌+◌, ◌*◌, ◌<◌, ◌≤◌, ◌^◌, length, take, drop, IfOk, IfErr};
 ghost use Rattle.dl_elf.specs.Elf.{bytes_at};
 ghost use Rattle.dl_elf.specs.Source.{ForBytes};
-ghost use Rattle.dl_index.specs.Columns.{size_of};
-ghost use Rattle.dl_index.specs.Layout.{field};
+ghost use Rattle.dl_index.specs.Columns.{number_at, size_of};
 ghost use Rattle.dl_index_file.specs.Reading.{ReadFails};
 
 use dl_elf::{Range, ReadAt, fill_whole};
@@ -41,18 +40,18 @@ pub fn fill_in<S: ReadAt>(source: &S, range: &Range, at: u64, buffer: &mut [u8])
     fill_all(source, range.offset + at, buffer)
 }
 
-/// The number of this width that stands in a range, from this byte of it on.
-pub fn number_in<S: ReadAt>(source: &S, range: &Range, at: u64, width: Width) -> io::Result<u64>
-    requires inside { at + size_of width ≤ range.now.size }
-    requires below { range.now.offset + range.now.size < 2 ^ 64 }
-    requires within { ForBytes (S.all_bytes source.now) (λ b. range.now.offset + range.now.size ≤ length b) }
+/// Number `k` of a column of this width, which fills a range.
+pub fn number_at<S: ReadAt>(source: &S, column: &Range, width: Width, k: u64) -> io::Result<u64>
+    requires inside { k * size_of width + size_of width ≤ column.now.size }
+    requires below { column.now.offset + column.now.size < 2 ^ 64 }
+    requires within { ForBytes (S.all_bytes source.now) (λ b. column.now.offset + column.now.size ≤ length b) }
     ensures value { ForBytes (S.all_bytes source.now) (λ b. IfOk result (λ n.
-        n ≡ field at (size_of width) (bytes_at range.now.offset range.now.size b))) }
+        n ≡ number_at (size_of width) (bytes_at column.now.offset column.now.size b) k)) }
     ensures fails { IfErr result (ReadFails (S.all_bytes source.now) (S.fails_with source.now)) }
 {
     let mut buffer = [0; 8];
     let size = width.size();
-    fill_all(source, range.offset + at, &mut buffer[..size])?;
+    fill_in(source, column, k * size as u64, &mut buffer[..size])?;
     let numbers = Numbers {
         bytes: &buffer[..size],
         width,

@@ -5,7 +5,7 @@ ghost use Rattle.dl_elf.specs.Source.{ForBytes};
 ghost use Rattle.dl_index_file.specs.Kept.{IsKept, StandsIn};
 
 use crate::fault::TextFault;
-use crate::filling::{fill_in, number_in};
+use crate::filling::{fill_in, number_at};
 use crate::parts::Places;
 use crate::search::last_upto;
 use crate::text::read_range;
@@ -58,11 +58,8 @@ struct StretchNumbers {
 }
 
 impl<'a, S: ReadAt> IndexFile<'a, S> {
-    ghost use Rattle.std.specs.Prelude.{◌≡◌, ◌+◌, ◌-◌, ◌*◌, ◌%◌, ◌<◌, ◌≤◌, ◌==◌, ◌++◌, ℕ, true, length, take, drop, Option, IfOk, IfErr, IfSome, MatchOption};
-    ghost use Rattle.std.specs.Option.{option_map};
-    ghost use Rattle.dl_index.specs.Layout.{flags_in, build_id_in, base_in, count_in, file_in, files_in, is_stmt_in, part};
-    ghost use Rattle.dl_index.specs.LookUp.{FindsLast};
-    ghost use Rattle.dl_index.specs.Layout.{start_in};
+    ghost use Rattle.std.specs.Prelude.{◌≡◌, ◌+◌, ◌-◌, ◌*◌, ◌%◌, ◌<◌, ◌≤◌, ◌==◌, ◌++◌, ℕ, true, length, take, drop, Option, IfOk, IfErr, IfSome};
+    ghost use Rattle.dl_index.specs.Layout.{flags_in, build_id_in, count_in, file_in, is_stmt_in, part};
     ghost use Rattle.dl_index_file.specs.Opening.{source_of};
     ghost use Rattle.dl_index_file.specs.Reading.{ReadFails, TextFails};
     ghost use Rattle.dl_elf.specs.Elf.{bytes_at};
@@ -187,13 +184,7 @@ impl<'a, S: ReadAt> IndexFile<'a, S> {
         ensures fails { IfErr result
             (ReadFails (S.all_bytes (source_of self.now)) (S.fails_with (source_of self.now))) }
     {
-        let width = self.header.widths.files;
-        number_in(
-            self.source,
-            &self.places.files,
-            k * width.size() as u64,
-            width,
-        )
+        number_at(self.source, &self.places.files, self.header.widths.files, k)
     }
 
     /// The other numbers of stretch `k`.
@@ -206,20 +197,10 @@ impl<'a, S: ReadAt> IndexFile<'a, S> {
         let source = self.source;
         let places = &self.places;
         let widths = self.header.widths;
-        let (of_line, of_column, of_discriminator) = (
-            widths.lines.size() as u64,
-            widths.columns.size() as u64,
-            widths.discriminators.size() as u64,
-        );
         Ok(StretchNumbers {
-            line: number_in(source, &places.lines, k * of_line, widths.lines)?,
-            column: number_in(source, &places.columns, k * of_column, widths.columns)?,
-            discriminator: number_in(
-                source,
-                &places.discriminators,
-                k * of_discriminator,
-                widths.discriminators,
-            )?,
+            line: number_at(source, &places.lines, widths.lines, k)?,
+            column: number_at(source, &places.columns, widths.columns, k)?,
+            discriminator: number_at(source, &places.discriminators, widths.discriminators, k)?,
             is_stmt: self.is_stmt(k)?,
         })
     }
@@ -231,7 +212,7 @@ impl<'a, S: ReadAt> IndexFile<'a, S> {
         ensures fails { IfErr result
             (ReadFails (S.all_bytes (source_of self.now)) (S.fails_with (source_of self.now))) }
     {
-        let bits = number_in(self.source, &self.places.statements, k / 8, Width::One)?;
+        let bits = number_at(self.source, &self.places.statements, Width::One, k / 8)?;
         Ok((bits >> (k % 8)) % 2 == 1)
     }
 

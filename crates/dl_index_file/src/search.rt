@@ -7,7 +7,7 @@ ghost use Rattle.dl_index.specs.Columns.{number_at, size_of};
 ghost use Rattle.dl_index.specs.LookUp.{FindsLast};
 ghost use Rattle.dl_index_file.specs.Reading.{ReadFails};
 
-use crate::filling::{fill_all, number_in};
+use crate::filling::{fill_all, number_at};
 use dl_elf::{Range, ReadAt};
 use dl_index::{Numbers, Width};
 use std::io;
@@ -39,7 +39,7 @@ pub fn last_upto<S: ReadAt>(
     let mut left = count;
     while left > most {
         let half = left / 2;
-        if number_in(source, starts, (low + half) * size, width)? <= x {
+        if number_at(source, starts, width, low + half)? <= x {
             low += half;
         }
         left -= half;

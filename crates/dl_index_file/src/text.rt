@@ -5,7 +5,8 @@ ghost use Rattle.std.specs.IoError.{error_kind};
 ghost use Rattle.dl_elf.specs.Elf.{bytes_at};
 ghost use Rattle.dl_elf.specs.Sections.{range_within};
 ghost use Rattle.dl_elf.specs.Source.{ForBytes};
-ghost use Rattle.dl_index_file.specs.Reading.{EndsBefore, TextFails};
+ghost use Rattle.dl_index_file.specs.Reading.{TextFails};
+ghost use Rattle.dl_index_file.specs.Steps.{EndsBefore};
 
 use crate::fault::TextFault;
 use dl_elf::{Range, ReadAt, fill_whole};

@@ -1,7 +1,6 @@
 use Rattle.std.proofs.Common.{◌+◌, ◌-◌, ◌*◌, ◌/◌, ◌≤◌, ◌<◌, ap, sym, ◌∙◌, arith, subst}
 use Rattle.dl_elf.specs.Elf.{bytes_at}
 use Rattle.dl_index.specs.Columns.{number_at, size_of}
-use Rattle.dl_index.specs.Layout.{field}
 use Rattle.dl_index_file.proofs.NarrowLemmas.{Narrowed, goes_up, goes_down, narrows}
 use Rattle.dl_index_file.proofs.RangeLemmas.{number_of_piece}
 use Rattle.dl_index_file.proofs.search.last_upto.Goals as goal
@@ -25,9 +24,7 @@ loop-left-preserved g c =
       inv.3,
       λ f is short.
           (let start = number_at s (bytes_at c.args.starts.now.offset c.args.starts.now.size f) in
-          let read =
-          c.in_ok-number_in.ensures.value f is short
-          ∙ ap (λ n. field ((l.low + half) * n) s (bytes_at c.args.starts.now.offset c.args.starts.now.size f)) c.size-size.ensures in
+          let read = c.in_ok-number_at.ensures.value f is short in
           let n = inv.4 f is short in
           elim c.if-branch-x.branch [
             | then-branch-x w ↦

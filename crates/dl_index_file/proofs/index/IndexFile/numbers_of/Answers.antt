@@ -11,13 +11,13 @@ returns-clause-numbers g c f is short =
     let k = c.args.k in
     record {
       line =
-          column_is _ (size_of w.lines) _ k _ _ _ c.size.ensures of.lines st.parts.lines
-          (c.in_ok-number_in.ensures.value f is short);
+          column_is (size_of w.lines) _ k _ _ _ of.lines st.parts.lines
+          (c.in_ok-number_at.ensures.value f is short);
       column =
-          column_is _ (size_of w.columns) _ k _ _ _ c.size-2.ensures of.columns st.parts.columns
-          (c.in_ok-number_in-2.ensures.value f is short);
+          column_is (size_of w.columns) _ k _ _ _ of.columns st.parts.columns
+          (c.in_ok-number_at-2.ensures.value f is short);
       discriminator =
-          column_is _ (size_of w.discriminators) _ k _ _ _ c.size-3.ensures of.discriminators st.parts.discriminators
-          (c.in_ok-number_in-3.ensures.value f is short);
+          column_is (size_of w.discriminators) _ k _ _ _ of.discriminators st.parts.discriminators
+          (c.in_ok-number_at-3.ensures.value f is short);
       is_stmt = c.in_ok-is_stmt.ensures.is f is short;
     }
