@@ -96,7 +96,8 @@ impl<'a, S: ReadAt> IndexFile<'a, S> {
 
     /// What is told of an address: nothing in a gap, and before the first stretch. What stands after the header wasn't
     /// checked: nothing is told either where the number of a file or text, or the place of a text, lies outside. No more
-    /// than 64 pieces are read.
+    /// than 64 pieces are read. The error is that of a read, or of the kind `UnexpectedEof` where the file has become
+    /// shorter since it was opened.
     pub fn find(&self, address: u64) -> io::Result<Option<FileFound>>
         ensures finds { ForBytes (S.all_bytes (source_of self.now)) (λ b. IfOk result (FindsIn b address)) }
         ensures fails { IfErr result
@@ -109,7 +110,8 @@ impl<'a, S: ReadAt> IndexFile<'a, S> {
     }
 
     /// Puts the bytes of a text that was told behind those of `out`. They are read piece by piece, and memory is taken
-    /// for what was read. On an error some of them may stand there already.
+    /// for what was read. The fault is that of a read, of the kind `UnexpectedEof` where the range doesn't lie in the file, or
+    /// that memory was refused; some of the bytes may stand in `out` then.
     pub fn read_text(&self, text: Range, out: &mut Vec<u8>) -> Result<(), TextFault>
         ensures bytes { ForBytes (S.all_bytes (source_of self.now)) (λ b. IfOk result (λ _.
             out.new.items ≡ out.old.items ++ bytes_at text.offset text.size b)) }
