@@ -5,11 +5,11 @@ _dwline() {
     local before=${COMP_WORDS[COMP_CWORD - 1]}
     COMPREPLY=()
     if [ "$COMP_CWORD" = 1 ]; then
-        mapfile -t COMPREPLY < <(compgen -W "addr dump check find copy help -h --help -V --version" -- "$current")
+        mapfile -t COMPREPLY < <(compgen -W "addr index dump check find copy help -h --help -V --version" -- "$current")
         return
     fi
     case $before in
-        --line-str | --str | -e | --exe | --comp-dir)
+        --line-str | --str | -e | --exe | --comp-dir | -o | --output)
             mapfile -t COMPREPLY < <(compgen -f -- "$current")
             return
             ;;
@@ -24,12 +24,13 @@ _dwline() {
     local options
     case ${COMP_WORDS[1]} in
         addr) options="-a --addresses -s --basenames --json --hex --base --all --stop -j --section -e --exe --older --address-size --version-5 --comp-dir --big --line-str --str -h --help" ;;
+        index) options="--all --keep-going -j --section --address-size --version-5 --comp-dir --list -o --output -h --help" ;;
         dump) options="--keep-going --older --address-size --version-5 --big --line-str --str -h --help" ;;
         check) options="--keep-going --older --address-size --version-5 --big -h --help" ;;
         copy) options="--to-5 --older --address-size --comp-dir --big -h --help" ;;
         find) options="--op -j --section --older --address-size --version-5 --big --line-str --str -h --help" ;;
         help)
-            mapfile -t COMPREPLY < <(compgen -W "addr dump check find copy help" -- "$current")
+            mapfile -t COMPREPLY < <(compgen -W "addr index dump check find copy help" -- "$current")
             return
             ;;
         *) return ;;

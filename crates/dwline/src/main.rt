@@ -1,10 +1,14 @@
 //! The program `dwline`: its words, its files and streams, and its status.
 #![tactic(auto)]
 
+mod indices;
+
+use crate::indices::{list_index, write_index};
 use dl_addr::Found;
 use dl_cmd::{Job, read_job, word_status};
 use dl_elf::ReadAt;
-use dl_open::{FileSource, FileUnits, units_not_read};
+use dl_index::IndexFault;
+use dl_open::{FileSource, FileUnits, Shown, units_not_read};
 use dl_run::{RunFault, read_strings};
 use dl_work::{DamageLines, Stop, file_units, locate, looked_into, with_debug_file, work};
 use std::alloc::{AllocError, Global};
@@ -21,6 +25,10 @@ enum Ending<'a> {
     /// A word isn't UTF-8.
     NotText,
     Stop(Stop<'a>),
+    /// The index can't be written under this path.
+    NotWritten { path: &'a str, error: io::Error },
+    /// The file at this path isn't an index that is read.
+    NoIndex { path: &'a str, fault: IndexFault },
 }
 
 impl From<AllocError> for Ending<'_> {
@@ -154,6 +162,19 @@ fn run_words<'a>(rt: &HostRuntime, words: &'a [&'a str]) -> Result<u8, Ending<'a
             Found::NotAll => Ok(1),
         };
     }
+    if let Some(Job::Index(words)) = &job {
+        if words.list {
+            return list_index(rt, words);
+        }
+        let survey = write_index(rt, words)?;
+        if survey.summary.skipped > 0 {
+            tell_not_read(rt, path, read);
+        }
+        return match survey.damaged {
+            Some(units) => Err(Ending::Stop(Stop::Damaged { units })),
+            None => Ok(0),
+        };
+    }
     let mut damages = DamageLines::new(rt.stderr());
     match work(alloc, job, &files, input, output, &mut damages) {
         Ok(survey) => Ok(if survey.damaged.is_some() { 1 } else { 0 }),
@@ -176,6 +197,14 @@ fn report(rt: &HostRuntime, ending: Ending<'_>) -> u8 {
         Ending::NotText => {
             let _ = writeln!(rt.stderr(), "dwline: a word isn't UTF-8");
             2
+        }
+        Ending::NotWritten { path, error } => {
+            let _ = writeln!(rt.stderr(), "dwline: {}: cannot write: {error}", Shown(path));
+            3
+        }
+        Ending::NoIndex { path, fault } => {
+            let _ = writeln!(rt.stderr(), "dwline: {}: {fault}", Shown(path));
+            1
         }
         Ending::Stop(stop) => {
             let stop = with_debug_file(&System { rt }, stop);
