@@ -1,6 +1,6 @@
 use Rattle.std.proofs.lemmas.Result.{IfOk-weaker}
 use Rattle.dl_cmd.proofs.CommandLineLemmas.{IsRule-wanting, Wants-more}
-use Rattle.dl_cmd.proofs.command_line.wanting.Goals as goal
+use Rattle.dl_cmd.proofs.arguments.wanting.Goals as goal
 
 pub returns-clause-rule : goal.returns-clause-rule
 returns-clause-rule c = λ r is.

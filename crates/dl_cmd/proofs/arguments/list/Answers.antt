@@ -1,6 +1,6 @@
 use Rattle.std.proofs.Common.{codes, []}
 use Rattle.dl_cmd.specs.CommandLine.{list_rule, switch_rule}
-use Rattle.dl_cmd.proofs.command_line.list.Goals as goal
+use Rattle.dl_cmd.proofs.arguments.list.Goals as goal
 
 pub returns-clause-rule : goal.returns-clause-rule
 returns-clause-rule c =

@@ -1,5 +1,5 @@
 use Rattle.std.proofs.Common.{[]}
-use Rattle.dl_cmd.proofs.command_line.address_size_of_file.Goals as goal
+use Rattle.dl_cmd.proofs.arguments.address_size_of_file.Goals as goal
 
 pub returns-clause-rule : goal.returns-clause-rule
 returns-clause-rule c = c.wanting.ensures.rule _ c.address_size.ensures.rule

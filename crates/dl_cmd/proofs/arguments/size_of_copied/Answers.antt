@@ -1,5 +1,5 @@
 use Rattle.std.proofs.Common.{[], ◌∷◌, codes}
-use Rattle.dl_cmd.proofs.command_line.size_of_copied.Goals as goal
+use Rattle.dl_cmd.proofs.arguments.size_of_copied.Goals as goal
 
 pub returns-clause-rule : goal.returns-clause-rule
 returns-clause-rule c = c.wanting.ensures.rule _ c.in_ok-address_size_of_file.ensures.rule

@@ -3,7 +3,7 @@ use Rattle.std.specs.Prelude.{true}
 use Rattle.std.proofs.lemmas.Result.{IfOk-weaker}
 use Rattle.dl_cmd.specs.CommandLine.{file_rule}
 use Rattle.dl_cmd.proofs.CommandLineLemmas.{Excludes-one, IsRule-excluding, excludes_more}
-use Rattle.dl_cmd.proofs.command_line.file.Goals as goal
+use Rattle.dl_cmd.proofs.arguments.file.Goals as goal
 
 pub returns-clause-rule : goal.returns-clause-rule
 returns-clause-rule c =

@@ -5,7 +5,7 @@ use Rattle.std.proofs.lemmas.Result.{IfOk-weaker}
 use Rattle.clap.specs.declared.builder.arg.Arg.{Arg}
 use Rattle.dl_cmd.specs.CommandLine.{Excludes, IsRule}
 use Rattle.dl_cmd.proofs.CommandLineLemmas.{Excludes-one, IsRule-excluding}
-use Rattle.dl_cmd.proofs.command_line.excluding.Goals as goal
+use Rattle.dl_cmd.proofs.arguments.excluding.Goals as goal
 
 pub returns-clause-rule : goal.returns-clause-rule
 returns-clause-rule c = λ r made.

@@ -2,7 +2,7 @@ use Rattle.std.proofs.Common.{codes, ◌∷◌, []}
 use Rattle.std.proofs.lemmas.Result.{IfOk-weaker}
 use Rattle.dl_cmd.specs.CommandLine.{file_rule}
 use Rattle.dl_cmd.proofs.CommandLineLemmas.{Excludes-one, excludes_more, IsRule-excluding}
-use Rattle.dl_cmd.proofs.command_line.file_with_strings.Goals as goal
+use Rattle.dl_cmd.proofs.arguments.file_with_strings.Goals as goal
 
 pub returns-clause-rule : goal.returns-clause-rule
 returns-clause-rule c =
