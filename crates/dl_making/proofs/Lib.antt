@@ -3,3 +3,4 @@ pub mod NumberLemmas
 pub mod MakerLemmas
 pub mod IndexLemmas
 pub mod MakingLemmas
+pub mod WritingLemmas

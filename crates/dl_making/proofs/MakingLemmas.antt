@@ -3,12 +3,9 @@ use Rattle.std.proofs.Common.{◌≡◌, inl, inr, ℕ, List, [], Option, Ok, Er
 use Rattle.std.proofs.Common.{arith, ap, ap₂, ◌∙◌}
 use Rattle.std.specs.Prelude.{Bool}
 use Rattle.std.specs.Option.{option_copied, option_map}
-use Rattle.std.specs.Global.{Vec}
 use Rattle.dl_head.specs.declared.dialect.Dialect.{Dialect}
-use Rattle.dl_print.specs.declared.summary.Summary.{Summary}
 use Rattle.dl_print.specs.ValueText.{Strings, strings_of}
 use Rattle.dl_dirs.specs.Compilation.{directory_by}
-use Rattle.dl_run.specs.declared.around.Survey.{Survey}
 use Rattle.dl_run.specs.declared.fault.RunFault.{RunFault}
 use Rattle.dl_run.specs.declared.fault.RunFault.TheVariants as fault
 use Rattle.dl_run.specs.Around.{RanAround, visits_around}
@@ -22,6 +19,7 @@ use Rattle.dl_addr.proofs.LocatedLemmas.{located_of_section}
 use Rattle.dl_index.specs.Stretches.{Told}
 use Rattle.dl_stretch.specs.Runs.{place_at}
 use Rattle.dl_making.specs.declared.maker.Maker.{Maker}
+use Rattle.dl_making.specs.declared.making.Made.{Made}
 use Rattle.dl_making.specs.declared.making.MadeAround.{MadeAround}
 use Rattle.dl_making.specs.declared.making.Table.{Table}
 use Rattle.dl_making.specs.IsIndexOf.{IsIndexOf}
@@ -61,23 +59,22 @@ module _ (dialect : Dialect) (first : Maker) (table : Table) (s : Strings) (know
       knows.strings knows.directories
 
   module _ (limit : ℕ) (bytes : List ℕ) (left : Option (List ℕ)) (new : Maker) (start now : Option (List ℕ)) where
-    pub makes : (summary : Summary) (index : Vec ℕ)
-        → Ran making_story dialect limit bytes left first new start now (Ok summary)
+    pub makes : (made : Made)
+        → Ran making_story dialect limit bytes left first new start now (Ok made.summary)
         → ((visits : List Visit) → Making first new start now visits
-        → IsIndexOf table.all (id_kept table) (told_after first visits) index.items)
-        → Makes dialect s table limit bytes left (Ok index)
-    makes summary index (inl (units, ends, settled)) made = (
+        → IsIndexOf table.all (id_kept table) (told_after first visits) made.index.items)
+        → Makes dialect s table limit bytes left (Ok made)
+    makes made (inl (units, ends, settled)) is_made = (
       units,
-      summary,
       ends,
       same_index table.all (id_kept table) (told_after first (section_visits dialect units []))
-          (told_in dialect s table units) index.items
+          (told_in dialect s table units) made.index.items
           (λ a. told_same (section_visits dialect units []) a
           (λ live. Rattle.dl_addr.specs.Locations.located dialect live units (place_at a))
           (λ live. located_of_section live (place_at a) dialect first.unit units []))
-          (made (section_visits dialect units []) settled.tells),
+          (is_made (section_visits dialect units []) settled.tells),
     )
-    makes summary index (inr done) made = absurd done.4.tells
+    makes made (inr done) is_made = absurd done.4.tells
 
     pub fails : (f : RunFault) → Ran making_story dialect limit bytes left first new start now (Err f)
         → Makes dialect s table limit bytes left (Err f)
@@ -96,17 +93,15 @@ module _ (dialect : Dialect) (first : Maker) (table : Table) (s : Strings) (know
     fails (fault.Emit unit e) (units, b, back, inl (ends, settled)) = (units, b, back, ends)
     fails (fault.Emit unit e) (units, b, back, inr (has, sound, stops)) = absurd (let r = stops.reason in cc)
 
-    pub makes_around : (survey : Survey) (made : MadeAround) → made.damaged ≡ survey.damaged
-        → RanAround making_story dialect limit bytes left first new start now (Ok survey)
+    pub makes_around : (made : MadeAround)
+        → RanAround making_story dialect limit bytes left first new start now (Ok made.survey)
         → ((visits : List Visit) → Making first new start now visits
         → IsIndexOf table.all (id_kept table) (told_after first visits) made.index.items)
         → MakesAround dialect s table limit bytes left (Ok made)
-    makes_around survey made damaged (inl (blocks, rest, ends, settled)) is_made = (
+    makes_around made (inl (blocks, rest, ends, settled)) is_made = (
       blocks,
       rest,
-      survey,
       ends,
-      damaged,
       same_index table.all (id_kept table) (told_after first (visits_around dialect blocks rest))
           (told_around dialect s table blocks) made.index.items
           (λ a. told_same (visits_around dialect blocks rest) a
@@ -114,7 +109,7 @@ module _ (dialect : Dialect) (first : Maker) (table : Table) (s : Strings) (know
           (λ live. located_of_around dialect live (place_at a) first.unit blocks rest))
           (is_made (visits_around dialect blocks rest) settled.tells),
     )
-    makes_around survey made damaged (inr done) is_made = absurd done.4.tells
+    makes_around made (inr done) is_made = absurd done.4.tells
 
     pub fails_around : (f : RunFault) → RanAround making_story dialect limit bytes left first new start now (Err f)
         → MakesAround dialect s table limit bytes left (Err f)

@@ -3,6 +3,7 @@ pub mod Files
 pub mod Telling
 pub mod IsIndexOf
 pub mod Makes
+pub mod Writes
 -- Of contracts inside the crate, and of proofs; no public contract reaches these.
 pub mod UnitFile
 pub mod Numbers

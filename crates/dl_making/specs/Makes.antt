@@ -1,12 +1,9 @@
 -- What the making of an index comes to. bytes: what was read from a reader, which has `left` left; None: it isn't known.
-use Rattle.std.specs.Prelude.{⊤, ◌≡◌, ℕ, List, [], take, Option, Result, Ok, Err}
+use Rattle.std.specs.Prelude.{⊤, ℕ, List, [], take, Option, Result, Ok, Err}
 use Rattle.std.specs.Option.{option_copied, option_map}
-use Rattle.std.specs.Global.{Vec}
 use Rattle.dl_head.specs.declared.dialect.Dialect.{Dialect}
-use Rattle.dl_print.specs.declared.summary.Summary.{Summary}
 use Rattle.dl_print.specs.ValueText.{Strings}
 use Rattle.dl_dirs.specs.Compilation.{directory_by}
-use Rattle.dl_run.specs.declared.around.Survey.{Survey}
 use Rattle.dl_run.specs.declared.fault.RunFault.{RunFault}
 use Rattle.dl_run.specs.declared.fault.RunFault.TheVariants as fault
 use Rattle.dl_run.specs.Around.{Block, Rest, EndsAround}
@@ -15,6 +12,7 @@ use Rattle.dl_addr.specs.AroundCommands.{located_around}
 use Rattle.dl_addr.specs.Code.{is_code}
 use Rattle.dl_stretch.specs.Runs.{place_at}
 use Rattle.dl_index.specs.Stretches.{Told}
+use Rattle.dl_making.specs.declared.making.Made.{Made}
 use Rattle.dl_making.specs.declared.making.MadeAround.{MadeAround}
 use Rattle.dl_making.specs.declared.making.Table.{Table}
 use Rattle.dl_making.specs.IsIndexOf.{IsIndexOf}
@@ -38,10 +36,10 @@ id_kept table = take 32 table.build_id.now
 -- `make_index`: the index of the units to the end; or the first fault, as of `check`. Nothing is said of where memory is
 -- refused
 abbrev pub Makes : Dialect → Strings → Table → (limit : ℕ) (bytes : List ℕ) (left : Option (List ℕ))
-    → Result (Vec ℕ) RunFault → Type 0
-Makes dialect s table limit bytes left (Ok index) =
-    (units : List (List ℕ)) × (summary : Summary) × EndsAs dialect limit bytes left units [] [] (Ok summary)
-    × IsIndexOf table.all (id_kept table) (told_in dialect s table units) index.items
+    → Result Made RunFault → Type 0
+Makes dialect s table limit bytes left (Ok made) =
+    (units : List (List ℕ)) × EndsAs dialect limit bytes left units [] [] (Ok made.summary)
+    × IsIndexOf table.all (id_kept table) (told_in dialect s table units) made.index.items
 Makes dialect s table limit bytes left (Err fault.NoMemory) = ⊤
 Makes dialect s table limit bytes left (Err f) =
     (units : List (List ℕ)) × (b : List ℕ) × (back : List ℕ) × EndsAs dialect limit bytes left units b back (Err f)
@@ -50,8 +48,7 @@ Makes dialect s table limit bytes left (Err f) =
 abbrev pub MakesAround : Dialect → Strings → Table → (limit : ℕ) (bytes : List ℕ) (left : Option (List ℕ))
     → Result MadeAround RunFault → Type 0
 MakesAround dialect s table limit bytes left (Ok made) =
-    (blocks : List Block) × (rest : Rest) × (survey : Survey)
-    × EndsAround dialect limit bytes left blocks rest (Ok survey) × (made.damaged ≡ survey.damaged)
+    (blocks : List Block) × (rest : Rest) × EndsAround dialect limit bytes left blocks rest (Ok made.survey)
     × IsIndexOf table.all (id_kept table) (told_around dialect s table blocks) made.index.items
 MakesAround dialect s table limit bytes left (Err fault.NoMemory) = ⊤
 MakesAround dialect s table limit bytes left (Err f) =

@@ -5,5 +5,7 @@ mod files;
 mod maker;
 mod making;
 mod numbers;
+mod writing;
 
-pub use making::{MadeAround, Table, make_index, make_index_around};
+pub use making::{Made, MadeAround, Table, make_index, make_index_around};
+pub use writing::{write_index, write_index_around};

@@ -13,8 +13,8 @@ use crate::maker::Maker;
 use dl_dirs::CompilationDirectories;
 use dl_look::{CodeRanges, NoMemory};
 use dl_pack::index_bytes;
-use dl_print::StringSections;
-use dl_run::{DamagedUnits, Options, RunFault, SECTION_LIMIT, read_units, read_units_around};
+use dl_print::{StringSections, Summary};
+use dl_run::{Options, RunFault, SECTION_LIMIT, Survey, read_units, read_units_around};
 use std::alloc::Global;
 use std::io;
 use std::io::Read;
@@ -32,11 +32,20 @@ pub struct Table<'a> {
     pub build_id: &'a [u8],
 }
 
+/// The index of a section.
+#[derive(Drop)]
+pub struct Made {
+    pub index: Vec<u8>,
+    /// What its units come to.
+    pub summary: Summary,
+}
+
 /// The index of a section of which units may be damaged.
 #[derive(Drop)]
 pub struct MadeAround {
     pub index: Vec<u8>,
-    pub damaged: Option<DamagedUnits>,
+    /// What its whole units come to, and which units are damaged.
+    pub survey: Survey,
 }
 
 /// Makes the index of a section: the bytes that answer each address as the units of the section do, in their order.
@@ -48,16 +57,16 @@ pub fn make_index<R: Read>(
     input: &mut R,
     table: &Table<'_>,
     options: &Options<'_>,
-) -> Result<Vec<u8>, RunFault>
+) -> Result<Made, RunFault>
     requires { options.now.limit ≤ SECTION_LIMIT }
     ensures { (bs : List ℕ) × Consumes (R.remaining input.old) (R.remaining input.new) bs
         × Makes options.now.dialect (strings_in options.now) table.now options.now.limit bs (R.remaining input.new) result }
 {
     let strings = StringSections::new(options.debug_line_str, options.debug_str);
     let mut maker = Maker::new(alloc, &strings, table.code, table.directories);
-    read_units(alloc, input, &mut io::sink(), options, &mut maker)?;
-    match made(alloc, &maker, table) {
-        Ok(index) => Ok(index),
+    let summary = read_units(alloc, input, &mut io::sink(), options, &mut maker)?;
+    match told_index(alloc, &maker, table) {
+        Ok(index) => Ok(Made { index, summary }),
         Err(NoMemory) => Err(RunFault::NoMemory),
     }
 }
@@ -80,17 +89,18 @@ pub fn make_index_around<R: Read>(
     let strings = StringSections::new(options.debug_line_str, options.debug_str);
     let mut maker = Maker::new(alloc, &strings, table.code, table.directories);
     let survey = read_units_around(alloc, input, &mut io::sink(), options, &mut maker)?;
-    match made(alloc, &maker, table) {
-        Ok(index) => Ok(MadeAround {
-            index,
-            damaged: survey.damaged,
-        }),
+    match told_index(alloc, &maker, table) {
+        Ok(index) => Ok(MadeAround { index, survey }),
         Err(NoMemory) => Err(RunFault::NoMemory),
     }
 }
 
 /// The index of what a maker was told.
-fn made(alloc: Global, maker: &Maker<'_, '_, '_>, table: &Table<'_>) -> Result<Vec<u8>, NoMemory>
+fn told_index(
+    alloc: Global,
+    maker: &Maker<'_, '_, '_>,
+    table: &Table<'_>,
+) -> Result<Vec<u8>, NoMemory>
     ensures { IfOk result (λ index. (first : makers.Maker) (start held : Option (List ℕ)) (visits : List Visit)
         → Making first maker.now start held visits
         → IsIndexOf table.now.all (id_kept table.now) (told_after first visits) index.items) }

@@ -7,10 +7,10 @@ use Rattle.dl_making.proofs.MakerLemmas.{begins}
 use Rattle.dl_making.proofs.MakingLemmas.{Knows, fails, makes}
 use Rattle.dl_making.proofs.making.make_index.Goals as goal
 
-pub returns-in_err-read_units : goal.returns-in_err-read_units
-returns-in_err-read_units g c =
+pub returns-in_err-summary : goal.returns-in_err-summary
+returns-in_err-summary g c =
     let p = err_from_is_err_and c.from_residual.result c.from_residual.ensures.1 in
-    let read = c.in_err-read_units.ensures in
+    let read = c.in_err-summary.ensures in
     let maker = c.new-maker.ensures in
     let options = c.args.options.now in
     let first = c.new-maker.result in
@@ -26,7 +26,7 @@ returns-in_err-read_units g c =
 
 pub returns-in-Ok : goal.returns-in-Ok
 returns-in-Ok g c =
-    let read = c.in_ok-read_units.ensures in
+    let read = c.in_ok-summary.ensures in
     let maker = c.new-maker.ensures in
     let options = c.args.options.now in
     let first = c.new-maker.result in
@@ -36,7 +36,8 @@ returns-in-Ok g c =
       read.0,
       read.1,
       makes options.dialect first c.args.table.now (strings_in options) knows options.limit read.0
-          (g.R.Read.remaining c.read_units.new.input) new None None c.in_ok-read_units.field-0 c.in-Ok.index
+          (g.R.Read.remaining c.read_units.new.input) new None None
+          (record { index = c.in-Ok.index; summary = c.in_ok-summary.summary })
           (read.2 (begins first None maker.runs maker.names (Appends-nil None)) (Appends-nil None))
           (λ visits m. c.in-Ok.ensures first None None visits m),
     )

@@ -1,4 +1,4 @@
-use Rattle.std.proofs.Common.{None, ap, refl, ◌∙◌}
+use Rattle.std.proofs.Common.{None, ap, ◌∙◌}
 use Rattle.std.proofs.KnownBytes.{Appends-nil}
 use Rattle.dl_print.specs.ValueText.{strings_of}
 use Rattle.dl_run.proofs.Names.{err_from_is_err_and}
@@ -36,8 +36,8 @@ returns-in-Ok g c =
       read.0,
       read.1,
       makes_around options.dialect first c.args.table.now (strings_in options) knows options.limit read.0
-          (g.R.Read.remaining c.read_units_around.new.input) new None None c.in_ok-survey.survey
-          (record { index = c.in-Ok.index; damaged = c.in_ok-survey.survey.damaged }) refl
+          (g.R.Read.remaining c.read_units_around.new.input) new None None
+          (record { index = c.in-Ok.index; survey = c.in_ok-survey.survey })
           (read.2 (begins first None maker.runs maker.names (Appends-nil None)) (Appends-nil None))
           (λ visits m. c.in-Ok.ensures first None None visits m),
     )

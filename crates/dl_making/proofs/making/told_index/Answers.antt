@@ -11,7 +11,7 @@ use Rattle.dl_pack.specs.Telling.{StretchesRise}
 use Rattle.dl_making.specs.Makes.{id_kept}
 use Rattle.dl_making.specs.Making.{code_of, told_after}
 use Rattle.dl_making.proofs.IndexLemmas.{is_index_of, rise}
-use Rattle.dl_making.proofs.making.made.Goals as goal
+use Rattle.dl_making.proofs.making.told_index.Goals as goal
 
 pub returns-in-Ok : goal.returns-in-Ok
 returns-in-Ok c first start held visits m =

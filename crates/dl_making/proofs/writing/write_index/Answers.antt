@@ -1,0 +1,46 @@
+use Rattle.std.proofs.Common.{◌∙◌, subst}
+use Rattle.std.specs.Io.KnownBytes.{Appends}
+use Rattle.std.proofs.lemmas.Result.{err_from_is_err_and}
+use Rattle.dl_print.specs.Output.{TellsOut}
+use Rattle.dl_run.specs.Commands.{strings_in}
+use Rattle.dl_making.proofs.WritingLemmas.{keeps_same, lost, not_made, written}
+use Rattle.dl_making.proofs.writing.write_index.Goals as goal
+
+pub returns-in_err-made : goal.returns-in_err-made
+returns-in_err-made g c =
+    let p = err_from_is_err_and c.from_residual.result c.from_residual.ensures.1 in
+    let read = c.in_err-made.ensures in
+    let options = c.args.options.now in
+    rw (p.1, p.2) (
+      read.0,
+      read.1,
+      not_made options.dialect (strings_in options) c.args.table.now options.limit read.0
+          (g.R.Read.remaining c.make_index.new.input) (g.W.Write.contents c.args.output.now)
+          (g.W.Write.contents c.args.output.now) _ read.2 (keeps_same (g.W.Write.contents c.args.output.now)),
+    )
+
+pub returns-in-Ok : goal.returns-in-Ok
+returns-in-Ok g c =
+    let read = c.in_ok-made.ensures in
+    let options = c.args.options.now in
+    let old = g.W.Write.contents c.args.output.now in
+    let new = g.W.Write.contents c.put_bytes.new.output in (
+      read.0,
+      read.1,
+      written options.dialect (strings_in options) c.args.table.now options.limit read.0
+          (g.R.Read.remaining c.make_index.new.input) old new c.in_ok-made.made read.2
+          (subst (Appends old new) c.as_slice.ensures.value c.in-Ok.ensures),
+    )
+
+pub returns : goal.returns
+returns g c =
+    let read = c.in_ok-made.ensures in
+    let options = c.args.options.now in
+    let old = g.W.Write.contents c.args.output.now in
+    let new = g.W.Write.contents c.put_bytes.new.output in (
+      read.0,
+      read.1,
+      lost options.dialect (strings_in options) c.args.table.now options.limit read.0
+          (g.R.Read.remaining c.make_index.new.input) old new c.in_ok-made.made c.in-Err.lost read.2
+          (subst (λ text. TellsOut old new text c.in-Err.lost) c.as_slice.ensures.value c.in-Err.ensures),
+    )
