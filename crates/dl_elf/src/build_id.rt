@@ -44,6 +44,13 @@ impl BuildId {
         id.try_extend_from_slice(bytes).ok()?;
         Some(BuildId { bytes: id })
     }
+
+    /// Its bytes.
+    pub fn as_bytes(&self) -> &[u8]
+        ensures { result.now ≡ build_id_bytes self.entry.now }
+    {
+        self.bytes.as_slice()
+    }
 }
 
 impl fmt::Display for BuildId {

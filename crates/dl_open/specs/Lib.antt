@@ -6,6 +6,7 @@ pub mod Files
 pub mod Parts
 pub mod Tables
 pub mod Code
+pub mod BuildIds
 pub mod Directories
 pub mod NotRead
 -- For what a value stands, or what was read; no promise rests on how these are said.

@@ -5,6 +5,7 @@
 //! one, with its path, a [`FileStop`].
 #![tactic(auto)]
 
+mod build_id;
 mod code;
 mod debug_file;
 mod dialect;
@@ -19,6 +20,7 @@ mod shown;
 mod stop;
 mod strings;
 
+pub use build_id::build_id_of;
 pub use code::code_of;
 pub use debug_file::DebugFile;
 pub use dialect::{FileUnits, file_dialect};

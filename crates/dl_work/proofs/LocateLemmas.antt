@@ -2,7 +2,7 @@
 use Rattle.std.proofs.Common.{◌≡◌, ◌==◌, ◌⊎◌, inl, inr, ℕ, ◌||◌, Bool, true, false, List, [], length, map, Option, Some, None}
 use Rattle.std.proofs.Common.{Result, Ok}
 use Rattle.std.proofs.Common.{Err, refl, sym, ap, ◌∙◌, subst}
-use Rattle.std.specs.Option.{option_copied, option_or}
+use Rattle.std.specs.Option.{option_copied}
 use Rattle.std.specs.declared.io.Error.{Error}
 use Rattle.std.proofs.KnownBytes.{Keeps-refl}
 use Rattle.dl_elf.specs.Source.{ForBytes}
@@ -31,9 +31,9 @@ use Rattle.dl_work.specs.declared.stop.Stop.TheVariants.{NotUnderstood}
 use Rattle.dl_work.specs.Locate.{HasAsked, InputStops, IsNoQuestion, LocatesInFile, LocatesInSection, WordsStop}
 use Rattle.dl_work.specs.Locate.{Asks, Unanswered, are_addresses, asked_in_words, base_in, form_in}
 use Rattle.dl_work.specs.Asked.{SectionWords, section_of}
-use Rattle.dl_work.specs.Locate.{RefusesOpening, asking, said_directory, suits_file, suits_input}
+use Rattle.dl_work.specs.Locate.{asking, said_directory, suits_file, suits_input}
 use Rattle.dl_work.specs.Damages.{unheard}
-use Rattle.dl_work.specs.Compiled.{AreFound}
+use Rattle.dl_work.specs.Compiled.{AreFound, RefusesOpening, compiled_by, wants_directories}
 use Rattle.dl_work.specs.Understood.{IsUnderstood}
 use Rattle.dl_work.specs.declared.addr_words.AskedWords.{AskedWords}
 use Rattle.dl_work.specs.Located.{located}
@@ -45,13 +45,13 @@ use Rattle.dl_work.specs.Work.{OnInput}
 -- ---- where a file has code
 
 -- by ranges that say where there is code
-is_code-live : (ranges : Option CodeRanges) (code : Code) → AreLive ranges code → (a : ℕ)
+pub is_code-live : (ranges : Option CodeRanges) (code : Code) → AreLive ranges code → (a : ℕ)
     → is_code ranges a ≡ live_by false code a
 is_code-live None code live a = live a
 is_code-live (Some ranges) code live a = live a
 
 -- all count where all are asked for
-all_live : (all : Bool) (code : Code) (a : ℕ) → (all || live_by false code a) ≡ live_by all code a
+pub all_live : (all : Bool) (code : Code) (a : ℕ) → (all || live_by false code a) ≡ live_by all code a
 all_live true code a = refl
 all_live false code a = refl
 
@@ -124,11 +124,20 @@ module _ (held : Text → Option (List ℕ)) (fails : Text → Error → Type 0)
   pub file_refused : (u : AskedWords) (bytes : List ℕ) (left start now : Option (List ℕ)) (result : Result Located Stop)
       (stop : FileStop) (fault : FileFault)
       → suits_file w ≡ true → IsUnderstood w u → result ≡ Err (stop_of stop)
-      → ForBytes (held path) (λ f. RefusesOpening w (fails path) f fault) → IsAt path fault stop
+      → (are_wanted : Bool) → are_wanted ≡ wants_directories w
+      → ForBytes (held path) (λ f. RefusesOpening are_wanted (fails path) f fault) → IsAt path fault stop
       → (IsUnderstood w u → Unanswered w bytes left start now)
       → LocatesInFile held fails path w bytes left start now result
-  file_refused u bytes left start now result stop fault says understood is refuses at unanswered =
-      λ f known short. inr (inl (stop, fault, says, refuses f known short, at, is, unanswered understood))
+  file_refused u bytes left start now result stop fault says understood is are_wanted wants refuses at unanswered =
+      λ f known short. inr (inl (
+        stop,
+        fault,
+        says,
+        subst (λ (b : Bool). RefusesOpening b (fails path) f fault) wants (refuses f known short),
+        at,
+        is,
+        unanswered understood,
+      ))
 
   pub input_stops : (given : List Asked) (bytes : List ℕ) (left start : Option (List ℕ)) (result : Result Located Stop)
       (stop : Stop) → result ≡ Err stop → given ≡ asked_in_words w → InputStops w given bytes stop
@@ -149,8 +158,9 @@ module _ (held : Text → Option (List ℕ)) (fails : Text → Error → Type 0)
       → base_in w ≡ Some base
       → q.asked.now ≡ slice → slice ≡ lines.asked.items → q.base ≡ base
       → ((a : ℕ) → is_code (option_copied q.code) a ≡ (w.all || is_code ranges a)) → q.directories ≡ said
-      → (found : Directories) → ((n : ℕ) → directory_by said n ≡ option_or w.comp_dir (directory_at found n))
-      → ForBytes (held path) (λ f. AreFound w f (directory_at found)) → q.style.form ≡ form_in w
+      → (found : Directories) → ((n : ℕ) → directory_by said n ≡ compiled_by w.comp_dir (directory_at found) n)
+      → (are_wanted : Bool) → are_wanted ≡ wants_directories w
+      → ForBytes (held path) (λ f. AreFound are_wanted f (directory_at found)) → q.style.form ≡ form_in w
       → q.style.basenames ≡ w.basenames → option_copied q.style.section ≡ w.section
       → ForBytes (held path) (λ f. (code : Code) × IsCode f (Ok code)
       × AreLive ranges code)
@@ -159,7 +169,8 @@ module _ (held : Text → Option (List ℕ)) (fails : Text → Error → Type 0)
       command f start now unheard answer)
       → result ≡ located (over_file answer) lines.no_address → LocatesInFile held fails path w bytes left start now result
   file_done ranges given slice base bytes left start now lines said q answer result says words has understood based asked
-      sliced own live directories found comp_dir are_found form basenames section codes command asked_by does is =
+      sliced own live directories found comp_dir are_wanted wants are_found form basenames section codes command asked_by
+      does is =
       λ f known short.
       let k = codes f known short in
       inr (inr (inr (
@@ -171,7 +182,7 @@ module _ (held : Text → Option (List ℕ)) (fails : Text → Error → Type 0)
         k.1,
         subst (λ (g : List Asked). HasAsked w g bytes left lines) words has,
         directory_at found,
-        are_found f known short,
+        subst (λ (b : Bool). AreFound b f (directory_at found)) wants (are_found f known short),
         record {
           asked = asked ∙ sliced;
           understood = understood;

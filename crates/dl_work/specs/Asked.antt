@@ -21,14 +21,14 @@ use Rattle.dl_print.specs.declared.summary.Summary.{Summary}
 use Rattle.dl_cmd.specs.Address.{address_in}
 use Rattle.dl_run.specs.Commands.{Checks, Copies, CopiesAs, Dumps, Finds, to_5}
 use Rattle.dl_run.specs.AroundCommands.{ChecksAround, DumpsAround}
-use Rattle.dl_cmd.specs.Job.{Request, Text, addr, check, copy, dump, find}
+use Rattle.dl_cmd.specs.Job.{Request, Text, addr, check, copy, dump, find, index}
 use Rattle.dl_print.specs.ValueText.{Strings}
 use Rattle.dl_open.specs.declared.named.Sections.{Sections}
 use Rattle.dl_open.specs.declared.named.Sections.TheVariants.{Lines, LinesAndTexts}
 use Rattle.dl_work.specs.Units.{are_sizes, older_by, units_of}
 use Rattle.dl_work.specs.declared.command.Command.{Command}
 use Rattle.dl_work.specs.declared.command.Command.TheVariants.{Addr, Dump, DumpAround, Check, CheckAround, Find, Copy}
-use Rattle.dl_work.specs.declared.command.Command.TheVariants.{AddrAround, CopyTo5}
+use Rattle.dl_work.specs.declared.command.Command.TheVariants.{AddrAround, CopyTo5, Index, IndexAround}
 use Rattle.dl_work.specs.declared.command.TheConstants.{NOTHING}
 use Rattle.dl_addr.specs.declared.question.Found.{Found}
 use Rattle.dl_addr.specs.declared.question.FoundAround.{FoundAround}
@@ -36,6 +36,8 @@ use Rattle.dl_addr.specs.declared.question.Question.{Question}
 use Rattle.dl_addr.specs.declared.question.Found.TheVariants as found
 use Rattle.dl_addr.specs.AroundCommands.{LocatesAround}
 use Rattle.dl_addr.specs.Commands.{Locates}
+use Rattle.dl_making.specs.declared.making.Table.{Table}
+use Rattle.dl_making.specs.Writes.{Writes, WritesAround}
 use Rattle.dl_run.specs.declared.fault.RunFault.TheVariants.{NotFound}
 
 -- the place of `find`; none where ADDRESS is no address
@@ -53,6 +55,8 @@ pub data CommandData : Type 0 where
   copies_to_5 : (comp_dir : Option Text) → CommandData
   answers : Question → CommandData
   answers_around : Question → CommandData
+  indexes : Table → CommandData
+  indexes_around : Table → CommandData
 
 abbrev pub command_seen : Command → CommandData
 command_seen Dump = dumps
@@ -64,9 +68,11 @@ command_seen Copy = copies
 command_seen (CopyTo5 comp_dir) = copies_to_5 (option_map (λ s. s.now) comp_dir)
 command_seen (Addr question) = answers question
 command_seen (AddrAround question) = answers_around question
+command_seen (Index table) = indexes table
+command_seen (IndexAround table) = indexes_around table
 
--- the command; none where ADDRESS is no address, where a section of an object file is named without FILE, and of
--- `addr`, which asks for many
+-- the command; none where ADDRESS is no address, where a section of an object file is named without FILE, of `addr`,
+-- which asks for many, and of `index`, which is made with what the file tells
 abbrev pub command_asked : Request → Option CommandData
 command_asked (dump file big units line_str str true) = Some dumps_around
 command_asked (dump file big units line_str str false) = Some dumps
@@ -77,6 +83,7 @@ command_asked (find file big units address op section line_str str) = option_map
 command_asked (copy file big units true comp_dir) = Some (copies_to_5 comp_dir)
 command_asked (copy file big units false comp_dir) = Some copies
 command_asked (addr words) = None
+command_asked (index words) = None
 
 -- the same; none also where a size is no size
 abbrev pub command_of : Request → Option CommandData
@@ -89,22 +96,25 @@ file_of (check file big units keep_going) = file
 file_of (find file big units address op section line_str str) = file
 file_of (copy file big units to_5 comp_dir) = file
 file_of (addr words) = words.file
+file_of (index words) = words.file
 
 -- `-` is no path of a file
 abbrev pub unless_input : Option Text → Option Text
 unless_input None = None
 unless_input (Some path) = if bytes_eq path (codes "-") then None else Some path
 
--- the path of the ELF file in which addresses are looked up
+-- the path of the ELF file in which addresses are looked up, or whose addresses an index tells
 abbrev pub looked_into : Request → Option Text
 looked_into (find file big units address op section line_str str) = file
 looked_into (addr words) = unless_input words.file
+looked_into (index words) = if words.list then None else words.file
 looked_into other = None
 
 -- the section of an object file that is looked into
 abbrev pub part_name_of : Request → Option Text
 part_name_of (find file big units address op section line_str str) = section
 part_name_of (addr words) = words.section
+part_name_of (index words) = words.section
 part_name_of other = None
 
 -- what is said of a section on the input; older: the size of an address in units before version 5
@@ -125,6 +135,7 @@ section_of (copy file big units to_5 comp_dir) =
     record { big = big; older = units.older; line_str = None; strings = None }
 section_of (addr words) =
     record { big = words.big; older = words.units.older; line_str = words.line_str; strings = words.strings }
+section_of (index words) = record { big = false; older = words.units.older; line_str = None; strings = None }
 
 abbrev pub order_of : (big : Bool) → Order
 order_of big = if big then Big else Little
@@ -137,7 +148,7 @@ is_copy Copy = true
 is_copy (CopyTo5 comp_dir) = true
 is_copy other = false
 
--- what a command looks into of a file: the string sections where it prints their texts
+-- what a command looks into of a file: the string sections where it tells their texts
 abbrev pub sections_of : Command → Sections
 sections_of Check = Lines
 sections_of CheckAround = Lines
@@ -145,11 +156,13 @@ sections_of Copy = Lines
 sections_of (CopyTo5 comp_dir) = Lines
 sections_of other = LinesAndTexts
 
--- it looks addresses up
+-- it looks addresses up, or tells what is looked up
 abbrev pub looks_up : Command → Bool
 looks_up (Find place) = true
 looks_up (Addr question) = true
 looks_up (AddrAround question) = true
+looks_up (Index table) = true
+looks_up (IndexAround table) = true
 looks_up other = false
 
 -- what `addr` answered, as the other commands answer
@@ -208,6 +221,9 @@ Does (Addr question) dialect s limit bytes left start now = EndsThere (λ answer
 Does (AddrAround question) dialect s limit bytes left start now = GoesOn (λ answer.
     (found : Result FoundAround RunFault) × (answer ≡ answered_around found)
     × LocatesAround dialect s question limit bytes left start now found)
+Does (Index table) dialect s limit bytes left start now = EndsThere (Writes dialect s table limit bytes left start now)
+Does (IndexAround table) dialect s limit bytes left start now =
+    GoesOn (WritesAround dialect s table limit bytes left start now)
 
 -- what `addr` writes of a section without bytes, so that each address has no answer
 abbrev pub Unfound : Question → (start now : Option (List ℕ)) → Type 0
@@ -216,7 +232,7 @@ Unfound question start now =
     × Locates (version_5 Little) (record { line_strings = None; strings = None }) question SECTION_LIMIT bytes left
     start now found
 
--- what a command writes where there is no line table; only those that look addresses up write something
+-- what a command writes where there is no line table; `addr` alone writes something
 abbrev pub WithoutTable : Command → (start now : Option (List ℕ)) → Type 0
 WithoutTable (Addr question) start now = Unfound question start now
 WithoutTable (AddrAround question) start now = Unfound question start now

@@ -1,25 +1,33 @@
--- In which directories the units of a file were compiled, for the words of `addr`. DWARF 5, section 3.1.1. f: the bytes of
--- the file; fails: the errors that reading it may give.
-use Rattle.std.specs.Prelude.{◌≡◌, ℕ, Bool, true, false, not, ◌&&◌, is_none, List, Option, None}
-use Rattle.dl_cmd.specs.Job.{AddrTexts}
+-- What is told of a file before its line table is read: where it has code, and in which directories its units were compiled.
+-- DWARF 5, section 3.1.1. f: the bytes of the file; fails: the errors that opening and reading it may give; are_wanted: the
+-- directories are looked for.
+use Rattle.std.specs.Prelude.{◌≡◌, ◌⊎◌, ℕ, Bool, true, false, not, ◌&&◌, is_none, List, Option, None}
+use Rattle.std.specs.Option.{option_or}
+use Rattle.std.specs.declared.io.Error.{Error}
+use Rattle.dl_cmd.specs.Job.{AddrTexts, Text}
+use Rattle.dl_open.specs.Code.{RefusesCode}
 use Rattle.dl_open.specs.Directories.{AreDirectories, RefusesDirectories}
 use Rattle.dl_open.specs.declared.fault.FileFault.{FileFault}
 use Rattle.dl_open.specs.declared.fault.FileFault.TheVariants.{Elf}
-use Rattle.std.specs.declared.io.Error.{Error}
 
--- they are looked for where none is said, and paths are printed whole
+-- for `addr` they are looked for where none is said, and paths are printed whole
 abbrev pub wants_directories : AddrTexts → Bool
 wants_directories w = is_none w.comp_dir && not w.basenames
 
-abbrev pub AreFoundWhere : (are_wanted : Bool) (f : List ℕ) → (ℕ → Option (List ℕ)) → Type 0
-AreFoundWhere true f g = AreDirectories f g
-AreFoundWhere false f g = (n : ℕ) → g n ≡ None
-
 -- those that the file says, by the offsets of its units; none where they aren't looked for
-abbrev pub AreFound : AddrTexts → (f : List ℕ) → (ℕ → Option (List ℕ)) → Type 0
-AreFound w f g = AreFoundWhere (wants_directories w) f g
+abbrev pub AreFound : (are_wanted : Bool) (f : List ℕ) → (ℕ → Option (List ℕ)) → Type 0
+AreFound true f g = AreDirectories f g
+AreFound false f g = (n : ℕ) → g n ≡ None
 
 -- why they can't be, where they are looked for
-abbrev pub RefusesFinding : AddrTexts → (fails : Error → Type 0) (f : List ℕ) → FileFault → Type 0
-RefusesFinding w fails f (Elf fault) = (wants_directories w ≡ true) × RefusesDirectories fails f fault
-RefusesFinding w fails f other = ⊥
+abbrev pub RefusesFinding : (are_wanted : Bool) (fails : Error → Type 0) (f : List ℕ) → FileFault → Type 0
+RefusesFinding are_wanted fails f (Elf fault) = (are_wanted ≡ true) × RefusesDirectories fails f fault
+RefusesFinding are_wanted fails f other = ⊥
+
+-- it can't be told where the file has code, or in which directories its units were compiled
+abbrev pub RefusesOpening : (are_wanted : Bool) (fails : Error → Type 0) (f : List ℕ) → FileFault → Type 0
+RefusesOpening are_wanted fails f fault = RefusesCode fails f fault ⊎ RefusesFinding are_wanted fails f fault
+
+-- the directory that the words say of all units, or else those that were found
+abbrev pub compiled_by : (said : Option Text) (found : ℕ → Option (List ℕ)) → (unit : ℕ) → Option (List ℕ)
+compiled_by said found unit = option_or said (found unit)

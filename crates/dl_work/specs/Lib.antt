@@ -9,6 +9,7 @@ pub mod Work
 pub mod Located
 pub mod Compiled
 pub mod Locate
+pub mod Indexing
 -- Of contracts inside the crate, and of proofs; no public contract reaches these.
 pub mod Held
 pub mod Understood

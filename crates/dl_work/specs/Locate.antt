@@ -4,7 +4,7 @@
 use Rattle.std.specs.Prelude.{◌≡◌, ◌≢◌, ◌⊎◌, ℕ, Bool, true, false, not, ◌&&◌, List, [], ◌∷◌, ◌++◌, map}
 use Rattle.std.specs.Prelude.{if◌then◌else◌, option_to_list, Option, Some, None, is_none, is_some, MatchOption, Result, Ok, Err, codes}
 use Rattle.std.specs.List.{list_all}
-use Rattle.std.specs.Option.{option_copied, option_map_or, option_or}
+use Rattle.std.specs.Option.{option_copied, option_map_or}
 use Rattle.std.specs.Str.{bytes_eq}
 use Rattle.std.specs.Io.KnownBytes.{IsAtEnd, Keeps}
 use Rattle.std.specs.declared.io.Error.{Error}
@@ -25,7 +25,7 @@ use Rattle.dl_addr.specs.declared.style.Form.{Form}
 use Rattle.dl_addr.specs.declared.style.Form.TheVariants.{Location, AddressAndLocation, Json}
 use Rattle.dl_open.specs.declared.fault.FileFault.{FileFault}
 use Rattle.dl_open.specs.declared.stop.FileStop.{FileStop}
-use Rattle.dl_open.specs.Code.{RefusesCode, live_by}
+use Rattle.dl_open.specs.Code.{live_by}
 use Rattle.dl_open.specs.Stops.{IsAt}
 use Rattle.dl_work.specs.declared.command.Command.{Command}
 use Rattle.dl_work.specs.declared.command.Command.TheVariants.{Addr, AddrAround}
@@ -37,7 +37,7 @@ use Rattle.dl_work.specs.Damages.{unheard}
 use Rattle.dl_work.specs.Located.{located}
 use Rattle.dl_work.specs.Stops.{over_file, stop_of}
 use Rattle.dl_work.specs.Tables.{OnFile}
-use Rattle.dl_work.specs.Compiled.{AreFound, RefusesFinding}
+use Rattle.dl_work.specs.Compiled.{AreFound, RefusesOpening, compiled_by, wants_directories}
 use Rattle.dl_work.specs.Units.{file_units, is_size}
 use Rattle.dl_work.specs.Work.{OnInput, StopsBefore}
 
@@ -145,26 +145,18 @@ Unanswered w bytes left start now =
     ⊎ ((lines : AskedLines) × (q : Question) × HasAsked w (asked_in_words w) bytes left lines
     × Asks w lines.asked.items (λ a. true) (said_directory w) q × WithoutTable (Addr q) start now)
 
--- it can't be told where the file has code, or in which directories its units were compiled
-abbrev pub RefusesOpening : AddrTexts → (fails : Error → Type 0) (f : List ℕ) → FileFault → Type 0
-RefusesOpening w fails f fault = RefusesCode fails f fault ⊎ RefusesFinding w fails f fault
-
--- the directory that the words say of all units, or else those that were found
-abbrev pub compiled_by : AddrTexts → (found : ℕ → Option (List ℕ)) → (unit : ℕ) → Option (List ℕ)
-compiled_by w found unit = option_or w.comp_dir (found unit)
-
 abbrev pub LocatesInFile : (held : Text → Option (List ℕ)) (fails : Text → Error → Type 0) → Text → AddrTexts
     → (bytes : List ℕ) (left start now : Option (List ℕ)) → Result Located Stop → Type 0
 LocatesInFile held fails path w bytes left start now result = ForBytes (held path) (λ f.
     ((stop : Stop) × (WordsStop w stop ⊎ ((suits_file w ≡ false) × (stop ≡ NotUnderstood)))
     × StopsBefore bytes start now result stop)
-    ⊎ ((stop : FileStop) × (fault : FileFault) × (suits_file w ≡ true) × RefusesOpening w (fails path) f fault
-    × IsAt path fault stop × (result ≡ Err (stop_of stop)) × Unanswered w bytes left start now)
+    ⊎ ((stop : FileStop) × (fault : FileFault) × (suits_file w ≡ true)
+    × RefusesOpening (wants_directories w) (fails path) f fault × IsAt path fault stop × (result ≡ Err (stop_of stop)) × Unanswered w bytes left start now)
     ⊎ ((stop : Stop) × InputStops w (asked_in_words w) bytes stop × (result ≡ Err stop) × Keeps start now)
     ⊎ ((code : Code) × (lines : AskedLines) × (q : Question) × (answer : Result Survey FileStop)
     × (suits_file w ≡ true) × IsCode f (Ok code) × HasAsked w (asked_in_words w) bytes left lines
-    × (found : ℕ → Option (List ℕ)) × AreFound w f found
-    × Asks w lines.asked.items (live_by w.all code) (compiled_by w found) q
+    × (found : ℕ → Option (List ℕ)) × AreFound (wants_directories w) f found
+    × Asks w lines.asked.items (live_by w.all code) (compiled_by w.comp_dir found) q
     × OnFile (file_units w.units) (fails path) path w.section (asking w q) f start now unheard answer
     × (result ≡ located (over_file answer) lines.no_address)))
 

@@ -9,7 +9,7 @@ use Rattle.dl_head.specs.declared.dialect.Older.{Older}
 use Rattle.dl_head.specs.declared.dialect.Older.TheVariants.{Foreign, Read}
 use Rattle.dl_open.specs.declared.dialect.FileUnits.{FileUnits}
 use Rattle.dl_open.specs.declared.dialect.FileUnits.TheVariants.{ByClass, Sized, Version5}
-use Rattle.dl_cmd.specs.Job.{Request, Text, UnitTexts, addr, check, copy, dump, find}
+use Rattle.dl_cmd.specs.Job.{Request, Text, UnitTexts, addr, check, copy, dump, find, index}
 
 -- the size in bytes that a word says
 abbrev pub size_in : Text → Option AddressSize
@@ -42,3 +42,4 @@ units_of (check file big units keep_going) = units
 units_of (find file big units address op section line_str str) = units
 units_of (copy file big units to_5 comp_dir) = units
 units_of (addr words) = words.units
+units_of (index words) = words.units

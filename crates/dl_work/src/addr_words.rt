@@ -6,6 +6,7 @@ ghost use Rattle.dl_cmd.specs.Job.{addr_words_made};
 ghost use Rattle.dl_dirs.specs.Compilation.{directory_by};
 ghost use Rattle.dl_asked.specs.AskedLines.{address_by};
 ghost use Rattle.dl_work.specs.Asked.{unless_input};
+ghost use Rattle.dl_work.specs.Compiled.{wants_directories};
 ghost use Rattle.dl_work.specs.Locate.{AddressesStop, IsFirstOther, WordsStop, are_addresses, asked_in_words, base_in};
 ghost use Rattle.dl_work.specs.Locate.{asking, form_in, suits_file, suits_input};
 
@@ -144,6 +145,13 @@ pub fn said_directory<'q>(words: &'q AddrWords<'_>) -> CompilationDirectories<'q
     ensures { (n : ℕ) → directory_by result n ≡ (addr_words_made words.entry.now).comp_dir }
 {
     directory_said(words.comp_dir)
+}
+
+/// Whether the directories are looked for that a file says: none is said, and paths are printed whole.
+pub fn wants_directories(words: &AddrWords<'_>) -> bool
+    ensures { result ≡ wants_directories (addr_words_made words.now) }
+{
+    words.comp_dir.is_none() && !words.basenames
 }
 
 /// What is asked of a section, which is of an object file where it is named.

@@ -14,6 +14,7 @@ use dl_cmd::{Job, read_address};
 use dl_dirs::CompilationDirectories;
 use dl_head::{Dialect, Older};
 use dl_look::Place;
+use dl_making::{Table, write_index, write_index_around};
 use dl_num::Order;
 use dl_open::Sections;
 use dl_run::{
@@ -63,6 +64,10 @@ pub enum Command<'a> {
     Addr(Question<'a>),
     /// Print where they are, by all units that are whole.
     AddrAround(Question<'a>),
+    /// Write the index of all units.
+    Index(Table<'a>),
+    /// Write that of all units that are whole.
+    IndexAround(Table<'a>),
 }
 
 /// The place that the words name; None where ADDRESS is no address.
@@ -126,7 +131,7 @@ fn all_whole(answer: Result<Summary, RunFault>) -> Result<Survey, RunFault>
 
 impl<'a> Command<'a> {
     /// What a job asks; None where its ADDRESS is no address or a size no size, where it names a section of an object
-    /// file without a file, and of `addr`, which asks for many.
+    /// file without a file, of `addr`, which asks for many, and of `index`, which is made with what the file tells.
     pub fn of(job: &Job<'a>) -> Option<Command<'a>>
         ensures { option_map command_seen result ≡ command_of (request_made job.now) }
     {
@@ -163,11 +168,11 @@ impl<'a> Command<'a> {
                 ..
             } => Some(Command::CopyTo5(*comp_dir)),
             Job::Copy { .. } => Some(Command::Copy),
-            Job::Addr(_) => None,
+            Job::Addr(_) | Job::Index(_) => None,
         }
     }
 
-    /// What it looks into of a file: the string sections where it prints their texts.
+    /// What it looks into of a file: the string sections where it tells their texts.
     pub fn sections(self) -> Sections
         ensures { result ≡ sections_of self.entry }
     {
@@ -176,20 +181,26 @@ impl<'a> Command<'a> {
             | Command::DumpAround
             | Command::Find(_)
             | Command::Addr(_)
-            | Command::AddrAround(_) => Sections::LinesAndTexts,
+            | Command::AddrAround(_)
+            | Command::Index(_)
+            | Command::IndexAround(_) => Sections::LinesAndTexts,
             Command::Check | Command::CheckAround | Command::Copy | Command::CopyTo5(_) => {
                 Sections::Lines
             }
         }
     }
 
-    /// Whether it looks addresses up.
+    /// Whether it looks addresses up, or tells what is looked up.
     pub fn looks_up(self) -> bool
         ensures { result ≡ looks_up self.entry }
     {
         matches!(
             self,
-            Command::Find(_) | Command::Addr(_) | Command::AddrAround(_)
+            Command::Find(_)
+                | Command::Addr(_)
+                | Command::AddrAround(_)
+                | Command::Index(_)
+                | Command::IndexAround(_)
         )
     }
 
@@ -243,6 +254,12 @@ impl<'a> Command<'a> {
             }
             Command::AddrAround(question) => {
                 answered_around(addr_around(alloc, input, output, &question, options))
+            }
+            Command::Index(table) => {
+                all_whole(write_index(alloc, input, output, &table, options))
+            }
+            Command::IndexAround(table) => {
+                write_index_around(alloc, input, output, &table, options)
             }
         }
     }

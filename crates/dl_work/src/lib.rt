@@ -7,8 +7,10 @@ mod command;
 mod compiled;
 mod damages;
 mod debug_file;
+mod indexing;
 mod located;
 mod locating;
+mod opening;
 mod over_file;
 mod over_input;
 mod stop;
@@ -17,6 +19,7 @@ mod working;
 
 pub use damages::DamageLines;
 pub use debug_file::with_debug_file;
+pub use indexing::index;
 pub use located::Located;
 pub use locating::locate;
 pub use stop::Stop;

@@ -1,36 +1,27 @@
 //! What the program does for `addr`: addresses, and where they are in the source.
-ghost use Rattle.std.specs.Prelude.{◌≡◌, ℕ, List, None, Ok, IfOk, MatchResult};
+ghost use Rattle.std.specs.Prelude.{◌≡◌, ℕ, List, None, MatchResult};
 ghost use Rattle.std.specs.Io.KnownBytes.{Consumes};
-ghost use Rattle.std.specs.declared.io.Error.{Error};
-ghost use Rattle.dl_elf.specs.Source.{ForBytes};
-ghost use Rattle.dl_file.specs.Code.{IsCode};
-ghost use Rattle.dl_file.specs.declared.code.Code as file_code;
 ghost use Rattle.dl_cmd.specs.Job.{addr_words_made};
-ghost use Rattle.dl_dirs.specs.Directories.{directory_at};
-ghost use Rattle.dl_open.specs.Code.{AreLive};
-ghost use Rattle.dl_work.specs.Locate.{HasAsked, InputStops, LocatesFor, LocatesInFile, LocatesInSection};
-ghost use Rattle.dl_work.specs.Compiled.{AreFound};
-ghost use Rattle.dl_work.specs.Locate.{RefusesOpening, Unanswered};
+ghost use Rattle.dl_work.specs.Locate.{HasAsked, InputStops, LocatesFor, LocatesInFile, LocatesInSection, Unanswered};
 ghost use Rattle.dl_work.specs.Understood.{IsUnderstood};
 
 use crate::addr_words::{
     AskedWords, INPUT, asked_words, asking, part_name, question, said_directory, suits_file,
-    suits_input,
+    suits_input, wants_directories,
 };
 use crate::code::{everywhere, live_in};
 use crate::command::Command;
-use crate::compiled::{compiled_in, directories_for};
+use crate::compiled::compiled_in;
 use crate::damages::Unheard;
 use crate::located::Located;
+use crate::opening::open_with_code;
 use crate::over_file::on_file;
 use crate::over_input::{Section, on_input};
 use crate::stop::{Stop, over_file};
 use crate::unit_words::units_of_file;
 use dl_asked::{AskedLines, read_asked};
 use dl_cmd::AddrWords;
-use dl_dirs::Directories;
-use dl_look::CodeRanges;
-use dl_open::{FileFault, FileSource, code_of, open_file};
+use dl_open::FileSource;
 use std::alloc::Global;
 use std::io::{Read, Write};
 
@@ -93,27 +84,6 @@ fn in_section<'a, F: FileSource, R: Read, W: Write>(
     Located::by_answer(answer, None)
 }
 
-/// The file at a path, open, where it has code, and the directories in which its units were compiled.
-fn open_with_code<F: FileSource>(
-    alloc: Global,
-    words: &AddrWords<'_>,
-    files: &F,
-    path: &str,
-) -> Result<(F::File, Option<CodeRanges>, Directories), FileFault>
-    ensures bytes { IfOk result (λ r. F.File.all_bytes r.0 ≡ F.held files.now path.now) }
-    ensures reads { IfOk result (λ r. (e : Error) → F.File.fails_with r.0 e → F.fails_with files.now path.now e) }
-    ensures code { ForBytes (F.held files.now path.now) (λ f. MatchResult result
-        (λ r. (code : file_code.Code) × IsCode f (Ok code) × AreLive r.1 code)
-        (RefusesOpening (addr_words_made words.now) (F.fails_with files.now path.now) f)) }
-    ensures directories { ForBytes (F.held files.now path.now) (λ f. IfOk result
-        (λ r. AreFound (addr_words_made words.now) f (directory_at r.2))) }
-{
-    let file = open_file(files, path)?;
-    let code = code_of(alloc, &file)?;
-    let directories = directories_for(alloc, words, &file)?;
-    Ok((file, code, directories))
-}
-
 /// Says of each address that it has no answer, where the addresses can be had.
 fn unanswered<'a, R: Read, W: Write>(
     alloc: Global,
@@ -158,7 +128,8 @@ fn in_file<'a, F: FileSource, R: Read, W: Write>(
         return Err(Stop::NotUnderstood);
     }
     let understood = asked_words(alloc, words)?;
-    let (file, code, directories) = match open_with_code(alloc, words, files, path) {
+    let wanted = wants_directories(words);
+    let (file, code, directories) = match open_with_code(alloc, wanted, files, path) {
         Ok(opened) => opened,
         Err(fault) => {
             unanswered(alloc, words, understood, input, output);
@@ -173,7 +144,7 @@ fn in_file<'a, F: FileSource, R: Read, W: Write>(
         base,
         lines.asked.as_slice(),
         live_in(words.all, code.as_ref()),
-        compiled_in(words, &directories),
+        compiled_in(words.comp_dir, &directories),
     );
     let command = asking(words, question);
     let units = units_of_file(words.units);

@@ -77,6 +77,7 @@ pub fn units_of<'a>(job: &Job<'a>) -> UnitWords<'a>
         | Job::Find { units, .. }
         | Job::Copy { units, .. } => *units,
         Job::Addr(words) => words.units,
+        Job::Index(words) => words.units,
     }
 }
 

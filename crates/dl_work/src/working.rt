@@ -30,6 +30,7 @@ fn file<'a>(job: &Job<'a>) -> Option<&'a str>
         | Job::Find { file, .. }
         | Job::Copy { file, .. } => *file,
         Job::Addr(words) => words.file,
+        Job::Index(words) => words.file,
     }
 }
 
@@ -40,17 +41,19 @@ fn part_name<'a>(job: &Job<'a>) -> Option<&'a str>
     match job {
         Job::Find { section, .. } => *section,
         Job::Addr(words) => words.section,
+        Job::Index(words) => words.section,
         Job::Dump { .. } | Job::Check { .. } | Job::Copy { .. } => None,
     }
 }
 
-/// The path of the ELF file in which a job looks addresses up.
+/// The path of the ELF file in which a job looks addresses up, or whose addresses its index tells.
 pub fn looked_into<'a>(job: &Job<'a>) -> Option<&'a str>
     ensures { option_map (λ s. s.now) result ≡ looked_into (request_made job.now) }
 {
     match job {
         Job::Find { file, .. } => *file,
         Job::Addr(words) => file_of_words(words),
+        Job::Index(words) => { if words.list { None } else { words.file } }
         Job::Dump { .. } | Job::Check { .. } | Job::Copy { .. } => None,
     }
 }
@@ -91,6 +94,12 @@ fn section<'a>(job: &Job<'a>) -> Section<'a>
             line_str: words.line_str,
             strings: words.strings,
         },
+        Job::Index(words) => Section {
+            big: false,
+            older: words.units.older,
+            line_str: None,
+            strings: None,
+        },
     }
 }
 
@@ -127,8 +136,8 @@ fn on_named<'p, F: FileSource, W: Write, D: DamageSink>(
 /// where that is asked for, and the answer says how many there are.
 ///
 /// `NotUnderstood` where there is no job, ADDRESS is no address, a size is no size, a section of an object file is named without a file,
-/// or the job is `addr`, which is that of `locate`; then, and at each fault before the command, nothing is written. Of the input nothing is read
-/// then, nor where a file is named.
+/// or the job is `addr`, which is that of `locate`, or `index`, which is that of `index`; then, and at each fault before the command, nothing is
+/// written. Of the input nothing is read then, nor where a file is named.
 pub fn work<'a, F: FileSource, R: Read, W: Write, D: DamageSink>(
     alloc: Global,
     job: Option<Job<'a>>,

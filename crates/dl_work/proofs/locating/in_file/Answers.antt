@@ -42,7 +42,7 @@ returns-in-Err g c =
           (at.File c.args.path c.in-Err.fault) c.in-Err.fault
           (sym c.suits_file.ensures ∙ c.if-not-suits_file.false)
           (record { base = told.base; asked = told.asked; understood = told.understood; no_lines = told.no_lines }) refl
-          c.in-Err.ensures.code (refl, refl) e.2,
+          c.wants_directories-wanted.result c.wants_directories-wanted.ensures c.in-Err.ensures.code (refl, refl) e.2,
     )
 
 pub returns-in_err-lines : goal.returns-in_err-lines
@@ -71,7 +71,8 @@ returns g c =
           c.as_slice.ensures.value q.base
           (λ a. ap (λ code. is_code (option_copied code) a) q.code
           ∙ (c.live_in.ensures a ∙ ap (λ code. c.args.words.now.all || is_code code a) c.as_ref.ensures.value))
-          q.directories c.in-Ok.opened.2 c.compiled_in.ensures c.in-Ok.ensures.directories q.form q.basenames (ap option_copied q.section ∙ c.part_name.ensures)
+          q.directories c.in-Ok.opened.2 c.compiled_in.ensures c.wants_directories-wanted.result
+          c.wants_directories-wanted.ensures c.in-Ok.ensures.directories q.form q.basenames (ap option_copied q.section ∙ c.part_name.ensures)
           c.in-Ok.ensures.code
           c.asking-command.result c.asking-command.ensures
           (λ f known short. on_file_as c.units_of_file-units.result _ _ _ c.args.path.now _

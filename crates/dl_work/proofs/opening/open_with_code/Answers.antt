@@ -1,5 +1,5 @@
 use Rattle.std.proofs.Common.{◌∙◌}
-use Rattle.dl_work.proofs.locating.open_with_code.Goals as goal
+use Rattle.dl_work.proofs.opening.open_with_code.Goals as goal
 
 pub returns-clause-code : goal.returns-clause-code
 returns-clause-code g c f known short = c.in_ok-code.ensures f (c.in_ok-file.ensures.bytes ∙ known) short

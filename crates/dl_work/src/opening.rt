@@ -1,0 +1,37 @@
+//! What is told of a file before its line table is read.
+ghost use Rattle.std.specs.Prelude.{◌≡◌, Ok, IfOk, MatchResult};
+ghost use Rattle.std.specs.declared.io.Error.{Error};
+ghost use Rattle.dl_dirs.specs.Directories.{directory_at};
+ghost use Rattle.dl_elf.specs.Source.{ForBytes};
+ghost use Rattle.dl_file.specs.Code.{IsCode};
+ghost use Rattle.dl_file.specs.declared.code.Code as file_code;
+ghost use Rattle.dl_open.specs.Code.{AreLive};
+ghost use Rattle.dl_work.specs.Compiled.{AreFound, RefusesOpening};
+
+use crate::compiled::directories_for;
+use dl_dirs::Directories;
+use dl_look::CodeRanges;
+use dl_open::{FileFault, FileSource, code_of, open_file};
+use std::alloc::Global;
+
+/// The file at a path, open, where it has code, and the directories in which its units were compiled, where they are
+/// wanted.
+pub fn open_with_code<F: FileSource>(
+    alloc: Global,
+    are_wanted: bool,
+    files: &F,
+    path: &str,
+) -> Result<(F::File, Option<CodeRanges>, Directories), FileFault>
+    ensures bytes { IfOk result (λ r. F.File.all_bytes r.0 ≡ F.held files.now path.now) }
+    ensures reads { IfOk result (λ r. (e : Error) → F.File.fails_with r.0 e → F.fails_with files.now path.now e) }
+    ensures code { ForBytes (F.held files.now path.now) (λ f. MatchResult result
+        (λ r. (code : file_code.Code) × IsCode f (Ok code) × AreLive r.1 code)
+        (RefusesOpening are_wanted (F.fails_with files.now path.now) f)) }
+    ensures directories { ForBytes (F.held files.now path.now) (λ f. IfOk result
+        (λ r. AreFound are_wanted f (directory_at r.2))) }
+{
+    let file = open_file(files, path)?;
+    let code = code_of(alloc, &file)?;
+    let directories = directories_for(alloc, are_wanted, &file)?;
+    Ok((file, code, directories))
+}
