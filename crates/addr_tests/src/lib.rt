@@ -12,6 +12,8 @@ mod each_call;
 #[cfg(test)]
 mod escapes;
 #[cfg(test)]
+mod indices;
+#[cfg(test)]
 mod live;
 #[cfg(test)]
 mod objects;

@@ -1,6 +1,7 @@
 //! Worked sections for `addr`.
 ghost use Rattle.std.specs.Prelude.{◌≤◌};
 
+use crate::indices::index_lines;
 use dl_addr::{Asked, CompilationDirectories, Form, Found, Question, Style, addr};
 use dl_head::Dialect;
 use dl_num::Order;
@@ -145,7 +146,8 @@ pub fn assert_pieces(
     }
 }
 
-/// The same of a section of these units.
+/// The same of a section of these units. Where paths are printed whole and each address is alone in its line, their index
+/// answers so too.
 pub fn assert_addr(
     rt: &impl Abort,
     alloc: Global,
@@ -155,5 +157,13 @@ pub fn assert_addr(
 ) -> Result<(), Fail> {
     let section = section(alloc, units)?;
     assert_pieces(rt, alloc, section.as_slice(), question, wanted);
+    if question.style == PLAIN {
+        let text = index_lines(alloc, section.as_slice(), question)?;
+        assert!(rt;
+            text.as_slice() == wanted.0.as_bytes(),
+            "index: {}",
+            wanted.0
+        );
+    }
     Ok(())
 }

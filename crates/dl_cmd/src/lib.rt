@@ -2,6 +2,7 @@
 #![tactic(auto)]
 
 mod address;
+mod arguments;
 mod command_line;
 mod job;
 mod words;

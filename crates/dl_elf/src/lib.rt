@@ -28,5 +28,5 @@ pub use named::{NamedSection, Sections, find_sections};
 pub use numbered::{code_section, section_number};
 pub use reader::SectionReader;
 pub use section::SectionHeader;
-pub use source::{ReadAt, fill_whole, lies_within};
+pub use source::{ReadAt, fill, fill_whole, lies_within};
 pub use window::Window;

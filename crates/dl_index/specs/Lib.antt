@@ -7,10 +7,11 @@ pub mod Stretches
 pub mod Telling
 pub mod Shown
 pub mod IsIndex
+pub mod Parts
+pub mod HeaderIs
 pub mod Finds
 pub mod FaultText
 -- For what a value stands; public contracts name this, and don't rest on how it is said.
 pub mod Checked
 pub mod Entries
-pub mod Parts
 pub mod PartsOf

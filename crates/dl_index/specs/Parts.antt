@@ -1,7 +1,7 @@
--- What is kept of the header and the parts of an index. No promise rests on how this is said.
-use Rattle.std.specs.Prelude.{◌≡◌, ℕ, ◌+◌, ◌*◌, ◌/◌, List, [], ◌∷◌}
+-- What is read of the header of an index, and how long its parts are by that.
+use Rattle.std.specs.Prelude.{◌≡◌, ℕ, ◌+◌, ◌*◌, ◌/◌, ◌≤◌, List, [], ◌∷◌, length, map, sum}
 use Rattle.dl_index.specs.Columns.{size_of}
-use Rattle.dl_index.specs.Layout.{base_in, count_in, files_in, texts_in, text_bytes_in, width_in}
+use Rattle.dl_index.specs.Layout.{base_in, count_in, files_in, texts_in, text_bytes_in, width_in, build_id_len_in, rounded}
 use Rattle.dl_index.specs.declared.header.Widths.{Widths}
 use Rattle.dl_index.specs.declared.header.Header.{Header}
 
@@ -26,3 +26,10 @@ header_sizes h =
     h.count * size_of h.widths.starts ∷ h.count * size_of h.widths.files ∷ h.count * size_of h.widths.lines
     ∷ h.count * size_of h.widths.columns ∷ h.count * size_of h.widths.discriminators ∷ ((h.count + 7) / 8)
     ∷ h.files * 24 ∷ h.texts * 16 ∷ h.text_bytes ∷ []
+
+-- the parts of a header with these first bytes fill so many bytes
+pub record Fits (h : Header) (front : List ℕ) (len : ℕ) : Type 0 where
+  pub enough : 128 ≤ length front
+  pub reads : Reads h front
+  pub build_id : build_id_len_in front ≤ 32
+  pub end : 128 + sum (map rounded (header_sizes h)) ≡ len

@@ -20,7 +20,9 @@ mod width;
 
 pub use fault::{IndexFault, IndexPart};
 pub use four::Four;
+pub use header::{HEADER_LEN, Header, Widths};
 pub use index::{Found, IndexRef, Listed, PathTexts};
-pub use opening::{open, open_unchecked};
+pub use numbers::Numbers;
+pub use opening::{has_magic, header_of, length_told, open, open_unchecked};
 pub use search::{Starts, last_upto, last_upto_four};
 pub use width::Width;

@@ -1,12 +1,15 @@
 //! Opening an index: the checks of its header, and of what stands after it.
 
-ghost use Rattle.std.specs.Prelude.{◌≡◌, ◌≤◌, length, MatchBool, IfOk, IfErr, OnOk, IsOk};
-ghost use Rattle.dl_index.specs.IsIndex.{IsWhole, IsHeaded, HeaderAgrees, IsIndex, HasFault};
+ghost use Rattle.std.specs.Prelude.{◌≡◌, ℕ, ◌≤◌, List, length, take, MatchBool, IfOk, IfErr, OnOk, IsOk};
+ghost use Rattle.dl_index.specs.Layout.{length_in};
+ghost use Rattle.dl_index.specs.IsIndex.{HasMagic, IsHeaded, HeaderAgrees, IsIndex, HasFault};
+ghost use Rattle.dl_index.specs.HeaderIs.{LengthIs, HeaderIs};
+ghost use Rattle.dl_index.specs.Parts.{Fits};
 ghost use Rattle.dl_index.specs.Shown.{bytes_of};
 
 use crate::checks::check;
 use crate::fault::{IndexFault, IndexPart};
-use crate::header::{long_at, number_at, read_header};
+use crate::header::{HEADER_LEN, Header, long_at, number_at, read_header};
 use crate::index::IndexRef;
 use crate::parts::{cut, whole_len};
 use dl_crc::Crc32;
@@ -34,16 +37,8 @@ pub fn open_unchecked(bytes: &[u8]) -> Result<IndexRef<'_>, IndexFault>
     ensures headed { OnOk result (IsHeaded bytes.entry.now) }
     ensures ok { IsHeaded bytes.entry.now → IsOk result }
 {
-    check_front(bytes)?;
-    let Some(header) = read_header(bytes) else {
-        return Err(IndexFault::Damaged(IndexPart::Place));
-    };
-    if bytes[80] > 32 || whole_len(&header) != bytes.len() as u128 {
-        return Err(IndexFault::Damaged(IndexPart::Place));
-    }
-    if !header_agrees(bytes) {
-        return Err(IndexFault::Damaged(IndexPart::Sum));
-    }
+    let front = &bytes[..bytes.len().min(HEADER_LEN)];
+    let header = header_of(front, bytes.len() as u64)?;
     Ok(IndexRef {
         bytes,
         base: header.base,
@@ -51,26 +46,52 @@ pub fn open_unchecked(bytes: &[u8]) -> Result<IndexRef<'_>, IndexFault>
     })
 }
 
-/// The checks of the magic, the version and the length.
-fn check_front(bytes: &[u8]) -> Result<(), IndexFault>
-    ensures ok { OnOk result (IsWhole bytes.now) }
-    ensures fault { IfErr result (HasFault bytes.now) }
-    ensures other { IfErr result (λ _. ¬ (IsWhole bytes.now)) }
+/// The header of an index of `len` bytes, of which `front` are the first 128, or all where there are fewer: all that
+/// can be checked without the others. The fault is that of the first check that fails.
+pub fn header_of(front: &[u8], len: u64) -> Result<Header, IndexFault>
+    ensures header { (b : List ℕ) → front.now ≡ take 128 b → len ≡ length b → HeaderIs b result }
+    ensures fits { IfOk result (λ header. Fits header front.now len) }
 {
-    if !bytes.starts_with(MAGIC) {
-        return Err(IndexFault::NotAnIndex);
-    }
-    if bytes.len() < 128 {
+    if length_told(front)? != len {
         return Err(IndexFault::Damaged(IndexPart::Length));
     }
-    let version = number_at(bytes, 8);
+    let Some(header) = read_header(front) else {
+        return Err(IndexFault::Damaged(IndexPart::Place));
+    };
+    if front[80] > 32 || whole_len(&header) != u128::from(len) {
+        return Err(IndexFault::Damaged(IndexPart::Place));
+    }
+    if !header_agrees(front) {
+        return Err(IndexFault::Damaged(IndexPart::Sum));
+    }
+    Ok(header)
+}
+
+/// How many bytes an index says that it has, of which `front` are the first 128, or all where there are fewer. The
+/// fault is that of the magic, of the version, or that there are fewer than 128.
+pub fn length_told(front: &[u8]) -> Result<u64, IndexFault>
+    ensures length { (b : List ℕ) → front.now ≡ take 128 b → LengthIs b result }
+    ensures enough { OnOk result (128 ≤ length front.now) }
+    ensures said { IfOk result (λ len. len ≡ length_in front.now) }
+{
+    if !has_magic(front) {
+        return Err(IndexFault::NotAnIndex);
+    }
+    if front.len() < HEADER_LEN {
+        return Err(IndexFault::Damaged(IndexPart::Length));
+    }
+    let version = number_at(front, 8);
     if version != 1 {
         return Err(IndexFault::Version(version));
     }
-    if long_at(bytes, 16) != bytes.len() as u64 {
-        return Err(IndexFault::Damaged(IndexPart::Length));
-    }
-    Ok(())
+    Ok(long_at(front, 16))
+}
+
+/// Whether bytes begin as those of an index do, with `dlineidx`.
+pub fn has_magic(bytes: &[u8]) -> bool
+    ensures { MatchBool result (HasMagic bytes.now) (¬ (HasMagic bytes.now)) }
+{
+    bytes.starts_with(MAGIC)
 }
 
 /// Whether the check value of the header is the one that it says.

@@ -50,17 +50,6 @@ module _ (dialect : Dialect) (s : Strings) (table : Table) (limit : ℕ) (bytes 
         → TellsOut start now made.index.items f → Writes dialect s table limit bytes left start now (Err (fault.Write f.out))
     lost made f makes tells = (made.summary, made.index.items, (makes.0, makes.1, makes.2), tells)
 
-    pub not_made_around : (f : RunFault) → MakesAround dialect s table limit bytes left (Err f) → Keeps start now
-        → WritesAround dialect s table limit bytes left start now (Err f)
-    not_made_around (fault.Write out) (blocks, rest, ends) keeps = absurd ends
-    not_made_around fault.NoMemory makes keeps = (makes, keeps)
-    not_made_around (fault.Damage offset kind) makes keeps = (makes, keeps)
-    not_made_around fault.Read makes keeps = (makes, keeps)
-    not_made_around fault.SectionTooLong makes keeps = (makes, keeps)
-    not_made_around fault.NotFound makes keeps = (makes, keeps)
-    not_made_around (fault.ForeignUnit unit) makes keeps = (makes, keeps)
-    not_made_around (fault.Emit unit e) makes keeps = (makes, keeps)
-
     pub written_around : (made : MadeAround) → MakesAround dialect s table limit bytes left (Ok made)
         → Appends start now made.index.items → WritesAround dialect s table limit bytes left start now (Ok made.survey)
     written_around made makes appends = (made.index.items, (makes.0, makes.1, makes.2, makes.3), appends)

@@ -1,25 +1,28 @@
-use Rattle.std.proofs.Common.{sym, ◌∙◌, arith}
-use Rattle.dl_index.proofs.PartLemmas.{placed_by}
+use Rattle.std.proofs.Common.{sym, ap, ◌∙◌, arith, refl, rules}
+use Rattle.dl_index.specs.IsIndex.{HasFault}
+use Rattle.dl_index.proofs.HeaderLemmas.{front_of}
+use Rattle.dl_index.proofs.PartLemmas.{sizes_are}
 use Rattle.dl_index.proofs.opening.open_unchecked.Goals as goal
 
-pub returns-in_err-check_front-clause-ok : goal.returns-in_err-check_front-clause-ok
-returns-in_err-check_front-clause-ok c is = absurd (c.in_err-check_front.ensures.other is.whole)
+pub returns-in_err-header-clause-fault : goal.returns-in_err-header-clause-fault
+returns-in_err-header-clause-fault c =
+    let b = c.args.bytes.now in
+    let is = c.in_err-header.ensures.header b (front_of b _ c.min.ensures) refl in
+    let has : HasFault b c.in_err-header.field-0.0 = is.0 in
+    search rules
 
-pub returns-then-not-header_agrees-clause-fault : goal.returns-then-not-header_agrees-clause-fault
-returns-then-not-header_agrees-clause-fault c =
-    let small = c.if-bytes-gt32.false in
-    let placed = placed_by c.in-Some.ensures (omega arith) (sym c.whole_len.ensures ∙ c.if-whole_len-bytes.false) in
-    (c.in_ok-check_front.ensures.ok, placed, λ both. c.if-not-header_agrees.ensures both.0)
+pub cut-requires-clause-reads : goal.cut-requires-clause-reads
+cut-requires-clause-reads c =
+    let b = c.args.bytes.now in
+    (c.in_ok-header.ensures.header b (front_of b _ c.min.ensures) refl).1
+
+pub cut-requires-clause-whole : goal.cut-requires-clause-whole
+cut-requires-clause-whole c =
+    let b = c.args.bytes.now in
+    (c.in_ok-header.ensures.header b (front_of b _ c.min.ensures) refl).0.placed.end
 
 pub invariant_of-result : goal.invariant_of-result
 invariant_of-result c =
-    let small = c.if-bytes-gt32.false in
-    record {
-      headed = record {
-        whole = c.in_ok-check_front.ensures.ok;
-        placed = placed_by c.in-Some.ensures (omega arith) (sym c.whole_len.ensures ∙ c.if-whole_len-bytes.false);
-        sum = c.if-not-header_agrees.ensures;
-      };
-      based = c.in-Some.ensures.base;
-      cut = c.cut.ensures;
-    }
+    let b = c.args.bytes.now in
+    let is = c.in_ok-header.ensures.header b (front_of b _ c.min.ensures) refl in
+    record { headed = is.0; based = is.1.base; cut = c.cut.ensures }

@@ -1,0 +1,6 @@
+pub mod FileLemmas
+pub mod NarrowLemmas
+pub mod OpeningLemmas
+pub mod PlaceLemmas
+pub mod RangeLemmas
+pub mod TextLemmas

@@ -1,0 +1,87 @@
+//! How many reads there are, and reads that fail.
+
+use crate::sample::{BASE, index};
+use crate::source::Source;
+use dl_elf::Range;
+use dl_index_file::{IndexFile, OpenFault, TextFault, open_index};
+use std::io::ErrorKind;
+use std::test::Fail;
+
+/// The most reads that one of 200 addresses takes.
+fn most_reads(file: &IndexFile<'_, Source<'_>>, source: &Source<'_>) -> Result<u32, Fail> {
+    let mut most = 0;
+    let _opened = source.reads();
+    for k in 0..200u64 {
+        let _found = file.find(BASE + k * 523)?;
+        most = most.max(source.reads());
+    }
+    Ok(most)
+}
+
+/// Whether the n-th read fails, and that is told.
+fn fails_at(bytes: &[u8], before: u32) -> bool {
+    let source = Source::failing(bytes, before);
+    match open_index(&source) {
+        Err(OpenFault::Read(error)) => error.kind() == ErrorKind::BrokenPipe,
+        Err(OpenFault::Index(_)) => false,
+        Ok(file) => match file.find(BASE) {
+            Ok(_) => false,
+            Err(error) => error.kind() == ErrorKind::BrokenPipe,
+        },
+    }
+}
+
+#[test]
+fn few_are_made(rt: HostRuntime) -> Result<(), Fail> {
+    let bytes = index(rt.alloc(), 20_000)?;
+    let source = Source::new(bytes.as_slice());
+    let file = open_index(&source)?;
+    // Five halvings of 20,000 starts of four bytes leave one piece; then come that piece and nine numbers and rows.
+    let opened = source.reads();
+    let most = most_reads(&file, &source)?;
+    assert!(rt; opened == 3);
+    assert!(rt; 10 < most && most <= 15, "{most} reads");
+    Ok(())
+}
+
+#[test]
+fn failures_are_told(rt: HostRuntime) -> Result<(), Fail> {
+    let bytes = index(rt.alloc(), 20)?;
+    for before in 0..12 {
+        assert!(rt; fails_at(bytes.as_slice(), before), "read {before}");
+    }
+    Ok(())
+}
+
+#[test]
+fn a_file_that_shrinks(rt: HostRuntime) -> Result<(), Fail> {
+    let bytes = index(rt.alloc(), 20)?;
+    let source = Source::new(bytes.as_slice());
+    let file = open_index(&source)?;
+    source.shrink(128);
+    let ended = match file.find(BASE) {
+        Ok(_) => false,
+        Err(error) => error.kind() == ErrorKind::UnexpectedEof,
+    };
+    assert!(rt; ended);
+    Ok(())
+}
+
+#[test]
+fn a_text_outside(rt: HostRuntime) -> Result<(), Fail> {
+    let bytes = index(rt.alloc(), 20)?;
+    let source = Source::new(bytes.as_slice());
+    let file = open_index(&source)?;
+    let mut read = Vec::new(rt.alloc());
+    let outside = Range {
+        offset: 8,
+        size: u64::MAX,
+    };
+    let ended = match file.read_text(outside, &mut read) {
+        Err(TextFault::Read(error)) => error.kind() == ErrorKind::UnexpectedEof,
+        _ => false,
+    };
+    assert!(rt; ended);
+    assert!(rt; read.len() <= bytes.len());
+    Ok(())
+}
