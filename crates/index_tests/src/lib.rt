@@ -6,4 +6,6 @@ mod answers;
 #[cfg(test)]
 mod damage;
 #[cfg(test)]
+mod listings;
+#[cfg(test)]
 mod sample;

@@ -1,0 +1,5 @@
+-- What the public contracts say rests on these, in reading order.
+pub mod Listing
+pub mod ListingLaws
+-- Of contracts inside the crate, and of proofs; no public contract reaches these.
+pub mod Lines

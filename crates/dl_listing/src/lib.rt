@@ -1,0 +1,8 @@
+//! What an index holds, printed as text.
+#![tactic(auto)]
+
+pub mod laws;
+mod line;
+mod listing;
+
+pub use listing::list;
