@@ -6,6 +6,10 @@ mod files;
 #[cfg(test)]
 mod going_on;
 #[cfg(test)]
+mod indexed;
+#[cfg(test)]
+mod indices;
+#[cfg(test)]
 mod jobs;
 #[cfg(test)]
 mod memory;
