@@ -199,7 +199,11 @@ fn report(rt: &HostRuntime, ending: Ending<'_>) -> u8 {
             2
         }
         Ending::NotWritten { path, error } => {
-            let _ = writeln!(rt.stderr(), "dwline: {}: cannot write: {error}", Shown(path));
+            let _ = writeln!(
+                rt.stderr(),
+                "dwline: {}: cannot write: {error}",
+                Shown(path)
+            );
             3
         }
         Ending::NoIndex { path, fault } => {
