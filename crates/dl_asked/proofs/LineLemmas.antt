@@ -1,23 +1,51 @@
 -- Lines that are read byte by byte.
-use Rattle.std.proofs.Common.{◌≡◌, ◌≢◌, ℕ, suc, ◌+◌, ◌<◌, ◌≤◌, ◌^◌, Bool, true, false, ◌==◌, if◌then◌else◌, List, []}
-use Rattle.std.proofs.Common.{◌∷◌, ◌++◌, length, take, drop, get_or, subst, Option, Some, None, arith, refl, sym, ap}
-use Rattle.std.proofs.Common.{ap₂, ◌∙◌, append-nil, append_assoc, length-append}
-use Rattle.std.proofs.Common.{Result, Ok, Err, IfOk, IfErr, MatchResult}
-use Rattle.std.specs.Prelude.{is_some, option_map}
+use Rattle.std.proofs.Common.{◌≡◌, ℕ, suc, ◌+◌, ◌%◌, ◌<◌, ◌≤◌, ◌^◌, Bool, true, false, ◌==◌, if◌then◌else◌, List, []}
+use Rattle.std.proofs.Common.{◌∷◌, ◌++◌, length, Option, Some, None, arith, refl, sym, ap}
+use Rattle.std.proofs.Common.{ap₂, ◌∙◌, append-nil, append_assoc, subst}
+use Rattle.std.specs.Prelude.{◌||◌, option_map}
+use Rattle.std.specs.List.{list_any}
 use Rattle.std.specs.Option.{option_or}
-use Rattle.std.proofs.lemmas.Bool.Decides.{nat_tests}
-use Rattle.std.proofs.lemmas.List.{length_push, take-append-drop, take_all, take_more}
-use Rattle.dl_run.specs.declared.fault.RunFault.{RunFault}
-use Rattle.dl_run.specs.declared.fault.RunFault.TheVariants.{NoMemory}
+use Rattle.std.proofs.Math.Nat.{mod-eq_of_lt}
+use Rattle.std.proofs.lemmas.List.{length_push}
+use Rattle.std.proofs.lemmas.List.Folds.{list_any-append}
 use Rattle.dl_look.specs.declared.asked.Asked.{Asked}
-use Rattle.dl_asked.specs.declared.asked_lines.AskedLines.{AskedLines}
-use Rattle.dl_asked.specs.declared.asked_lines.Lines.{Lines}
+use Rattle.dl_asked.specs.declared.asked_lines.CurrentLine.{CurrentLine}
+use Rattle.dl_asked.specs.declared.asked_lines.OtherLine.{OtherLine}
 use Rattle.dl_asked.specs.Line.{after_byte, asked_at_end, asked_of, new_line}
-use Rattle.dl_asked.specs.AskedLines.{IsAsked, NumberedWord, StopsAsking, and_asked, if_no_address, other_line_seen}
-use Rattle.dl_asked.specs.AskedLines.{trim_end}
+use Rattle.dl_asked.specs.AskedLines.{NumberedWord, and_asked, asked_in, ended, if_no_address, is_end, no_address_in}
+use Rattle.dl_asked.specs.AskedLines.{other_line_seen, trim_end}
 use Rattle.dl_asked.specs.LineWord.{word_after, word_so_far}
-use Rattle.dl_asked.specs.LinesRead.{Adds, RefusesAsked, Stands, asked_from, base_of, no_address_from}
+use Rattle.dl_asked.specs.LinesRead.{Notes, Stands, asked_from, base_of, no_address_from}
+use Rattle.dl_asked.specs.Reading.{HasRead}
 use Rattle.dl_asked.proofs.LineCuts.{lines_asked, lines_numbered}
+
+-- ---- lines that have ended
+
+or_false : (b : Bool) → (b || false) ≡ b
+or_false true = refl
+or_false false = refl
+
+or_true : (b : Bool) → (b || true) ≡ true
+or_true true = refl
+or_true false = refl
+
+-- a byte more of the line that has not ended
+pub ended_before : (done : List ℕ) (c : ℕ) → is_end c ≡ false → ended (done ++ c ∷ []) ≡ ended done
+ended_before [] c not = ap (λ (b : Bool). if b || false then c ∷ [] else []) not
+ended_before (d ∷ done) c not =
+    ap₂ (λ (b : Bool) (l : List ℕ). if b then d ∷ l else []) (list_any-append is_end (d ∷ done) (c ∷ [])
+    ∙ (ap (λ (b : Bool). list_any is_end (d ∷ done) || (b || false)) not ∙ or_false (list_any is_end (d ∷ done))))
+    (ended_before done c not)
+
+-- the line ends
+pub ended_now : (done : List ℕ) (c : ℕ) → is_end c ≡ true → ended (done ++ c ∷ []) ≡ done ++ c ∷ []
+ended_now [] c is = ap (λ (b : Bool). if b || false then c ∷ [] else []) is
+ended_now (d ∷ done) c is =
+    ap₂ (λ (b : Bool) (l : List ℕ). if b then d ∷ l else []) (list_any-append is_end (d ∷ done) (c ∷ [])
+    ∙ (ap (λ (b : Bool). list_any is_end (d ∷ done) || (b || false)) is ∙ or_true (list_any is_end (d ∷ done))))
+    (ended_now done c is)
+
+-- ---- bytes
 
 and_asked_front : (a : Option Asked) (xs : List Asked) → and_asked a xs ≡ and_asked a [] ++ xs
 and_asked_front None xs = refl
@@ -27,138 +55,130 @@ or_none : (o : Option NumberedWord) → option_or o None ≡ o
 or_none None = refl
 or_none (Some n) = refl
 
+-- nothing was read
+pub nothing_read : (hex : Bool) (s : CurrentLine) → s.base ≡ base_of hex → s.line ≡ new_line → s.number ≡ 1 → s.word ≡ []
+    → s.no_address ≡ None → HasRead hex [] [] s
+nothing_read hex s own line number word none = record {
+  ended = refl;
+  stands = record {
+    own = own;
+    asked = λ rest. ap (λ l. asked_from (base_of hex) l rest) (sym line);
+    counted = λ few. (omega (arith, number));
+    no_address =
+        λ few rest. ap₂ (λ l n. no_address_from (base_of hex) l n [] rest) (sym line) (sym number)
+        ∙ ap₂ (λ w o. option_or (option_map other_line_seen o) (no_address_from (base_of hex) s.line s.number w rest))
+        (sym word) (sym none);
+  };
+}
+
 -- the current line takes a byte
-pub byte_taken : (base : ℕ) (done : List ℕ) (c : ℕ) (old new : Lines) → Stands base done old → (c == 10) ≡ false
+pub byte_taken : (hex : Bool) (done : List ℕ) (c : ℕ) (asked : List Asked) (old new : CurrentLine)
+    → HasRead hex done asked old → is_end c ≡ false
     → new.base ≡ old.base → new.line ≡ after_byte old.base old.line c
-    → new.number ≡ old.number → new.word ≡ word_after old.line old.word c → new.asked.items ≡ old.asked.items
-    → new.no_address ≡ old.no_address → Stands base (done ++ c ∷ []) new
-byte_taken base done c old new s not_end own line number word items no_address =
+    → new.number ≡ old.number → new.word ≡ word_after old.line old.word c
+    → new.no_address ≡ old.no_address → HasRead hex (done ++ c ∷ []) (asked ++ []) new
+byte_taken hex done c asked old new r not_end own line number word no_address =
+    let s = r.stands in
+    let base = base_of hex in
     let now : new.line ≡ after_byte base old.line c = line ∙ ap (λ b. after_byte b old.line c) s.own in
     let len = length_push done c in
     record {
-      own = own ∙ s.own;
+      ended = append-nil asked ∙ (r.ended ∙ ap (asked_in hex) (sym (ended_before done c not_end)));
+      stands = record {
+        own = own ∙ s.own;
+        asked = λ rest. ap (asked_from base new_line) (append_assoc done (c ∷ []) rest) ∙ (s.asked (c ∷ rest)
+            ∙ (ap (λ (b : Bool). asked ++ (if b
+            then and_asked (asked_of old.line.text) (asked_from base new_line rest)
+            else asked_from base (after_byte base old.line c) rest)) not_end
+            ∙ ap₂ (λ xs l. xs ++ asked_from base l rest) (sym (append-nil asked)) (sym now)));
+        counted = λ few. (let before = s.counted (omega (arith, len, few)) in omega (arith, len, before, number));
+        no_address =
+            λ few rest. ap (no_address_from base new_line 1 []) (append_assoc done (c ∷ []) rest)
+            ∙ (s.no_address (omega (arith, len, few)) (c ∷ rest)
+            ∙ (ap (λ (b : Bool). option_or (option_map other_line_seen old.no_address) (if b
+            then if_no_address (asked_of old.line.text) (old.number, trim_end old.word)
+            (no_address_from base new_line (suc old.number) [] rest)
+            else no_address_from base (after_byte base old.line c) old.number (word_after old.line old.word c) rest)) not_end
+            ∙ (ap₂ (λ o l. option_or (option_map other_line_seen o)
+            (no_address_from base l old.number (word_after old.line old.word c) rest)) (sym no_address) (sym now)
+            ∙ ap₂ (λ n w. option_or (option_map other_line_seen new.no_address)
+            (no_address_from base new.line n w rest)) (sym number) (sym word))));
+      };
+    }
+
+-- the current line ends
+line_ended : (hex : Bool) (done : List ℕ) (c : ℕ) (asked : List Asked) (old noted new : CurrentLine)
+    → HasRead hex done asked old → is_end c ≡ true → Notes (asked_of old.line.text) old noted
+    → new.base ≡ noted.base → new.line ≡ new_line
+    → new.number ≡ (noted.number + 1) % 2 ^ 64 → new.word ≡ []
+    → new.no_address ≡ noted.no_address
+    → HasRead hex (done ++ c ∷ []) (asked ++ and_asked (asked_of old.line.text) []) new
+line_ended hex done c asked old noted new r is n own line wrapped word no_address =
+    let s = r.stands in
+    let number : length (done ++ c ∷ []) < 2 ^ 63 → new.number ≡ suc noted.number =
+    λ few. (let len = length_push done c in let before = s.counted (omega (arith, len, few)) in
+    let small : noted.number + 1 < 2 ^ 64 = omega (arith, len, before, few, n.number) in
+    wrapped ∙ (mod-eq_of_lt small ∙ omega arith)) in
+    let base = base_of hex in
+    let a = asked_of old.line.text in
+    let len = length_push done c in
+    let stands : Stands base (done ++ c ∷ []) (asked ++ and_asked a []) new = record {
+      own = own ∙ (n.base ∙ s.own);
       asked = λ rest. ap (asked_from base new_line) (append_assoc done (c ∷ []) rest) ∙ (s.asked (c ∷ rest)
-          ∙ (ap (λ (b : Bool). old.asked.items ++ (if b
-          then and_asked (asked_of old.line.text) (asked_from base new_line rest)
-          else asked_from base (after_byte base old.line c) rest)) not_end
-          ∙ ap₂ (λ xs l. xs ++ asked_from base l rest) (sym items) (sym now)));
-      counted = λ few. (let before = s.counted (omega (arith, len, few)) in omega (arith, len, before, number));
+          ∙ (ap (λ (b : Bool). asked ++ (if b then and_asked a (asked_from base new_line rest)
+          else asked_from base (after_byte base old.line c) rest)) is
+          ∙ (ap (λ xs. asked ++ xs) (and_asked_front a (asked_from base new_line rest))
+          ∙ (sym (append_assoc asked (and_asked a []) (asked_from base new_line rest))
+          ∙ ap (λ l. (asked ++ and_asked a []) ++ asked_from base l rest) (sym line)))));
+      counted = λ few. (let before = s.counted (omega (arith, len, few)) in
+          let m = number few in omega (arith, len, before, m, n.number));
       no_address =
           λ few rest. ap (no_address_from base new_line 1 []) (append_assoc done (c ∷ []) rest)
           ∙ (s.no_address (omega (arith, len, few)) (c ∷ rest)
           ∙ (ap (λ (b : Bool). option_or (option_map other_line_seen old.no_address) (if b
-          then if_no_address (asked_of old.line.text) (old.number, trim_end old.word)
-          (no_address_from base new_line (suc old.number) [] rest)
-          else no_address_from base (after_byte base old.line c) old.number (word_after old.line old.word c) rest)) not_end
-          ∙ (ap₂ (λ o l. option_or (option_map other_line_seen o)
-          (no_address_from base l old.number (word_after old.line old.word c) rest)) (sym no_address) (sym now)
-          ∙ ap₂ (λ n w. option_or (option_map other_line_seen new.no_address)
-          (no_address_from base new.line n w rest)) (sym number) (sym word))));
+          then if_no_address a (old.number, trim_end old.word) (no_address_from base new_line (suc old.number) [] rest)
+          else no_address_from base (after_byte base old.line c) old.number (word_after old.line old.word c) rest)) is
+          ∙ (sym (n.no_address (no_address_from base new_line (suc old.number) [] rest))
+          ∙ (ap₂ (λ o l. option_or (option_map other_line_seen o) (no_address_from base l (suc old.number) [] rest))
+          (sym no_address) (sym line)
+          ∙ ap₂ (λ m w. option_or (option_map other_line_seen new.no_address) (no_address_from base new.line m w rest))
+          (ap suc (sym n.number) ∙ sym (number few)) (sym word)))));
+    } in
+    record {
+      ended = sym (ap (asked_in hex) (ended_now done c is)
+          ∙ (sym (lines_asked hex (done ++ c ∷ []))
+          ∙ (ap (asked_from base new_line) (sym (append-nil (done ++ c ∷ [])))
+          ∙ (stands.asked []
+          ∙ (ap (λ l. (asked ++ and_asked a []) ++ asked_from base l []) line
+          ∙ append-nil (asked ++ and_asked a []))))));
+      stands = stands;
     }
+
+-- a: what it asks for
+pub line_taken : (hex : Bool) (done : List ℕ) (c : ℕ) (asked : List Asked) (a : Option Asked) (old noted new : CurrentLine)
+    → HasRead hex done asked old → is_end c ≡ true → a ≡ asked_of old.line.text → Notes a old noted
+    → new.base ≡ noted.base → new.line ≡ new_line
+    → new.number ≡ (noted.number + 1) % 2 ^ 64 → new.word ≡ []
+    → new.no_address ≡ noted.no_address → HasRead hex (done ++ c ∷ []) (asked ++ and_asked a []) new
+line_taken hex done c asked a old noted new r is e n own line wrapped word no_address =
+    subst (λ x. HasRead hex (done ++ c ∷ []) (asked ++ and_asked x []) new) (sym e)
+    (line_ended hex done c asked old noted new r is (subst (λ x. Notes x old noted) e n) own line wrapped word no_address)
 
 -- the input ends
-pub all_taken : (hex : Bool) (done word : List ℕ) (old new : Lines) (lines : AskedLines)
-    → Stands (base_of hex) done old → word ≡ word_so_far old.line old.word
-    → Adds (asked_at_end old.line) (record old { word = word }) new
-    → lines.asked.items ≡ new.asked.items → lines.no_address ≡ new.no_address → IsAsked hex done lines
-all_taken hex done word old new lines s told adds items no_address =
+pub end_asked : (hex : Bool) (done : List ℕ) (asked : List Asked) (s : CurrentLine) → HasRead hex done asked s
+    → asked ++ and_asked (asked_at_end s.line) [] ≡ asked_in hex done
+end_asked hex done asked s r =
+    sym (r.stands.asked []) ∙ (ap (asked_from (base_of hex) new_line) (append-nil done) ∙ lines_asked hex done)
+
+pub end_numbered : (hex : Bool) (done word : List ℕ) (asked : List Asked) (old new : CurrentLine)
+    → HasRead hex done asked old → word ≡ word_so_far old.line old.word
+    → Notes (asked_at_end old.line) (record old { word = word }) new → length done < 2 ^ 63
+    → option_map other_line_seen new.no_address ≡ no_address_in hex done
+end_numbered hex done word asked old new r told notes few =
     let base = base_of hex in
-    record {
-      asked = items
-          ∙ (adds.asked
-          ∙ (sym (s.asked []) ∙ (ap (asked_from base new_line) (append-nil done) ∙ lines_asked hex done)));
-      no_address =
-          λ few. ap (option_map other_line_seen) no_address
-          ∙ (sym (or_none (option_map other_line_seen new.no_address))
-          ∙ (adds.no_address None
-          ∙ (ap (λ w. option_or (option_map other_line_seen old.no_address)
-          (if_no_address (asked_at_end old.line) (old.number, trim_end w) None)) told
-          ∙ (sym (s.no_address few [])
-          ∙ (ap (no_address_from base new_line 1 []) (append-nil done) ∙ lines_numbered hex done)))));
-    }
-
--- no bytes more
-pub nothing_more : (base : ℕ) (done : List ℕ) (s : Lines) → Stands base done s → Stands base (done ++ []) s
-nothing_more base done s stands = rw (append-nil done) stands
-
--- a byte of those that are taken in a row
-pub byte_of : (base : ℕ) (done bytes : List ℕ) (i c : ℕ) (s : Lines) → i < length bytes → c ≡ get_or bytes i 0
-    → Stands base ((done ++ take i bytes) ++ c ∷ []) s → Stands base (done ++ take (i + 1) bytes) s
-byte_of base done bytes i c s lt is stands =
-    let e : (done ++ take i bytes) ++ c ∷ [] ≡ done ++ take (i + 1) bytes =
-    append_assoc done (take i bytes) (c ∷ []) ∙ ap (λ xs. done ++ xs) (ap (λ d. take i bytes ++ d ∷ []) is
-    ∙ sym (take_more bytes i 0 lt)) in
-    subst (λ b. Stands base b s) e stands
-
-pub bytes_whole : (base : ℕ) (done bytes : List ℕ) (i : ℕ) (s : Lines) → length bytes ≤ i
-    → Stands base (done ++ take i bytes) s → Stands base (done ++ bytes) s
-bytes_whole base done bytes i s past stands = subst (λ b. Stands base (done ++ b) s) (take_all i bytes past) stands
-
--- ---- memory that is refused
-
-some_last : (xs : List Asked) (a : Asked) (ys : List Asked) → xs ++ (a ∷ ys) ≡ [] → ⊥
-some_last xs a ys e = omega (arith, ap length e, length-append xs (a ∷ ys))
-
--- the current line ends and asks for something
-pub line_refused : (base : ℕ) (done : List ℕ) (c : ℕ) (s : Lines) (a : Asked) → Stands base done s → (c == 10) ≡ true
-    → asked_of s.line.text ≡ Some a → (rest : List ℕ) → asked_from base new_line ((done ++ c ∷ []) ++ rest) ≢ []
-line_refused base done c s a stands is_end is rest none =
-    some_last s.asked.items a (asked_from base new_line rest)
-    (ap₂ (λ (b : Bool) (o : Option Asked). s.asked.items ++ (if b then and_asked o (asked_from base new_line rest)
-    else asked_from base (after_byte base s.line c) rest)) (sym is_end) (sym is)
-    ∙ (sym (stands.asked (c ∷ rest)) ∙ (sym (ap (asked_from base new_line) (append_assoc done (c ∷ []) rest)) ∙ none)))
-
-pub line_refusal : (base : ℕ) (done : List ℕ) (c : ℕ) (s : Lines) (asked : Option Asked) (fault : RunFault)
-    → Stands base done s → c ≡ 10 → asked ≡ asked_of s.line.text → fault ≡ NoMemory → is_some asked ≡ true
-    → RefusesAsked base (done ++ c ∷ []) fault
-line_refusal base done c s None fault stands at is memory some = absurd (let e = some in cc)
-line_refusal base done c s (Some a) fault stands at is memory some =
-    (memory, line_refused base done c s a stands (ap (λ n. n == 10) at) (sym is))
-
--- the input ends after what asks for something
-pub end_refused : (base : ℕ) (done : List ℕ) (s : Lines) (a : Asked) → Stands base done s → asked_at_end s.line ≡ Some a
-    → asked_from base new_line done ≢ []
-end_refused base done s a stands is none =
-    some_last s.asked.items a []
-    (ap (λ (o : Option Asked). s.asked.items ++ and_asked o []) (sym is)
-    ∙ (sym (stands.asked []) ∙ (ap (asked_from base new_line) (append-nil done) ∙ none)))
-
-pub refused_more : (base : ℕ) (done more : List ℕ) (fault : RunFault) → RefusesAsked base done fault
-    → RefusesAsked base (done ++ more) fault
-refused_more base done more fault (is, some) =
-    (is, λ rest none. some (more ++ rest) (sym (ap (asked_from base new_line) (append_assoc done more rest)) ∙ none))
-
--- a byte of those that are taken in a row is refused
-pub bytes_refused : (base : ℕ) (done bytes : List ℕ) (i c : ℕ) (fault : RunFault) → i < length bytes
-    → c ≡ get_or bytes i 0 → RefusesAsked base ((done ++ take i bytes) ++ c ∷ []) fault
-    → RefusesAsked base (done ++ bytes) fault
-bytes_refused base done bytes i c fault lt is refused =
-    let e : ((done ++ take i bytes) ++ c ∷ []) ++ drop (i + 1) bytes ≡ done ++ bytes =
-    ap (λ xs. xs ++ drop (i + 1) bytes) (append_assoc done (take i bytes) (c ∷ [])
-    ∙ ap (λ xs. done ++ xs) (ap (λ d. take i bytes ++ d ∷ []) is ∙ sym (take_more bytes i 0 lt)))
-    ∙ (append_assoc done (take (i + 1) bytes) (drop (i + 1) bytes)
-    ∙ ap (λ xs. done ++ xs) (take-append-drop (i + 1) bytes)) in
-    subst (λ b. RefusesAsked base b fault) e
-    (refused_more base ((done ++ take i bytes) ++ c ∷ []) (drop (i + 1) bytes) fault refused)
-
-pub stops_asking : (hex : Bool) (b : List ℕ) (fault : RunFault) → fault ≡ NoMemory
-    → asked_from (base_of hex) new_line b ≢ [] → StopsAsking hex b fault
-stops_asking hex b fault is some = subst (StopsAsking hex b) (sym is) (λ none. some (lines_asked hex b ∙ none))
-
-pub end_refusal : (hex : Bool) (done : List ℕ) (s : Lines) (asked : Option Asked) (fault : RunFault)
-    → Stands (base_of hex) done s → asked ≡ asked_at_end s.line → fault ≡ NoMemory → is_some asked ≡ true
-    → StopsAsking hex done fault
-end_refusal hex done s None fault stands is memory some = absurd (let e = some in cc)
-end_refusal hex done s (Some a) fault stands is memory some =
-    stops_asking hex done fault memory (end_refused (base_of hex) done s a stands (sym is))
-
-pub ended : (hex : Bool) (b : List ℕ) (End : Type 0) (result : Result AskedLines RunFault) → End
-    → IfOk result (IsAsked hex b) → IfErr result (StopsAsking hex b)
-    → MatchResult result (λ lines. IsAsked hex b lines × End) (StopsAsking hex b)
-ended hex b End (Ok lines) end asked memory = (asked, end)
-ended hex b End (Err fault) end asked memory = memory
-
--- a piece that is empty ends the input
-pub nothing_of : (piece : List ℕ) → true ≡ (length piece == 0) → piece ≡ []
-nothing_of [] is = refl
-nothing_of (c ∷ piece) is = absurd (grind (arith, nat_tests, is))
+    sym (or_none (option_map other_line_seen new.no_address))
+    ∙ (notes.no_address None
+    ∙ (ap (λ w. option_or (option_map other_line_seen old.no_address)
+    (if_no_address (asked_at_end old.line) (old.number, trim_end w) None)) told
+    ∙ (sym (r.stands.no_address few [])
+    ∙ (ap (no_address_from base new_line 1 []) (append-nil done) ∙ lines_numbered hex done))))

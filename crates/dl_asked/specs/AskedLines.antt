@@ -1,12 +1,9 @@
 -- The addresses asked for on an input, one a line.
-use Rattle.std.specs.Prelude.{⊤, ◌≡◌, ◌<◌, ◌≢◌, ◌^◌, ℕ, suc, Bool, ◌||◌, ◌==◌, if◌then◌else◌, List, [], ◌∷◌, ◌++◌}
-use Rattle.std.specs.Prelude.{length, take, Option, Some, None, is_none, option_map}
-use Rattle.std.specs.List.{list_all}
+use Rattle.std.specs.Prelude.{ℕ, suc, Bool, ◌||◌, ◌==◌, if◌then◌else◌, List, [], ◌∷◌, ◌++◌}
+use Rattle.std.specs.Prelude.{take, Option, Some, None, is_none, option_map}
+use Rattle.std.specs.List.{list_all, list_any}
 use Rattle.dl_cmd.specs.Address.{address_in, hex_address_in}
-use Rattle.dl_run.specs.declared.fault.RunFault.{RunFault}
-use Rattle.dl_run.specs.declared.fault.RunFault.TheVariants as fault
 use Rattle.dl_look.specs.declared.asked.Asked.{Asked}
-use Rattle.dl_asked.specs.declared.asked_lines.AskedLines.{AskedLines}
 use Rattle.dl_asked.specs.declared.asked_lines.OtherLine.{OtherLine}
 
 -- ---- lines: each ends at a 0x0a (10), before which one 0x0d (13) is dropped; the last one may lack its 0x0a
@@ -95,15 +92,13 @@ no_address_in hex b = no_address_among hex 1 (lines_in b)
 abbrev pub other_line_seen : OtherLine → NumberedWord
 other_line_seen line = (line.number, line.word)
 
--- ---- what is read
+-- ---- what was read
 
--- these bytes ask for it; the first line that is no address is told of less than 2^63 bytes
-pub record IsAsked (hex : Bool) (b : List ℕ) (lines : AskedLines) : Type 0 where
-  pub asked : lines.asked.items ≡ asked_in hex b
-  pub no_address : length b < 2 ^ 63 → option_map other_line_seen lines.no_address ≡ no_address_in hex b
+-- 0x0a
+abbrev pub is_end : ℕ → Bool
+is_end c = c == 10
 
--- the input can't be read, or memory is refused for what these bytes, which were read, ask for
-abbrev pub StopsAsking : (hex : Bool) (b : List ℕ) → RunFault → Type 0
-StopsAsking hex b fault.Read = ⊤
-StopsAsking hex b fault.NoMemory = asked_in hex b ≢ []
-StopsAsking hex b other = ⊥
+-- the lines that have ended, each with its 0x0a
+abbrev pub ended : List ℕ → List ℕ
+ended [] = []
+ended (c ∷ b) = if list_any is_end (c ∷ b) then c ∷ ended b else []

@@ -1,6 +1,8 @@
 -- What the public contracts say rests on these, in reading order.
 pub mod AskedLines
+pub mod Reading
+-- For what a value stands; public contracts name this, and don't rest on how it is said.
+pub mod LinesRead
 -- Of contracts inside the crate, and of proofs; no public contract reaches these.
 pub mod Line
 pub mod LineWord
-pub mod LinesRead

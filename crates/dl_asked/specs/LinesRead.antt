@@ -1,12 +1,10 @@
--- Lines byte by byte: what they ask for, and what was read of them, for contracts. No promise rests on this file.
+-- Lines byte by byte: what they ask for, and what was read of them. No promise rests on how this is said.
 -- base: that of digits without `0x`; done: the bytes of the lines that were read.
-use Rattle.std.specs.Prelude.{◌≡◌, ◌≢◌, ◌<◌, ◌≤◌, ◌+◌, ◌^◌, ℕ, suc, Bool, ◌==◌, if◌then◌else◌, List, [], ◌∷◌, ◌++◌}
+use Rattle.std.specs.Prelude.{◌≡◌, ◌<◌, ◌≤◌, ◌+◌, ◌^◌, ℕ, suc, Bool, ◌==◌, if◌then◌else◌, List, [], ◌∷◌, ◌++◌}
 use Rattle.std.specs.Prelude.{length, Option, None, option_map}
 use Rattle.std.specs.Option.{option_or}
-use Rattle.dl_run.specs.declared.fault.RunFault.{RunFault}
-use Rattle.dl_run.specs.declared.fault.RunFault.TheVariants.{NoMemory}
 use Rattle.dl_look.specs.declared.asked.Asked.{Asked}
-use Rattle.dl_asked.specs.declared.asked_lines.Lines.{Lines}
+use Rattle.dl_asked.specs.declared.asked_lines.CurrentLine.{CurrentLine}
 use Rattle.dl_asked.specs.declared.line.Line.{Line}
 use Rattle.dl_asked.specs.AskedLines.{NumberedWord, and_asked, if_no_address, other_line_seen, trim_end}
 use Rattle.dl_asked.specs.LineWord.{word_after, word_so_far}
@@ -30,24 +28,19 @@ no_address_from base l n word (c ∷ b) =
     else no_address_from base (after_byte base l c) n (word_after l word c) b
 
 -- whatever follows, what it all asks for is what was taken and what the current line and the rest ask for
-pub record Stands (base : ℕ) (done : List ℕ) (s : Lines) : Type 0 where
+pub record Stands (base : ℕ) (done : List ℕ) (before : List Asked) (s : CurrentLine) : Type 0 where
   pub own : s.base ≡ base
-  pub asked : (rest : List ℕ) → asked_from base new_line (done ++ rest) ≡ s.asked.items ++ asked_from base s.line rest
+  pub asked : (rest : List ℕ) → asked_from base new_line (done ++ rest) ≡ before ++ asked_from base s.line rest
   pub counted : length done < 2 ^ 63 → s.number ≤ length done + 1
   pub no_address : length done < 2 ^ 63 → (rest : List ℕ)
       → no_address_from base new_line 1 [] (done ++ rest)
       ≡ option_or (option_map other_line_seen s.no_address) (no_address_from base s.line s.number s.word rest)
 
--- what a line asks for is taken
-pub record Adds (a : Option Asked) (old new : Lines) : Type 0 where
+-- the line is kept where it is the first that is no address, as its own text asks
+pub record Notes (a : Option Asked) (old new : CurrentLine) : Type 0 where
   pub base : new.base ≡ old.base
   pub line : new.line ≡ old.line
   pub number : new.number ≡ old.number
   pub word : new.word ≡ old.word
-  pub asked : new.asked.items ≡ old.asked.items ++ and_asked a []
   pub no_address : (rest : Option NumberedWord) → option_or (option_map other_line_seen new.no_address) rest
       ≡ option_or (option_map other_line_seen old.no_address) (if_no_address a (old.number, trim_end old.word) rest)
-
--- memory is refused, and whatever follows these bytes, something is asked for
-abbrev pub RefusesAsked : (base : ℕ) (done : List ℕ) → RunFault → Type 0
-RefusesAsked base done fault = (fault ≡ NoMemory) × ((rest : List ℕ) → asked_from base new_line (done ++ rest) ≢ [])

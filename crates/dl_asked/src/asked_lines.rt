@@ -1,14 +1,8 @@
-//! The addresses that are asked for on an input, one a line.
-ghost use Rattle.std.specs.Prelude.{ℕ, List, MatchResult};
-ghost use Rattle.std.specs.Io.KnownBytes.{Consumes, IsAtEnd};
-ghost use Rattle.dl_asked.specs.AskedLines.{IsAsked, StopsAsking};
+//! The addresses that are asked for on an input, one a line, byte by byte.
 
 use crate::line::Line;
 use crate::line_word::LineWord;
 use dl_look::Asked;
-use dl_run::{Input, RunFault};
-use std::alloc::Global;
-use std::io::Read;
 
 /// A line that is no address.
 #[derive(Debug, Drop)]
@@ -19,57 +13,96 @@ pub struct OtherLine {
     pub word: LineWord,
 }
 
-/// What is asked for on an input.
+/// What comes with the end of an input.
 #[derive(Debug, Drop)]
-pub struct AskedLines {
-    /// An entry for each line that isn't empty, in order.
-    pub asked: Vec<Asked>,
-    /// The first line that is no address.
+pub struct LastLine {
+    /// What the last line asks for, which lacks its 0x0a; None of an empty one.
+    pub asked: Option<Asked>,
+    /// The first line of all that is no address.
     pub no_address: Option<OtherLine>,
 }
 
-/// The lines that were read so far.
-#[derive(Drop)]
-struct Lines {
+/// The line that is being read of an input. A line ends with 0x0a, before which one 0x0d is dropped; the last one may lack
+/// its 0x0a. Spaces and tabs around an address are dropped, and so are empty lines.
+#[derive(Debug, Drop)]
+pub struct CurrentLine {
     /// The base of digits without `0x`.
     base: u64,
-    /// The line that is being read.
+    /// What was read of it.
     line: Line,
     /// Its number.
     number: u64,
     /// What it says first.
     word: LineWord,
-    asked: Vec<Asked>,
+    /// The first line before it that is no address.
     no_address: Option<OtherLine>,
 }
 
-impl Lines {
-    ghost use Rattle.std.specs.Prelude.{◌≡◌, ◌≢◌, ◌++◌, ◌∷◌, [], ℕ, Bool, List, IfErr, IfOk, OnOk, is_some, true};
-    ghost use Rattle.dl_run.specs.declared.fault.RunFault.TheVariants.{NoMemory};
-    ghost use Rattle.dl_asked.specs.AskedLines.{IsAsked, StopsAsking};
-    ghost use Rattle.dl_asked.specs.LinesRead.{Adds, RefusesAsked, Stands, base_of};
+impl CurrentLine {
+    ghost use Rattle.std.specs.Prelude.{◌≡◌, ◌<◌, ◌^◌, ◌++◌, ◌∷◌, [], ℕ, Bool, List, length, option_map};
+    ghost use Rattle.dl_look.specs.declared.asked.Asked.{Asked};
+    ghost use Rattle.dl_asked.specs.AskedLines.{and_asked, asked_in, no_address_in, other_line_seen};
+    ghost use Rattle.dl_asked.specs.Reading.{HasRead};
+    ghost use Rattle.dl_asked.specs.LinesRead.{Notes};
 
-    /// Nothing was read yet.
-    fn new(alloc: Global, hex: bool) -> Lines
-        ensures { Stands (base_of hex) [] result }
+    /// The first line of an input, of which nothing was read yet. With `hex` digits without `0x` are hexadecimal too.
+    pub fn new(hex: bool) -> CurrentLine
+        ensures { HasRead hex [] [] result }
     {
-        Lines {
+        CurrentLine {
             base: if hex { 16 } else { 10 },
             line: Line::new(),
             number: 1,
             word: LineWord::new(),
-            asked: Vec::new(alloc),
             no_address: None,
         }
     }
 
-    /// Takes what the current line asks for.
-    fn add(&mut self, asked: Option<Asked>) -> Result<(), RunFault>
-        ensures added { OnOk result (Adds asked self.old self.new) }
-        ensures memory { IfErr result (λ fault. (fault ≡ NoMemory) × (is_some asked ≡ true)) }
+    /// Takes the next byte of the input. Where it ends a line that isn't empty, the answer is what that asks for.
+    pub fn take(&mut self, byte: u8) -> Option<Asked>
+        ensures { (hex : Bool) (done : List ℕ) (asked : List Asked) → HasRead hex done asked self.old
+            → HasRead hex (done ++ byte ∷ []) (asked ++ and_asked result []) self.new }
+    {
+        if byte != b'\n' {
+            self.word.take(self.line, byte);
+            self.line = self.line.after(self.base, byte);
+            return None;
+        }
+        let asked = self.line.text.asked();
+        self.note(asked);
+        self.line = Line::new();
+        self.number = self.number.wrapping_add(1);
+        self.word.clear();
+        asked
+    }
+
+    /// Takes the end of the input. Lines of 2^63 bytes and more may be counted wrong.
+    pub fn end(self) -> LastLine
+        ensures asked { (hex : Bool) (done : List ℕ) (asked : List Asked) → HasRead hex done asked self
+            → asked ++ and_asked result.asked [] ≡ asked_in hex done }
+        ensures no_address { (hex : Bool) (done : List ℕ) (asked : List Asked) → HasRead hex done asked self
+            → length done < 2 ^ 63 → option_map other_line_seen result.no_address ≡ no_address_in hex done }
+    {
+        let mut lines = self;
+        let asked = lines.line.asked_at_end();
+        lines.word.go_on(lines.line);
+        lines.note(asked);
+        let CurrentLine {
+            base: _,
+            line: _,
+            number: _,
+            word: _,
+            no_address,
+        } = lines;
+        LastLine { asked, no_address }
+    }
+
+    /// Keeps the line where it is the first that is no address.
+    fn note(&mut self, asked: Option<Asked>)
+        ensures { Notes asked self.old self.new }
     {
         let Some(asked) = asked else {
-            return Ok(());
+            return;
         };
         if asked.address.is_none() && self.no_address.is_none() {
             self.no_address = Some(OtherLine {
@@ -77,87 +110,5 @@ impl Lines {
                 word: self.word.trimmed(),
             });
         }
-        if self.asked.push(asked).is_err() {
-            return Err(RunFault::NoMemory);
-        }
-        Ok(())
     }
-
-    /// Takes a byte.
-    fn take(&mut self, byte: u8) -> Result<(), RunFault>
-        ensures taken { (base : ℕ) (done : List ℕ) → Stands base done self.old
-            → OnOk result (Stands base (done ++ byte ∷ []) self.new) }
-        ensures memory { (base : ℕ) (done : List ℕ) → Stands base done self.old
-            → IfErr result (RefusesAsked base (done ++ byte ∷ [])) }
-    {
-        if byte != b'\n' {
-            self.word.take(self.line, byte);
-            self.line = self.line.after(self.base, byte);
-            return Ok(());
-        }
-        let asked = self.line.text.asked();
-        self.add(asked)?;
-        self.line = Line::new();
-        self.number = self.number.wrapping_add(1);
-        self.word.clear();
-        Ok(())
-    }
-
-    /// Takes bytes.
-    fn take_all(&mut self, bytes: &[u8]) -> Result<(), RunFault>
-        ensures taken { (base : ℕ) (done : List ℕ) → Stands base done self.old
-            → OnOk result (Stands base (done ++ bytes.now) self.new) }
-        ensures memory { (base : ℕ) (done : List ℕ) → Stands base done self.old
-            → IfErr result (RefusesAsked base (done ++ bytes.now)) }
-    {
-        for byte in bytes {
-            self.take(*byte)?;
-        }
-        Ok(())
-    }
-
-    /// What is asked for, where the input ends here.
-    fn end(self) -> Result<AskedLines, RunFault>
-        ensures asked { (hex : Bool) (done : List ℕ) → Stands (base_of hex) done self → IfOk result (IsAsked hex done) }
-        ensures memory { (hex : Bool) (done : List ℕ) → Stands (base_of hex) done self
-            → IfErr result (StopsAsking hex done) }
-    {
-        let mut lines = self;
-        let last = lines.line.asked_at_end();
-        lines.word.go_on(lines.line);
-        lines.add(last)?;
-        let Lines {
-            base: _,
-            line: _,
-            number: _,
-            word: _,
-            asked,
-            no_address,
-        } = lines;
-        Ok(AskedLines { asked, no_address })
-    }
-}
-
-/// Reads the addresses that are asked for on the input, to its end. A line ends with 0x0a, before which one
-/// 0x0d is dropped; the last line may lack its 0x0a. Spaces and tabs around an address are dropped, and so are
-/// empty lines. With `hex` digits without `0x` are hexadecimal too.
-///
-/// `Read` where the reader fails, `NoMemory` where a growth is refused for what was read. Memory is taken for
-/// what is asked alone.
-pub fn read_asked<R: Read>(alloc: Global, input: &mut R, hex: bool) -> Result<AskedLines, RunFault>
-    ensures { (bs : List ℕ) × Consumes (R.remaining input.old) (R.remaining input.new) bs
-        × MatchResult result (λ lines. IsAsked hex bs lines × IsAtEnd (R.remaining input.new)) (StopsAsking hex bs) }
-{
-    let mut lines = Lines::new(alloc, hex);
-    let mut buffer = Input::new();
-    for _ in 0..u64::MAX {
-        let Ok(piece) = buffer.next_piece(input) else {
-            return Err(RunFault::Read);
-        };
-        if piece.is_empty() {
-            return lines.end();
-        }
-        lines.take_all(piece)?;
-    }
-    Err(RunFault::Read)
 }

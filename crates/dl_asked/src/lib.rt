@@ -5,5 +5,5 @@ mod asked_lines;
 mod line;
 mod line_word;
 
-pub use asked_lines::{AskedLines, OtherLine, read_asked};
+pub use asked_lines::{CurrentLine, LastLine, OtherLine};
 pub use line_word::LineWord;
