@@ -151,11 +151,12 @@ with_settings a =
 abbrev pub with_addresses : App → App
 with_addresses a =
     with_rule (with_rule (with_rule (with_rule (with_rule (with_rule
-    (with_rule (with_units_of_addr (with_settings a)) (value_rule (codes "comp-dir"))) big_rule) line_str_rule) str_rule)
+    (with_rule (with_rule (with_units_of_addr (with_settings a)) (value_rule (codes "comp-dir")))
+    (value_rule (codes "for"))) big_rule) line_str_rule) str_rule)
     exe_rule) addr_file_rule) addresses_rule
 
 -- `addr [-a] [-s] [--json] [--hex] [--base ADDRESS] [--all] [--stop] [-j NAME] [--older SIZE] [--address-size SIZE]
--- [--version-5] [--comp-dir DIR] [--big] [--line-str PATH] [--str PATH] FILE [ADDRESS]..`, or with `-e FILE` in place
+-- [--version-5] [--comp-dir DIR] [--for FILE] [--big] [--line-str PATH] [--str PATH] FILE [ADDRESS]..`, or with `-e FILE` in place
 -- of `FILE`
 abbrev pub addr_app : App
 addr_app = with_addresses (new_app (codes "addr"))

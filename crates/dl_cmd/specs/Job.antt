@@ -31,6 +31,7 @@ pub record AddrTexts : Type 0 where
   pub big : Bool
   pub units : UnitTexts
   pub comp_dir : Option Text
+  pub made_of : Option Text
   pub line_str : Option Text
   pub strings : Option Text
 
@@ -78,6 +79,7 @@ addr_words_made w = record {
   big = w.big;
   units = unit_words_made w.units;
   comp_dir = option_map (λ s. s.now) w.comp_dir;
+  made_of = option_map (λ s. s.now) w.made_of;
   line_str = option_map (λ s. s.now) w.line_str;
   strings = option_map (λ s. s.now) w.strings;
 }

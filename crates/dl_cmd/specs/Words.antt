@@ -51,6 +51,7 @@ addr_words_of rows = record {
   big = flag_of (codes "big") rows;
   units = unit_words_of rows;
   comp_dir = text_of (codes "comp-dir") rows;
+  made_of = text_of (codes "for") rows;
   line_str = text_of (codes "line-str") rows;
   strings = text_of (codes "str") rows;
 }

@@ -328,6 +328,19 @@ pub fn comp_dir<'a>(alloc: Global) -> Arg<'a>
     )
 }
 
+/// The file of which an index has to be made. A section on standard input has none.
+pub fn made_of<'a>(alloc: Global) -> Arg<'a>
+    ensures rule { IsRule (value_rule (codes "for")) result }
+    ensures wants { Wants [] result }
+{
+    valued(
+        alloc,
+        "for",
+        "PATH",
+        "ELF file whose build ID the index FILE must have",
+    )
+}
+
 /// `--address-size` of `copy`: FILE has to be there, and `--to-5`.
 pub fn size_of_copied<'a>(alloc: Global) -> Result<Arg<'a>, AllocError>
     ensures rule { IfOk result (IsRule (wanting_rule (codes "address-size"))) }

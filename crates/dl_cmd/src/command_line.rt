@@ -6,12 +6,7 @@ ghost use Rattle.dl_cmd.specs.CommandLine.{index_app, top_app, with_addresses, w
 ghost use Rattle.dl_cmd.specs.CommandLine.{with_printing, with_settings, with_strings, with_to_5, with_units};
 ghost use Rattle.dl_cmd.specs.CommandLine.{with_units_of_addr, with_units_of_file};
 
-use crate::arguments::{
-    addr_file, address, address_size, address_size_of_file, addresses, all, base, big, comp_dir,
-    exe, file, file_with_strings, index_file, json, letter, line_str, list, older, op, output,
-    section, section_of_file, size_of_copied, strings, switch, version_5, version_5_of_file,
-    wanting,
-};
+use crate::arguments::{addr_file, address, address_size, address_size_of_file, addresses, all, base, big, comp_dir, exe, file, file_with_strings, index_file, json, letter, line_str, list, made_of, older, op, output, section, section_of_file, size_of_copied, strings, switch, version_5, version_5_of_file, wanting};
 use clap::{Arg, Command};
 use std::alloc::{AllocError, Global};
 
@@ -250,6 +245,7 @@ fn add_addresses<'a>(
 {
     let command = add_units_of_addr(alloc, add_settings(alloc, command));
     let command = with_arg(command, comp_dir(alloc));
+    let command = with_arg(command, made_of(alloc));
     let command = with_arg(command, big(alloc));
     let command = with_arg(command, line_str(alloc));
     let command = with_arg(command, strings(alloc));
@@ -266,7 +262,7 @@ fn addr<'a>(alloc: Global) -> Result<Command<'a>, AllocError>
         .about("Print path, line and column of each address")
         .after_help(
             "Examples:\n  dwline addr program 0x401136 0x40113a\n  dwline addr -e program 0x401136\n  \
-             dwline addr program < addresses",
+             dwline addr program < addresses\n  dwline addr program.idx 0x401136",
         );
     add_addresses(alloc, Ok(command))
 }

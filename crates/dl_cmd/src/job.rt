@@ -115,6 +115,8 @@ pub struct AddrWords<'a> {
     pub units: UnitWords<'a>,
     /// The compilation directory, in place of the one that the file says.
     pub comp_dir: Option<&'a str>,
+    /// The path of the ELF file of which the index is made that is asked.
+    pub made_of: Option<&'a str>,
     pub line_str: Option<&'a str>,
     pub strings: Option<&'a str>,
 }

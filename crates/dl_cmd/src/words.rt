@@ -94,6 +94,7 @@ fn addr_words<'a>(alloc: Global, matches: &ArgMatches<'a>) -> Result<AddrWords<'
         big: flag(matches, "big"),
         units: unit_words(matches),
         comp_dir: text(matches, "comp-dir"),
+        made_of: text(matches, "for"),
         line_str: text(matches, "line-str"),
         strings: text(matches, "str"),
     })

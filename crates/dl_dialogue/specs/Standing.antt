@@ -1,0 +1,22 @@
+-- Of what is answered. No promise rests on how this is said.
+use Rattle.std.specs.Prelude.{◌≡◌, ℕ, Bool, List, [], Option}
+use Rattle.std.specs.Io.KnownBytes.{Appends}
+use Rattle.dl_print.specs.Output.{HasPrinted}
+use Rattle.dl_look.specs.declared.asked.Asked.{Asked}
+use Rattle.dl_asked.specs.AskedLines.{asked_in, ended}
+use Rattle.dl_asked.specs.Reading.{HasRead}
+use Rattle.dl_dialogue.specs.Answers.{Manner, found_by, lines_by}
+use Rattle.dl_dialogue.specs.declared.answers.Answers.{Answers}
+use Rattle.dl_dialogue.specs.declared.dialogue.Dialogue.{Dialogue}
+
+-- these were answered, by lines of which some may be held back
+pub record Stands (m : Manner) (start now : Option (List ℕ)) (asked : List Asked) (s : Answers) : Type 0 where
+  pub style : s.style ≡ m.style
+  pub base : s.base ≡ m.base
+  pub found : s.found ≡ found_by m asked
+  pub printed : HasPrinted start now (lines_by m asked) s.printer
+
+-- the lines of these bytes that have ended were answered, by lines of which some may be held back
+pub record Speaks (m : Manner) (hex : Bool) (start now : Option (List ℕ)) (done : List ℕ) (d : Dialogue) : Type 0 where
+  pub answers : Stands m start now (asked_in hex (ended done)) d.answers
+  pub line : HasRead hex done (asked_in hex (ended done)) d.line

@@ -1,0 +1,148 @@
+//! A dialogue: lines that ask, and lines that answer them.
+
+ghost use Rattle.std.specs.Prelude.{◌≡◌, ℕ, List, Option};
+ghost use Rattle.std.specs.Io.KnownBytes.{Consumes};
+ghost use Rattle.dl_addr.specs.Location.{Location};
+ghost use Rattle.dl_dialogue.specs.Answers.{Determines, Manner};
+ghost use Rattle.dl_dialogue.specs.Dialogues.{AnswersLines};
+
+use crate::answers::Answers;
+use crate::fault::AnswerFault;
+use crate::telling::Tell;
+use dl_addr::{Found, Style};
+use dl_asked::{CurrentLine, LastLine, OtherLine};
+use dl_run::Input;
+use std::alloc::Global;
+use std::io::{Read, Write};
+
+/// What came of all lines.
+#[derive(Debug, Drop)]
+pub struct Answered {
+    /// Whether each address has an answer.
+    pub found: Found,
+    /// The first line that is no address.
+    pub no_address: Option<OtherLine>,
+}
+
+/// A dialogue over an input, which is taken piece by piece.
+#[derive(Drop)]
+pub struct Dialogue<'q> {
+    answers: Answers<'q>,
+    line: CurrentLine,
+}
+
+impl<'q> Dialogue<'q> {
+    ghost use Rattle.std.specs.Prelude.{◌≡◌, ◌++◌, ◌∷◌, [], ℕ, Bool, List, Option, MatchResult};
+    ghost use Rattle.dl_addr.specs.Location.{Location};
+    ghost use Rattle.dl_asked.specs.AskedLines.{asked_in};
+    ghost use Rattle.dl_dialogue.specs.Answers.{Determines, Manner, StopsBy};
+    ghost use Rattle.dl_dialogue.specs.Dialogues.{Talks, StopsIn, Ends};
+    ghost use Rattle.dl_dialogue.specs.Standing.{Speaks};
+
+    /// A dialogue of which nothing was said yet. `base` is subtracted from each address before it is looked up; with `hex`
+    /// digits without `0x` are hexadecimal too.
+    pub fn new(alloc: Global, style: Style<'q>, base: u64, hex: bool) -> Dialogue<'q>
+        ensures { (f : ℕ → Option Location) (start : Option (List ℕ))
+            → Talks (record { style = style.entry; base = base; told = f }) hex start start [] result }
+    {
+        Dialogue {
+            answers: Answers::new(alloc, style, base),
+            line: CurrentLine::new(hex),
+        }
+    }
+
+    /// Takes the next piece of the input, and answers each line of it that has ended. Nothing is held back: when this is
+    /// done, all answers are written out.
+    pub fn take<T: Tell, W: Write>(
+        &mut self,
+        teller: &T,
+        output: &mut W,
+        piece: &[u8],
+    ) -> Result<(), AnswerFault>
+        ensures { (m : Manner) (hex : Bool) (start : Option (List ℕ)) (done : List ℕ)
+            → Determines (T.tells teller.now) m.told → Talks m hex start (W.contents output.old) done self.old
+            → MatchResult result
+            (λ _. Talks m hex start (W.contents output.new) (done ++ piece.now) self.new)
+            (StopsIn m hex (T.fails_with teller.now) start (W.contents output.new) (done ++ piece.now)) }
+    {
+        for byte in piece {
+            self.take_byte(teller, output, *byte)?;
+        }
+        self.answers.flush(output)
+    }
+
+    /// Takes a byte. The line that it ends is answered, which may be held back.
+    fn take_byte<T: Tell, W: Write>(
+        &mut self,
+        teller: &T,
+        output: &mut W,
+        byte: u8,
+    ) -> Result<(), AnswerFault>
+        ensures { (m : Manner) (hex : Bool) (start : Option (List ℕ)) (done : List ℕ)
+            → Determines (T.tells teller.now) m.told → Speaks m hex start (W.contents output.old) done self.old
+            → MatchResult result
+            (λ _. Speaks m hex start (W.contents output.new) (done ++ byte ∷ []) self.new)
+            (StopsIn m hex (T.fails_with teller.now) start (W.contents output.new) (done ++ byte ∷ [])) }
+    {
+        match self.line.take(byte) {
+            Some(asked) => self.answers.answer(teller, output, asked),
+            None => Ok(()),
+        }
+    }
+
+    /// Takes the end of the input, and answers the last line, where that lacks its 0x0a.
+    pub fn end<T: Tell, W: Write>(
+        self,
+        teller: &T,
+        output: &mut W,
+    ) -> Result<Answered, AnswerFault>
+        ensures { (m : Manner) (hex : Bool) (start : Option (List ℕ)) (done : List ℕ)
+            → Determines (T.tells teller.now) m.told → Talks m hex start (W.contents output.old) done self
+            → MatchResult result (Ends m hex start (W.contents output.new) done)
+            (StopsBy m (T.fails_with teller.now) start (W.contents output.new) (asked_in hex done)) }
+    {
+        let Dialogue { mut answers, line } = self;
+        let LastLine { asked, no_address } = line.end();
+        if let Some(asked) = asked {
+            answers.answer(teller, output, asked)?;
+        }
+        answers.flush(output)?;
+        Ok(Answered {
+            found: answers.found(),
+            no_address,
+        })
+    }
+}
+
+/// Answers the addresses that are asked for on the input, one a line, each by a line on the output, to the input's end:
+/// before more is read, all answers to the lines that were read are written out.
+///
+/// A line ends with 0x0a, before which one 0x0d is dropped; the last line may lack its 0x0a. Spaces and tabs around an
+/// address are dropped, and so are empty lines. A line that is no address has no answer.
+///
+/// `Input` where the reader fails: then each line that has ended was answered. Where nothing can be told of an address, the
+/// lines before it were answered. Memory is taken for one path.
+pub fn answer_lines<T: Tell, R: Read, W: Write>(
+    teller: &T,
+    mut dialogue: Dialogue<'_>,
+    input: &mut R,
+    output: &mut W,
+) -> Result<Answered, AnswerFault>
+    ensures { (bs : List ℕ) × Consumes (R.remaining input.old) (R.remaining input.new) bs
+        × ((m : Manner) (hex : Bool) → Determines (T.tells teller.now) m.told
+        → Talks m hex (W.contents output.old) (W.contents output.old) [] dialogue
+        → AnswersLines m hex (T.fails_with teller.now) bs (R.remaining input.new) (W.contents output.old)
+        (W.contents output.new) result) }
+{
+    let mut buffer = Input::new();
+    for _ in 0..u64::MAX {
+        let Ok(piece) = buffer.next_piece(input) else {
+            return Err(AnswerFault::Input);
+        };
+        if piece.is_empty() {
+            return dialogue.end(teller, output);
+        }
+        dialogue.take(teller, output, piece)?;
+    }
+    Err(AnswerFault::Input)
+}

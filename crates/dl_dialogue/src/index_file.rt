@@ -1,0 +1,95 @@
+//! What an index tells that lies in a file.
+
+ghost use Rattle.std.specs.Prelude.{◌≡◌, ◌++◌, IfOk, IfErr, is_some};
+ghost use Rattle.dl_elf.specs.Source.{ForBytes};
+ghost use Rattle.dl_index_file.specs.Opening.{source_of};
+ghost use Rattle.dl_index_file.specs.Shown.{TextsLie, Lies, text_shown, texts_shown};
+ghost use Rattle.dl_dialogue.specs.Faults.{FileFails};
+ghost use Rattle.dl_dialogue.specs.Paths.{joined, path_told};
+
+use crate::fault::TellFault;
+use crate::telling::Tell;
+use dl_addr::Location;
+use dl_elf::{Range, ReadAt};
+use dl_index_file::{IndexFile, TextPlaces};
+
+impl<S: ReadAt> Tell for IndexFile<'_, S> {
+    ghost use Rattle.std.specs.Prelude.{◌≡◌, option_map};
+    ghost use Rattle.dl_elf.specs.Source.{ForBytes};
+    ghost use Rattle.dl_index.specs.IsIndex.{IsIndex};
+    ghost use Rattle.dl_index.specs.Telling.{find_in};
+    ghost use Rattle.dl_index_file.specs.Opening.{source_of};
+    ghost use Rattle.dl_index_file.specs.Reading.{ReadFails};
+    ghost use Rattle.dl_dialogue.specs.Paths.{location_told};
+
+    ghost tells = { λ index address told. ForBytes (S.all_bytes (source_of index)) (λ b.
+        IsIndex b → told ≡ option_map location_told (find_in b address)) };
+
+    ghost fails_with = { λ index error.
+        ReadFails (S.all_bytes (source_of index)) (S.fails_with (source_of index)) error };
+
+    fn tell<'a>(
+        &self,
+        address: u64,
+        path: &'a mut Vec<u8>,
+    ) -> Result<Option<Location<'a>>, TellFault> {
+        let Some(found) = self.find(address)? else {
+            return Ok(None);
+        };
+        read_texts(self, found.texts, path)?;
+        let path = if is_known(found.texts) {
+            Some(path.as_slice())
+        } else {
+            None
+        };
+        Ok(Some(Location {
+            unit: found.unit,
+            path,
+            line: found.line,
+            column: found.column,
+            discriminator: found.discriminator,
+            is_stmt: found.is_stmt,
+        }))
+    }
+}
+
+/// Whether there is a text.
+fn is_known(texts: TextPlaces) -> bool
+    ensures { (b : List ℕ) → result ≡ is_some (path_told (texts_shown b texts)) }
+{
+    texts.first.is_some() || texts.second.is_some() || texts.third.is_some()
+}
+
+/// Reads the texts that there are, one after the other, into `path`, in place of what stood there.
+fn read_texts<S: ReadAt>(
+    index: &IndexFile<'_, S>,
+    texts: TextPlaces,
+    path: &mut Vec<u8>,
+) -> Result<(), TellFault>
+    ensures texts { ForBytes (S.all_bytes (source_of index.now)) (λ b. IfOk result
+        (λ _. path.new.items ≡ joined (texts_shown b texts))) }
+    ensures fails { ForBytes (S.all_bytes (source_of index.now)) (λ b. TextsLie b texts)
+        → IfErr result (FileFails (S.all_bytes (source_of index.now)) (S.fails_with (source_of index.now))) }
+{
+    path.clear();
+    read_text(index, texts.first, path)?;
+    read_text(index, texts.second, path)?;
+    read_text(index, texts.third, path)
+}
+
+/// Reads a text behind the others, where there is one.
+fn read_text<S: ReadAt>(
+    index: &IndexFile<'_, S>,
+    text: Option<Range>,
+    path: &mut Vec<u8>,
+) -> Result<(), TellFault>
+    ensures text { ForBytes (S.all_bytes (source_of index.now)) (λ b. IfOk result
+        (λ _. path.new.items ≡ path.old.items ++ joined (text_shown b text))) }
+    ensures fails { ForBytes (S.all_bytes (source_of index.now)) (λ b. Lies b text)
+        → IfErr result (FileFails (S.all_bytes (source_of index.now)) (S.fails_with (source_of index.now))) }
+{
+    match text {
+        Some(place) => Ok(index.read_text(place, path)?),
+        None => Ok(()),
+    }
+}

@@ -1,0 +1,80 @@
+//! What an index in memory tells.
+
+ghost use Rattle.std.specs.Prelude.{◌≡◌, ◌++◌, IfOk, IfErr, is_some};
+ghost use Rattle.dl_index.specs.Shown.{text_told, texts_told};
+ghost use Rattle.dl_dialogue.specs.Faults.{IsNoMemory};
+ghost use Rattle.dl_dialogue.specs.Paths.{path_told, joined};
+
+use crate::fault::TellFault;
+use crate::telling::Tell;
+use dl_addr::Location;
+use dl_index::{IndexRef, PathTexts};
+
+impl Tell for IndexRef<'_> {
+    ghost use Rattle.std.specs.Prelude.{◌≡◌, option_map};
+    ghost use Rattle.dl_index.specs.IsIndex.{IsIndex};
+    ghost use Rattle.dl_index.specs.Shown.{bytes_of};
+    ghost use Rattle.dl_index.specs.Telling.{find_in};
+    ghost use Rattle.dl_dialogue.specs.Paths.{location_told};
+
+    ghost tells = { λ index address told.
+        IsIndex (bytes_of index) → told ≡ option_map location_told (find_in (bytes_of index) address) };
+
+    ghost fails_with = { λ _ error. ⊥ };
+
+    fn tell<'a>(
+        &self,
+        address: u64,
+        path: &'a mut Vec<u8>,
+    ) -> Result<Option<Location<'a>>, TellFault> {
+        let Some(found) = self.find(address) else {
+            return Ok(None);
+        };
+        put_texts(found.texts, path)?;
+        let path = if is_known(found.texts) {
+            Some(path.as_slice())
+        } else {
+            None
+        };
+        Ok(Some(Location {
+            unit: found.unit,
+            path,
+            line: found.line,
+            column: found.column,
+            discriminator: found.discriminator,
+            is_stmt: found.is_stmt,
+        }))
+    }
+}
+
+/// Whether there is a text.
+fn is_known(texts: PathTexts<'_>) -> bool
+    ensures { result ≡ is_some (path_told (texts_told texts.entry)) }
+{
+    texts.first.is_some() || texts.second.is_some() || texts.third.is_some()
+}
+
+/// Puts the texts that there are, one after the other, into `path`, in place of what stood there.
+fn put_texts(texts: PathTexts<'_>, path: &mut Vec<u8>) -> Result<(), TellFault>
+    ensures texts { IfOk result (λ _. path.new.items ≡ joined (texts_told texts.entry)) }
+    ensures memory { IfErr result IsNoMemory }
+{
+    path.clear();
+    put_text(texts.first, path)?;
+    put_text(texts.second, path)?;
+    put_text(texts.third, path)
+}
+
+/// Puts a text behind the others, where there is one.
+fn put_text(text: Option<&[u8]>, path: &mut Vec<u8>) -> Result<(), TellFault>
+    ensures text { IfOk result (λ _. path.new.items ≡ path.old.items ++ joined (text_told text.entry)) }
+    ensures memory { IfErr result IsNoMemory }
+{
+    let Some(text) = text else {
+        return Ok(());
+    };
+    match path.extend_from_slice(text) {
+        Ok(()) => Ok(()),
+        Err(_) => Err(TellFault::NoMemory),
+    }
+}

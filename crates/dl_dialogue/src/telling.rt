@@ -1,0 +1,48 @@
+//! What tells of an address where it is in the source.
+
+use crate::fault::TellFault;
+use dl_addr::Location;
+
+/// What tells of an address where it is in the source.
+pub trait Tell {
+    ghost use Rattle.std.specs.Prelude.{ℕ, Option, IfOk, IfErr, option_map};
+    ghost use Rattle.std.specs.declared.io.Error.{Error};
+    ghost use Rattle.dl_addr.specs.Location.{Location};
+    ghost use Rattle.dl_addr.specs.Locations.{location_seen};
+    ghost use Rattle.dl_dialogue.specs.Faults.{TellFails};
+
+    /// What it may tell of an address.
+    ghost tells: { Self → ℕ → Option Location → Type 0 };
+
+    /// The errors that its reads may give.
+    ghost fails_with: { Self → Error → Type 0 };
+
+    /// What is told of an address; None where nothing is. The path is put into `path`, in place of what stood there.
+    fn tell<'a>(
+        &self,
+        address: u64,
+        path: &'a mut Vec<u8>,
+    ) -> Result<Option<Location<'a>>, TellFault>
+        ensures tells { IfOk result (λ told. tells self.now address (option_map location_seen told)) }
+        ensures fails { IfErr result (TellFails (fails_with self.now)) };
+}
+
+/// What tells nothing.
+#[derive(Clone, Copy)]
+pub struct Nothing;
+
+impl Tell for Nothing {
+    ghost use Rattle.std.specs.Prelude.{◌≡◌, None};
+
+    ghost tells = { λ _ address told. told ≡ None };
+
+    ghost fails_with = { λ _ error. ⊥ };
+
+    fn tell<'a>(
+        &self,
+        _address: u64,
+        _path: &'a mut Vec<u8>,
+    ) -> Result<Option<Location<'a>>, TellFault> {
+        Ok(None)
+    }
+}
