@@ -82,19 +82,21 @@ was_asked q number x at = by (slice_get q.asked.now number) refl where
 
 -- a path as it is kept, printed
 text_by : (form : Form) (basenames : Bool) (directory path : Option (List ℕ))
-    → named_text form (if basenames then option_map (λ p. if basenames then basename p else p) path
-    else option_map (compiled_in directory) (option_map (λ p. if basenames then basename p else p) path))
-    ≡ option_map_or (λ p. text_in form (if basenames then basename p else compiled_in directory p)) path (no_path_text form)
+    → named_text form (if basenames then option_map (λ p. if basenames then basename (compiled_in directory p) else p) path
+    else option_map (compiled_in directory)
+    (option_map (λ p. if basenames then basename (compiled_in directory p) else p) path))
+    ≡ option_map_or (λ p. text_in form (if basenames then basename p else p)) (option_map (compiled_in directory) path)
+    (no_path_text form)
 text_by form true directory None = refl
 text_by form true directory (Some path) = refl
 text_by form false directory None = refl
 text_by form false directory (Some path) = refl
 
-path_text_is : (style : Style) (directory path : Option (List ℕ))
-    → option_map_or (λ p. text_in style.form (if style.basenames then basename p else compiled_in directory p)) path
-    (no_path_text style.form) ≡ path_text style directory path
-path_text_is style directory None = refl
-path_text_is style directory (Some path) = refl
+path_text_is : (style : Style) (path : Option (List ℕ))
+    → option_map_or (λ p. text_in style.form (if style.basenames then basename p else p)) path (no_path_text style.form)
+    ≡ path_text style path
+path_text_is style None = refl
+path_text_is style (Some path) = refl
 
 module _ (dialect : Dialect) (q : Question) (s : Strings) (first : Locator) (knows : Knows first q s) where
   abbrev pub live : ℕ → Bool
@@ -107,9 +109,11 @@ module _ (dialect : Dialect) (q : Question) (s : Strings) (first : Locator) (kno
       is (code_of first) ∙ ap (λ code. look_up (is_code (option_copied code))) knows.code
 
   text_named : (directory path : Option (List ℕ))
-      → named_text q.style.form (printed q.style directory (named q.style path)) ≡ path_text q.style directory path
+      → named_text q.style.form (printed q.style directory (named q.style directory path))
+      ≡ path_text q.style (option_map (compiled_in directory) path)
   text_named directory path =
-      text_by q.style.form q.style.basenames directory path ∙ path_text_is q.style directory path
+      text_by q.style.form q.style.basenames directory path
+      ∙ path_text_is q.style (option_map (compiled_in directory) path)
 
   text_seen : (o : Option Located)
       → seen_text q.style.form (option_map (located_seen first) o)
@@ -119,11 +123,12 @@ module _ (dialect : Dialect) (q : Question) (s : Strings) (first : Locator) (kno
       let path = path_of (strings_of first.strings.now) l.header l.row.file in
       let directory = compilation_directory (directory_by q.directories) l in
       ap₂ (λ (st : Style) (d : CompilationDirectories). row_text q.style.form
-      (named_text q.style.form (printed st (compilation_directory (directory_by d) l) (named st path))) l.row l.unit)
+      (named_text q.style.form (printed st (compilation_directory (directory_by d) l)
+      (named st (compilation_directory (directory_by d) l) path))) l.row l.unit)
       knows.style knows.directories
       ∙ ap (λ (w : List ℕ). row_text q.style.form w l.row l.unit) (text_named directory path)
-      ∙ ap (λ (ss : Strings). row_text q.style.form (path_text q.style directory (path_of ss l.header l.row.file)) l.row
-      l.unit) knows.strings
+      ∙ ap (λ (ss : Strings). row_text q.style.form
+      (path_text q.style (option_map (compiled_in directory) (path_of ss l.header l.row.file))) l.row l.unit) knows.strings
 
   -- look_up: what they answer for a place
   module _ (visits : List Visit) (look_up : Place → Option Located)

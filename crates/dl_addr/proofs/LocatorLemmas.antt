@@ -35,7 +35,7 @@ use Rattle.dl_addr.specs.Keeping.{Keeps, path_under}
 use Rattle.dl_addr.specs.Locating.{IsMadeFor, Locating, LooksFor, code_of, ended_rows, locate_story, located_after}
 use Rattle.dl_addr.specs.Locating.{located_by, located_under, path_of_located, printed_by}
 use Rattle.dl_addr.specs.Locations.{Located}
-use Rattle.dl_path.specs.Paths.{beside_table, path_of}
+use Rattle.dl_path.specs.Paths.{beside_table, has_directory_0, path_of}
 use Rattle.dl_dirs.specs.Compilation.{directory_by}
 use Rattle.dl_addr.specs.Texts.{HasPath, IsKept, named, path_at, printed, unit_place}
 use Rattle.dl_addr.proofs.LocatedLemmas.{ended_rows-append, located_after-append, no_live_rows, offset_after-append}
@@ -225,9 +225,16 @@ module _ (first old mid : Locator) (start held : Option (List ℕ)) (visits : Li
   path_same : (x : Place) (r : Row)
       → path_under old h r ≡ path_of_located first (record { row = r; header = h; unit = offset })
   path_same x r =
-      ap (λ st. (named st (path_of (strings_of old.strings.now) h r.file), unit_place h old.unit)) s.style
-      ∙ ap (λ ss. (named first.style (path_of (strings_of ss) h r.file), unit_place h old.unit)) s.strings
-      ∙ ap (λ (n : ℕ). (named first.style (path_of (strings_of first.strings.now) h r.file), unit_place h n)) s.unit
+      ap₂ (λ st ds. (
+        named st (beside_table (has_directory_0 h) (directory_by ds old.unit)) (path_of (strings_of old.strings.now) h
+            r.file),
+        unit_place h old.unit,
+      )) s.style s.directories
+      ∙ ap₂ (λ ss (n : ℕ). (
+        named first.style (beside_table (has_directory_0 h) (directory_by first.directories n)) (path_of (strings_of ss) h
+            r.file),
+        unit_place h n,
+      )) s.strings s.unit
 
   -- it goes on after the unit
   pub tail : (is : result ≡ Ok tt) (finders : Finders) (told : LiveRows)

@@ -17,7 +17,7 @@ use Rattle.dl_addr.specs.declared.style.Form.{Form}
 use Rattle.dl_addr.specs.declared.style.Form.TheVariants.{Location, AddressAndLocation, Json}
 use Rattle.dl_addr.specs.declared.style.Style.{Style}
 use Rattle.dl_addr.specs.Json.{json_asked, json_row}
-use Rattle.dl_path.specs.Paths.{beside_table, has_directory_0, path_of}
+use Rattle.dl_path.specs.Paths.{beside_table, compiled_in, has_directory_0, path_of}
 use Rattle.dl_addr.specs.Shown.{path_text}
 
 -- ---- answers
@@ -77,7 +77,8 @@ compilation_directory directories l = beside_table (has_directory_0 l.header) (d
 abbrev pub located_text : Style → (directories : ℕ → Option (List ℕ)) → Strings → Located → List ℕ
 located_text style directories s l =
     row_text style.form
-    (path_text style (compilation_directory directories l) (path_of s l.header l.row.file)) l.row l.unit
+    (path_text style (option_map (compiled_in (compilation_directory directories l)) (path_of s l.header l.row.file)))
+    l.row l.unit
 
 abbrev pub answer_text : Style → (directories : ℕ → Option (List ℕ)) → Strings → Option Located → List ℕ
 answer_text style directories s answer =

@@ -10,7 +10,7 @@ use crate::texts::{UnitFiles, keep_all};
 use dl_dirs::CompilationDirectories;
 use dl_head::Header;
 use dl_look::{CodeRanges, Finders, LiveRows, NoMemory, Place};
-use dl_path::{beside_table, is_whole_path};
+use dl_path::{beside_table, has_directory_0, is_whole_path};
 use dl_print::StringSections;
 use dl_rows::{Flow, Row};
 use dl_run::{AroundDamage, Damage, RunFault, Visitor};
@@ -240,6 +240,7 @@ impl<'s, 'o, 'q> Locator<'s, 'o, 'q> {
             strings: self.strings,
             header,
             style: self.style,
+            directory: beside_table(has_directory_0(header), self.directories.of(self.unit)),
             offset: self.unit,
         };
         let answered = self.finders.answered_so_far();
