@@ -2,7 +2,7 @@
 use crate::sections::{
     ALL, NODIR, PATHS, PLAIN, RELATIVE, assert_addr, assert_answer, at, options, plain, section,
 };
-use dl_addr::{Asked, Question, Style};
+use dl_addr::{Asked, CompilationDirectories, Question, Style};
 use dl_run::Options;
 use std::alloc::Global;
 use std::process::Abort;
@@ -49,6 +49,40 @@ fn basenames(rt: HostRuntime) -> Result<(), Fail> {
         ..plain(&files)
     };
     assert_addr(&rt, rt.alloc(), &[PATHS], &question, (names, ALL))
+}
+
+/// An empty directory, with `src\x.c` and `y.c` in it.
+const BACKSLASHES: &str =
+    "51 00 00 00 05 00 08 00 2b 00 00 00 01 01 01 fb 0e 0d 00 01 01 01 01 00 00 00 \
+        01 00 00 01 01 01 08 01 00 02 01 08 02 0f 02 73 72 63 5c 78 2e 63 00 00 79 2e \
+        63 00 00 00 09 02 00 d0 00 00 00 00 00 00 04 00 05 01 01 02 10 04 01 03 01 05 \
+        02 01 02 10 00 01 01";
+
+/// The last component is that of the path under the compilation directory, which makes it one of Windows or not.
+#[test]
+fn basenames_under_directories(rt: HostRuntime) -> Result<(), Fail> {
+    let asked = [at(0xd000), at(0xd010)];
+    let windows = CompilationDirectories::Said(b"C:\\w");
+    let other = CompilationDirectories::Said(b"/w");
+    for (directories, basenames, text) in [
+        (windows, false, "C:\\\\w/src\\\\x.c:1:1\nC:\\\\w/y.c:2:2\n"),
+        (windows, true, "x.c:1:1\ny.c:2:2\n"),
+        (other, false, "/w/src\\\\x.c:1:1\n/w/y.c:2:2\n"),
+        (other, true, "src\\\\x.c:1:1\ny.c:2:2\n"),
+        (
+            CompilationDirectories::Unknown,
+            true,
+            "src\\\\x.c:1:1\ny.c:2:2\n",
+        ),
+    ] {
+        let question = Question {
+            directories,
+            style: Style { basenames, ..PLAIN },
+            ..plain(&asked)
+        };
+        assert_addr(&rt, rt.alloc(), &[BACKSLASHES], &question, (text, ALL))?;
+    }
+    Ok(())
 }
 
 /// Directory 0 may be relative too, and then nothing stands before it; without it paths stand alone.

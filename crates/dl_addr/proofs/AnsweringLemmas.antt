@@ -9,6 +9,7 @@ use Rattle.std.specs.Option.{option_and_then, option_copied, option_map_or}
 use Rattle.std.proofs.KnownBytes.{Appends-trans}
 use Rattle.std.proofs.lemmas.Option.{slice_get-map}
 use Rattle.dl_head.specs.declared.dialect.Dialect.{Dialect}
+use Rattle.dl_rows.specs.declared.row.Row.{Row}
 use Rattle.dl_look.specs.declared.place.Place.{Place}
 use Rattle.dl_print.specs.declared.fault.WriteFault.{WriteFault}
 use Rattle.dl_print.specs.declared.summary.Summary.{Summary}
@@ -26,6 +27,7 @@ use Rattle.dl_addr.specs.declared.question.Found.TheVariants as found
 use Rattle.dl_addr.specs.declared.question.Question.{Question}
 use Rattle.dl_dirs.specs.declared.compilation.CompilationDirectories.{CompilationDirectories}
 use Rattle.dl_addr.specs.declared.style.Form.{Form}
+use Rattle.dl_addr.specs.declared.style.Form.TheVariants as forms
 use Rattle.dl_addr.specs.declared.style.Style.{Style}
 use Rattle.dl_addr.specs.Answers.{located_seen}
 use Rattle.dl_look.specs.Asked.{looked_up, place_of}
@@ -34,8 +36,9 @@ use Rattle.dl_dirs.specs.Compilation.{directory_by}
 use Rattle.dl_addr.specs.Commands.{Ends, Locates, answer_lines, is_answered}
 use Rattle.dl_addr.specs.Knowing.{Knows}
 use Rattle.dl_addr.specs.Locating.{IsMadeFor, Locating, code_of, locate_story, located_after, located_by}
-use Rattle.dl_addr.specs.Locations.{Located, answer_text, asked_line, asked_text, compilation_directory, located}
-use Rattle.dl_addr.specs.Locations.{row_text}
+use Rattle.dl_addr.specs.Location.{location_at}
+use Rattle.dl_addr.specs.Locations.{Located, asked_line, asked_text, compilation_directory, located, location_of}
+use Rattle.dl_addr.specs.Locations.{location_text, row_text}
 use Rattle.dl_path.specs.Paths.{compiled_in, path_of}
 use Rattle.dl_path.specs.Shown.{basename}
 use Rattle.dl_addr.specs.Printing.{PrintsAll, answer_for, found_by, named_text, seen_lines, seen_text, told}
@@ -82,19 +85,28 @@ was_asked q number x at = by (slice_get q.asked.now number) refl where
 
 -- a path as it is kept, printed
 text_by : (form : Form) (basenames : Bool) (directory path : Option (List ℕ))
-    → named_text form (if basenames then option_map (λ p. if basenames then basename p else p) path
-    else option_map (compiled_in directory) (option_map (λ p. if basenames then basename p else p) path))
-    ≡ option_map_or (λ p. text_in form (if basenames then basename p else compiled_in directory p)) path (no_path_text form)
+    → named_text form (if basenames then option_map (λ p. if basenames then basename (compiled_in directory p) else p) path
+    else option_map (compiled_in directory)
+    (option_map (λ p. if basenames then basename (compiled_in directory p) else p) path))
+    ≡ option_map_or (λ p. text_in form (if basenames then basename p else p)) (option_map (compiled_in directory) path)
+    (no_path_text form)
 text_by form true directory None = refl
 text_by form true directory (Some path) = refl
 text_by form false directory None = refl
 text_by form false directory (Some path) = refl
 
-path_text_is : (style : Style) (directory path : Option (List ℕ))
-    → option_map_or (λ p. text_in style.form (if style.basenames then basename p else compiled_in directory p)) path
-    (no_path_text style.form) ≡ path_text style directory path
-path_text_is style directory None = refl
-path_text_is style directory (Some path) = refl
+-- the path tells nothing but its own text
+pub same_row : (form : Form) (text : List ℕ) (r : Row) (unit : ℕ) (path path' : Option (List ℕ))
+    → row_text form text (location_at r unit path) ≡ row_text form text (location_at r unit path')
+same_row forms.Location text r unit path path' = refl
+same_row forms.AddressAndLocation text r unit path path' = refl
+same_row forms.Json text r unit path path' = refl
+
+path_text_is : (style : Style) (path : Option (List ℕ))
+    → option_map_or (λ p. text_in style.form (if style.basenames then basename p else p)) path (no_path_text style.form)
+    ≡ path_text style path
+path_text_is style None = refl
+path_text_is style (Some path) = refl
 
 module _ (dialect : Dialect) (q : Question) (s : Strings) (first : Locator) (knows : Knows first q s) where
   abbrev pub live : ℕ → Bool
@@ -107,23 +119,29 @@ module _ (dialect : Dialect) (q : Question) (s : Strings) (first : Locator) (kno
       is (code_of first) ∙ ap (λ code. look_up (is_code (option_copied code))) knows.code
 
   text_named : (directory path : Option (List ℕ))
-      → named_text q.style.form (printed q.style directory (named q.style path)) ≡ path_text q.style directory path
+      → named_text q.style.form (printed q.style directory (named q.style directory path))
+      ≡ path_text q.style (option_map (compiled_in directory) path)
   text_named directory path =
-      text_by q.style.form q.style.basenames directory path ∙ path_text_is q.style directory path
+      text_by q.style.form q.style.basenames directory path
+      ∙ path_text_is q.style (option_map (compiled_in directory) path)
 
   text_seen : (o : Option Located)
       → seen_text q.style.form (option_map (located_seen first) o)
-      ≡ answer_text q.style (directory_by q.directories) s o
+      ≡ location_text q.style (option_map (location_of (directory_by q.directories) s) o)
   text_seen None = refl
   text_seen (Some l) =
       let path = path_of (strings_of first.strings.now) l.header l.row.file in
       let directory = compilation_directory (directory_by q.directories) l in
-      ap₂ (λ (st : Style) (d : CompilationDirectories). row_text q.style.form
-      (named_text q.style.form (printed st (compilation_directory (directory_by d) l) (named st path))) l.row l.unit)
+      let told = location_of (directory_by q.directories) s l in
+      let seen = located_seen first l in
+      same_row q.style.form (named_text q.style.form seen.path) l.row l.unit seen.path told.path
+      ∙ ap₂ (λ (st : Style) (d : CompilationDirectories). row_text q.style.form
+      (named_text q.style.form (printed st (compilation_directory (directory_by d) l)
+      (named st (compilation_directory (directory_by d) l) path))) told)
       knows.style knows.directories
-      ∙ ap (λ (w : List ℕ). row_text q.style.form w l.row l.unit) (text_named directory path)
-      ∙ ap (λ (ss : Strings). row_text q.style.form (path_text q.style directory (path_of ss l.header l.row.file)) l.row
-      l.unit) knows.strings
+      ∙ ap (λ (w : List ℕ). row_text q.style.form w told) (text_named directory path)
+      ∙ ap (λ (ss : Strings). row_text q.style.form
+      (path_text q.style (option_map (compiled_in directory) (path_of ss l.header l.row.file))) told) knows.strings
 
   -- look_up: what they answer for a place
   module _ (visits : List Visit) (look_up : Place → Option Located)

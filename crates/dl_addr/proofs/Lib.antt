@@ -5,6 +5,7 @@ pub mod KeepLemmas
 pub mod EndLemmas
 pub mod LinesLemmas
 pub mod AnsweringLemmas
+pub mod LocationLemmas
 pub mod AroundEnds
 pub mod AroundAnswers
 pub mod UndamagedLemmas

@@ -14,12 +14,12 @@ use Rattle.dl_look.specs.declared.asked.Asked.{Asked}
 use Rattle.dl_addr.specs.declared.question.Found.{Found}
 use Rattle.dl_addr.specs.declared.question.Found.TheVariants as found
 use Rattle.dl_addr.specs.declared.style.Style.{Style}
-use Rattle.dl_addr.specs.Answers.{SeenRow}
+use Rattle.dl_addr.specs.Location.{Location}
 use Rattle.dl_addr.specs.Commands.{is_answered}
 use Rattle.dl_addr.specs.Printing.{found_by, seen_line, seen_lines}
 use Rattle.dl_path.proofs.PrintLemmas.{Loses, loses_then, more_then}
 
-module _ (style : Style) (f : Asked → Option SeenRow) (asked : List Asked) where
+module _ (style : Style) (f : Asked → Option Location) (asked : List Asked) where
   abbrev line_of : Asked → List ℕ
   line_of a = seen_line style a (f a)
 
@@ -37,20 +37,20 @@ module _ (style : Style) (f : Asked → Option SeenRow) (asked : List Asked) whe
       ap (seen_lines style f) (sym (take-append-drop n asked)) ∙ flat_map-append line_of (take n asked) (drop n asked)
 
   pub prints_line : (old mid new : Option (List ℕ)) (before between after : Printed) (n : ℕ) (d : Asked)
-      (seen : Option SeenRow) → n < length asked → seen ≡ f (get_or asked n d)
+      (seen : Option Location) → n < length asked → seen ≡ f (get_or asked n d)
       → PrintsMore old mid before between (seen_lines style f (take n asked))
       → PrintsMore mid new between after (seen_line style (get_or asked n d) seen)
       → PrintsMore old new before after (seen_lines style f (take (n + 1) asked))
   prints_line old mid new before between after n d seen lt is first second =
       subst (PrintsMore old new before after)
-      (ap (λ (o : Option SeenRow). seen_lines style f (take n asked) ++ seen_line style (get_or asked n d) o) is
+      (ap (λ (o : Option Location). seen_lines style f (take n asked) ++ seen_line style (get_or asked n d) o) is
       ∙ sym (lines_more n d lt))
       (more_then old mid new before between after (seen_lines style f (take n asked))
       (seen_line style (get_or asked n d) seen) first second)
 
   -- a line wasn't printed whole
   pub loses_line : (old mid new : Option (List ℕ)) (before between : Printed) (n : ℕ) (d : Asked)
-      (seen : Option SeenRow) (lost : WriteFault) → n < length asked → seen ≡ f (get_or asked n d)
+      (seen : Option Location) (lost : WriteFault) → n < length asked → seen ≡ f (get_or asked n d)
       → HasPrinted old old [] before → PrintsMore old mid before between (seen_lines style f (take n asked))
       → Loses mid new between (seen_line style (get_or asked n d) seen) lost
       → TellsOut old new (seen_lines style f asked) lost
@@ -58,7 +58,7 @@ module _ (style : Style) (f : Asked → Option SeenRow) (asked : List Asked) whe
       let some = loses_then old mid new before between (seen_lines style f (take n asked))
       (seen_line style (get_or asked n d) seen) lost first second old [] nothing in
       let so_far = subst (λ (l : List ℕ). TellsOut old new l lost)
-      (ap (λ (o : Option SeenRow). seen_lines style f (take n asked) ++ seen_line style (get_or asked n d) o) is
+      (ap (λ (o : Option Location). seen_lines style f (take n asked) ++ seen_line style (get_or asked n d) o) is
       ∙ sym (lines_more n d lt)) some in
       subst (λ (l : List ℕ). TellsOut old new l lost) (sym (lines_rest (n + 1)))
       (TellsOut-more old new (seen_lines style f (take (n + 1) asked)) (seen_lines style f (drop (n + 1) asked))

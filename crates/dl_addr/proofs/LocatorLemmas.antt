@@ -30,12 +30,13 @@ use Rattle.dl_addr.specs.declared.locating.Locator.{Locator}
 use Rattle.dl_addr.specs.declared.kept.FilePath.{FilePath}
 use Rattle.dl_addr.specs.declared.kept.PathUnit.{PathUnit}
 use Rattle.dl_addr.specs.declared.kept.Paths.{Paths}
-use Rattle.dl_addr.specs.Answers.{SeenRow, located_seen}
+use Rattle.dl_addr.specs.Location.{Location, location_at}
+use Rattle.dl_addr.specs.Answers.{located_seen}
 use Rattle.dl_addr.specs.Keeping.{Keeps, path_under}
 use Rattle.dl_addr.specs.Locating.{IsMadeFor, Locating, LooksFor, code_of, ended_rows, locate_story, located_after}
 use Rattle.dl_addr.specs.Locating.{located_by, located_under, path_of_located, printed_by}
 use Rattle.dl_addr.specs.Locations.{Located}
-use Rattle.dl_path.specs.Paths.{beside_table, path_of}
+use Rattle.dl_path.specs.Paths.{beside_table, has_directory_0, path_of}
 use Rattle.dl_dirs.specs.Compilation.{directory_by}
 use Rattle.dl_addr.specs.Texts.{HasPath, IsKept, named, path_at, printed, unit_place}
 use Rattle.dl_addr.proofs.LocatedLemmas.{ended_rows-append, located_after-append, no_live_rows, offset_after-append}
@@ -225,9 +226,16 @@ module _ (first old mid : Locator) (start held : Option (List ℕ)) (visits : Li
   path_same : (x : Place) (r : Row)
       → path_under old h r ≡ path_of_located first (record { row = r; header = h; unit = offset })
   path_same x r =
-      ap (λ st. (named st (path_of (strings_of old.strings.now) h r.file), unit_place h old.unit)) s.style
-      ∙ ap (λ ss. (named first.style (path_of (strings_of ss) h r.file), unit_place h old.unit)) s.strings
-      ∙ ap (λ (n : ℕ). (named first.style (path_of (strings_of first.strings.now) h r.file), unit_place h n)) s.unit
+      ap₂ (λ st ds. (
+        named st (beside_table (has_directory_0 h) (directory_by ds old.unit)) (path_of (strings_of old.strings.now) h
+            r.file),
+        unit_place h old.unit,
+      )) s.style s.directories
+      ∙ ap₂ (λ ss (n : ℕ). (
+        named first.style (beside_table (has_directory_0 h) (directory_by first.directories n)) (path_of (strings_of ss) h
+            r.file),
+        unit_place h n,
+      )) s.strings s.unit
 
   -- it goes on after the unit
   pub tail : (is : result ≡ Ok tt) (finders : Finders) (told : LiveRows)
@@ -313,8 +321,8 @@ pub settles : (first now : Locator) (start held : Option (List ℕ)) (visits : L
 settles first now start held visits flow.On s = (s, s.nothing)
 settles first now start held visits flow.Stop s = absurd s
 
-abbrev row_with : Locator → Row → Option (List ℕ) × PathUnit → Option SeenRow
-row_with l r path = Some (r, (printed_by l path.1 path.0, path.1.offset))
+abbrev row_with : Locator → Row → Option (List ℕ) × PathUnit → Option Location
+row_with l r path = Some (location_at r path.1.offset (printed_by l path.1 path.0))
 
 -- what a place is answered
 module _ (first now : Locator) (start held : Option (List ℕ)) (visits : List Visit) (places : List Place)
@@ -322,7 +330,7 @@ module _ (first now : Locator) (start held : Option (List ℕ)) (visits : List V
     (n : ℕ) (answered : Option Row)
     (given : answered ≡ option_and_then (answer_of_units (ended_rows (code_of first) [] visits)) (slice_get places
     n)) where
-  abbrev Seen : Option SeenRow → Type 0
+  abbrev Seen : Option Location → Type 0
   Seen o = o ≡ option_map (located_seen first) (option_and_then (λ x. located_by first x visits) (slice_get places n))
 
   row_is : (x : Place) → slice_get places n ≡ Some x
@@ -349,16 +357,15 @@ module _ (first now : Locator) (start held : Option (List ℕ)) (visits : List V
         ∙ none)))
 
   -- what is found of a file
-  abbrev found : Row → Option FilePath → Option SeenRow
+  abbrev found : Row → Option FilePath → Option Location
   found row file =
-      option_map (λ (f : FilePath). (row, (printed_by now f.unit (path_at now.paths.texts.items f), f.unit.offset))) file
+      option_map
+      (λ (f : FilePath). location_at row f.unit.offset (printed_by now f.unit (path_at now.paths.texts.items f))) file
 
-  printed_same : (p : Option (List ℕ) × PathUnit) → {r : Row} → row_with now r p ≡ row_with first r p
-  printed_same p {r} =
-      ap₂ (λ style directories. Some (
-        r,
-        (printed style (beside_table p.1.has_directory_0 (directory_by directories p.1.offset)) p.0, p.1.offset),
-      )) s.style s.directories
+  printed_same : (r : Row) (p : Option (List ℕ) × PathUnit) → row_with now r p ≡ row_with first r p
+  printed_same r p =
+      ap₂ (λ style directories. Some (location_at r p.1.offset
+      (printed style (beside_table p.1.has_directory_0 (directory_by directories p.1.offset)) p.0))) s.style s.directories
 
   found_is : (row : Row) (d : Located) (file : Option FilePath) (k : ℕ) → row ≡ d.row
       → file ≡ slice_get now.paths.files.items k → HasPath now.paths k (path_of_located first d)
@@ -368,7 +375,7 @@ module _ (first now : Locator) (start held : Option (List ℕ)) (visits : List V
       ∙ ap₂ (λ (r : Row) (p : Option (List ℕ) × PathUnit). row_with now r p) e
       (ap₂ (λ (p : Option (List ℕ)) (u : PathUnit). (p, u))
       (path_found now.paths.texts.items h.file (path_of_located first d).0 h.is_path) h.unit)
-      ∙ printed_same (path_of_located first d)
+      ∙ printed_same d.row (path_of_located first d)
 
   pub something_seen : (row : Row) (file : Option FilePath) → answered ≡ Some row
       → file ≡ option_and_then (slice_get now.paths.files.items) (slice_get now.kept.items n)

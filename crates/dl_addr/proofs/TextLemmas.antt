@@ -226,7 +226,7 @@ pub path_clamped : (u : UnitFiles) (file end : ℕ) → file < 2 ^ 64
     → end ≡ option_map_or files_end (option_copied u.header) 0
     → path_of_file u (min file end) ≡ path_of_file u file
 path_clamped u file end within e =
-    ap (λ (path : Option (List ℕ)). (named u.style path, place_of u))
+    ap (λ (path : Option (List ℕ)). (named u.style (option_copied u.directory) path, place_of u))
     (ap (λ (n : ℕ). path_of (strings_of u.strings.now) (option_copied u.header) (min file n)) e
     ∙ clamped (strings_of u.strings.now) (option_copied u.header) file within)
 

@@ -2,8 +2,8 @@
 use Rattle.std.specs.Prelude.{ℕ, Bool, if◌then◌else◌, List, [], ◌++◌, Option, Some, None, codes, decimal}
 use Rattle.std.specs.Str.Lossy.{utf8_lossy}
 use Rattle.json.specs.Print.{quoted}
-use Rattle.dl_rows.specs.declared.row.Row.{Row}
 use Rattle.dl_print.specs.Digits.{hexadecimal, hexadecimal_of}
+use Rattle.dl_addr.specs.Location.{Location}
 
 -- the JSON string of a text, in which U+FFFD stands for what isn't UTF-8
 abbrev pub json_string : List ℕ → List ℕ
@@ -23,16 +23,16 @@ json_section address section = []
 abbrev pub json_asked : (address : Option ℕ) → (section : Option (List ℕ)) → List ℕ
 json_asked address section = json_address address ++ json_section address section
 
-abbrev pub json_position : Row → List ℕ
-json_position r =
-    (codes ",\"line\":" ++ decimal r.line) ++ (codes ",\"column\":" ++ decimal r.column)
-    ++ (codes ",\"discriminator\":" ++ decimal r.discriminator)
+abbrev pub json_position : Location → List ℕ
+json_position l =
+    (codes ",\"line\":" ++ decimal l.line) ++ (codes ",\"column\":" ++ decimal l.column)
+    ++ (codes ",\"discriminator\":" ++ decimal l.discriminator)
 
 abbrev pub json_is_stmt : Bool → List ℕ
 json_is_stmt is_stmt = if is_stmt then codes ",\"is_stmt\":true" else codes ",\"is_stmt\":false"
 
--- the row that answers, under the JSON string of its path, and the offset of its unit
-abbrev pub json_row : (path : List ℕ) → Row → (unit : ℕ) → List ℕ
-json_row path r unit =
-    (codes ",\"path\":" ++ path) ++ json_position r
-    ++ (json_is_stmt r.is_stmt ++ ((codes ",\"unit\":\"0x" ++ hexadecimal unit) ++ codes "\""))
+-- what is told, under the JSON string of its path
+abbrev pub json_row : (path : List ℕ) → Location → List ℕ
+json_row path l =
+    (codes ",\"path\":" ++ path) ++ json_position l
+    ++ (json_is_stmt l.is_stmt ++ ((codes ",\"unit\":\"0x" ++ hexadecimal l.unit) ++ codes "\""))

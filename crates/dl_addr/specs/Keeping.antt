@@ -9,11 +9,17 @@ use Rattle.dl_look.specs.Units.{FirstAnswer}
 use Rattle.dl_print.specs.ValueText.{strings_of}
 use Rattle.dl_addr.specs.declared.kept.PathUnit.{PathUnit}
 use Rattle.dl_addr.specs.declared.locating.Locator.{Locator}
-use Rattle.dl_path.specs.Paths.{path_of}
+use Rattle.dl_dirs.specs.Compilation.{directory_by}
+use Rattle.dl_path.specs.Paths.{beside_table, has_directory_0, path_of}
 use Rattle.dl_addr.specs.Texts.{Grows, IsKept, named, unit_place}
 
+-- the compilation directory that counts for the current unit, whose header this is
+abbrev pub directory_under : Locator → Option HeaderData → Option (List ℕ)
+directory_under l h = beside_table (has_directory_0 h) (directory_by l.directories l.unit)
+
 abbrev pub path_under : Locator → Option HeaderData → Row → Option (List ℕ) × PathUnit
-path_under l h r = (named l.style (path_of (strings_of l.strings.now) h r.file), unit_place h l.unit)
+path_under l h r =
+    (named l.style (directory_under l h) (path_of (strings_of l.strings.now) h r.file), unit_place h l.unit)
 
 -- of the places that the current unit is the first to answer the paths are kept, and of the others what was
 pub record Keeps (old new : Locator) (h : Option HeaderData) (result : Result ⊤ NoMemory) : Type 0 where

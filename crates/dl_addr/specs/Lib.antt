@@ -1,4 +1,5 @@
 -- What the public contracts say rests on these, in reading order.
+pub mod Location
 pub mod Json
 pub mod Shown
 pub mod Code

@@ -20,7 +20,7 @@ use Rattle.dl_addr.specs.declared.kept.PathUnit.{PathUnit}
 use Rattle.dl_addr.specs.declared.locating.Locator.{Locator}
 use Rattle.dl_addr.specs.Code.{is_code}
 use Rattle.dl_dirs.specs.Compilation.{directory_by}
-use Rattle.dl_addr.specs.Locations.{Located}
+use Rattle.dl_addr.specs.Locations.{Located, compilation_directory}
 use Rattle.dl_path.specs.Paths.{beside_table, path_of}
 use Rattle.dl_addr.specs.Texts.{IsKept, named, printed, unit_place}
 
@@ -59,8 +59,11 @@ located_by first x visits = located_after (code_of first) x [] first.unit visits
 
 -- the path as far as it is kept, with its unit
 abbrev pub path_of_located : Locator → Located → Option (List ℕ) × PathUnit
-path_of_located first l =
-    (named first.style (path_of (strings_of first.strings.now) l.header l.row.file), unit_place l.header l.unit)
+path_of_located first l = (
+  named first.style (compilation_directory (directory_by first.directories) l)
+      (path_of (strings_of first.strings.now) l.header l.row.file),
+  unit_place l.header l.unit,
+)
 
 -- it as it is printed
 abbrev pub printed_by : Locator → PathUnit → Option (List ℕ) → Option (List ℕ)

@@ -21,9 +21,10 @@ use Rattle.dl_addr.specs.declared.question.Found.TheVariants as found
 use Rattle.dl_addr.specs.declared.question.FoundAround.{FoundAround}
 use Rattle.dl_addr.specs.declared.question.Question.{Question}
 use Rattle.dl_addr.specs.declared.style.Form.{Form}
-use Rattle.dl_addr.specs.declared.style.Form.TheVariants.{Location, AddressAndLocation, Json}
+use Rattle.dl_addr.specs.declared.style.Form.TheVariants as forms
 use Rattle.dl_addr.specs.declared.style.Style.{Style}
-use Rattle.dl_addr.specs.Answers.{SeenRow, located_seen}
+use Rattle.dl_addr.specs.Answers.{located_seen}
+use Rattle.dl_addr.specs.Location.{Location}
 use Rattle.dl_look.specs.Asked.{place_of}
 use Rattle.dl_addr.specs.Commands.{is_answered}
 use Rattle.dl_addr.specs.Locating.{located_by}
@@ -33,36 +34,36 @@ use Rattle.dl_addr.specs.Shown.{no_path_text, text_in}
 
 -- a text as it stands in a path of this form
 abbrev pub inner_text : Form → List ℕ → List ℕ
-inner_text Location text = shown text
-inner_text AddressAndLocation text = shown text
-inner_text Json text = escape (utf8_lossy text)
+inner_text forms.Location text = shown text
+inner_text forms.AddressAndLocation text = shown text
+inner_text forms.Json text = escape (utf8_lossy text)
 
 -- a path of which the last component alone was taken, where it was asked for
 abbrev pub named_text : Form → Option (List ℕ) → List ℕ
 named_text form None = no_path_text form
 named_text form (Some path) = text_in form path
 
-abbrev pub seen_text : Form → Option SeenRow → List ℕ
+abbrev pub seen_text : Form → Option Location → List ℕ
 seen_text form None = no_row_text form
-seen_text form (Some (r, (path, unit))) = row_text form (named_text form path) r unit
+seen_text form (Some l) = row_text form (named_text form l.path) l
 
-abbrev pub seen_line : Style → Asked → Option SeenRow → List ℕ
+abbrev pub seen_line : Style → Asked → Option Location → List ℕ
 seen_line style a seen = line (asked_text style.form (option_copied style.section) a ++ seen_text style.form seen)
 
 -- for each that is asked, where f is what is kept of its answer
-abbrev pub seen_lines : Style → (f : Asked → Option SeenRow) → List Asked → List ℕ
+abbrev pub seen_lines : Style → (f : Asked → Option Location) → List Asked → List ℕ
 seen_lines style f asked = flat_map (λ a. seen_line style a (f a)) asked
 
-abbrev pub found_by : (f : Asked → Option SeenRow) → List Asked → Found
+abbrev pub found_by : (f : Asked → Option Location) → List Asked → Found
 found_by f asked = if list_all (λ a. is_answered a (is_some (f a))) asked then found.All else found.NotAll
 
 -- what a locator that was told these visits is asked
-abbrev pub answer_for : Locator → List Visit → (base : ℕ) → Asked → Option SeenRow
+abbrev pub answer_for : Locator → List Visit → (base : ℕ) → Asked → Option Location
 answer_for first visits base a =
     option_map (located_seen first) (option_and_then (λ x. located_by first x visits) (place_of base a))
 
 -- the lines of all, or not all of them
-abbrev pub PrintsAll : (old new : Option (List ℕ)) → Question → (f : Asked → Option SeenRow) → Result Found WriteFault
+abbrev pub PrintsAll : (old new : Option (List ℕ)) → Question → (f : Asked → Option Location) → Result Found WriteFault
     → Type 0
 PrintsAll old new q f (Ok all_found) =
     (all_found ≡ found_by f q.asked.now) × Appends old new (seen_lines q.style f q.asked.now)

@@ -1,6 +1,5 @@
 -- The texts of paths, as they are printed.
 use Rattle.std.specs.Prelude.{ℕ, if◌then◌else◌, List, Option, Some, None, codes}
-use Rattle.dl_path.specs.Paths.{compiled_in}
 use Rattle.dl_path.specs.Shown.{basename, shown}
 use Rattle.dl_addr.specs.declared.style.Form.{Form}
 use Rattle.dl_addr.specs.declared.style.Form.TheVariants.{Location, AddressAndLocation, Json}
@@ -19,8 +18,7 @@ no_path_text Location = codes "??"
 no_path_text AddressAndLocation = codes "??"
 no_path_text Json = codes "null"
 
--- directory: that of the compilation
-abbrev pub path_text : Style → (directory : Option (List ℕ)) → Option (List ℕ) → List ℕ
-path_text style directory None = no_path_text style.form
-path_text style directory (Some path) =
-    text_in style.form (if style.basenames then basename path else compiled_in directory path)
+-- of a path under its compilation directory; its last component alone, where that is asked for
+abbrev pub path_text : Style → Option (List ℕ) → List ℕ
+path_text style None = no_path_text style.form
+path_text style (Some path) = text_in style.form (if style.basenames then basename path else path)

@@ -41,9 +41,11 @@ AreTexts f numbers texts = (n k : ℕ) → get nat_cmp numbers n ≡ Some k
 
 -- ---- paths
 
--- the last component alone, where it is asked for
-abbrev pub named : Style → Option (List ℕ) → Option (List ℕ)
-named style path = option_map (λ p. if style.basenames then basename p else p) path
+-- as far as it is kept: as the table has it, or the last component alone of the path under the compilation directory, where
+-- that is asked for
+abbrev pub named : Style → (directory : Option (List ℕ)) → Option (List ℕ) → Option (List ℕ)
+named style directory path =
+    option_map (λ p. if style.basenames then basename (compiled_in directory p) else p) path
 
 abbrev pub text_or_none : List (List ℕ) → Option ℕ → List ℕ
 text_or_none texts number = unwrap_or (option_and_then (text_at texts) number) []
@@ -107,7 +109,10 @@ place_of u = unit_place (option_copied u.header) u.offset
 
 -- the path of a file of the unit as far as it is kept, with the unit
 abbrev pub path_of_file : UnitFiles → ℕ → Option (List ℕ) × PathUnit
-path_of_file u file = (named u.style (path_of (strings_of u.strings.now) (option_copied u.header) file), place_of u)
+path_of_file u file = (
+  named u.style (option_copied u.directory) (path_of (strings_of u.strings.now) (option_copied u.header) file),
+  place_of u,
+)
 
 -- a number from which on a unit has no files
 abbrev pub files_end : HeaderData → ℕ

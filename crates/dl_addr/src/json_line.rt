@@ -6,15 +6,16 @@ ghost use Rattle.dl_print.specs.Output.{Prints};
 ghost use Rattle.std.specs.Option.{option_copied};
 ghost use Rattle.dl_addr.specs.Json.{json_address, json_asked, json_is_stmt, json_position, json_row, json_section, json_string};
 ghost use Rattle.dl_addr.specs.declared.style.Form.TheVariants as all_forms;
+ghost use Rattle.dl_addr.specs.Answers.{answer_seen};
 ghost use Rattle.dl_addr.specs.Texts.{path_kept};
 ghost use Rattle.dl_addr.specs.Printing.{named_text};
 
 use crate::kept::KeptPath;
+use crate::locating::Answer;
 use crate::path_text::print_path;
 use crate::style::Form;
 use dl_path::print_json_text;
 use dl_print::{Printer, WriteFault};
-use dl_rows::Row;
 use std::io::Write;
 
 /// Prints the beginning of an object: the address as it was given, and the section where it is named, or null of a
@@ -97,19 +98,19 @@ fn print_address_open<W: Write>(
     printer.address(output, address)
 }
 
-/// Prints the members of a row under its path, with the offset of its unit.
+/// Prints the members that tell of a row, under its path.
 pub fn print_json_row<W: Write>(
     printer: &mut Printer,
     output: &mut W,
-    path: KeptPath<'_, '_>,
-    row: &Row,
+    answer: &Answer<'_, '_>,
 ) -> Result<(), WriteFault>
     ensures { Prints (W.contents output.old) (W.contents output.new) printer.old printer.new
-        (json_row (named_text all_forms.Json (path_kept path.entry)) row.now path.entry.file.now.unit.offset) result }
+        (json_row (named_text all_forms.Json (path_kept answer.now.path)) (answer_seen answer.now)) result }
 {
-    print_path_member(printer, output, path)?;
-    print_position(printer, output, row)?;
-    print_end(printer, output, row.is_stmt, path.file.unit.offset)
+    print_path_member(printer, output, answer.path)?;
+    print_position(printer, output, answer)?;
+    let unit = answer.path.file.unit;
+    print_end(printer, output, answer.position.is_stmt, unit.offset)
 }
 
 fn print_path_member<W: Write>(
@@ -128,14 +129,14 @@ fn print_path_member<W: Write>(
 fn print_position<W: Write>(
     printer: &mut Printer,
     output: &mut W,
-    row: &Row,
+    answer: &Answer<'_, '_>,
 ) -> Result<(), WriteFault>
     ensures { Prints (W.contents output.old) (W.contents output.new) printer.old printer.new
-        (json_position row.now) result }
+        (json_position (answer_seen answer.now)) result }
 {
-    printer.number(output, b",\"line\":", row.line)?;
-    printer.number(output, b",\"column\":", row.column)?;
-    print_discriminator(printer, output, row.discriminator)
+    printer.number(output, b",\"line\":", answer.position.line)?;
+    printer.number(output, b",\"column\":", answer.position.column)?;
+    print_discriminator(printer, output, answer.position.discriminator)
 }
 
 fn print_discriminator<W: Write>(

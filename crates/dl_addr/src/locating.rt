@@ -10,7 +10,7 @@ use crate::texts::{UnitFiles, keep_all};
 use dl_dirs::CompilationDirectories;
 use dl_head::Header;
 use dl_look::{CodeRanges, Finders, LiveRows, NoMemory, Place};
-use dl_path::{beside_table, is_whole_path};
+use dl_path::{beside_table, has_directory_0, is_whole_path};
 use dl_print::StringSections;
 use dl_rows::{Flow, Row};
 use dl_run::{AroundDamage, Damage, RunFault, Visitor};
@@ -86,10 +86,21 @@ impl<W: Write> AroundDamage<W> for Locator<'_, '_, '_> {
     }
 }
 
+/// Where in its file a row stands.
+#[derive(Clone, Copy)]
+pub struct Position {
+    pub line: u64,
+    /// 0 where it isn't known.
+    pub column: u64,
+    pub discriminator: u64,
+    pub is_stmt: bool,
+}
+
 /// The answer for a place.
 #[derive(Clone, Copy)]
 pub struct Answer<'a, 's> {
-    pub row: Row,
+    /// That of the row.
+    pub position: Position,
     /// The path of the row's file, as far as it is printed.
     pub path: KeptPath<'a, 's>,
 }
@@ -115,6 +126,7 @@ impl<'s, 'o, 'q> Locator<'s, 'o, 'q> {
     ghost use Rattle.dl_addr.specs.Code.{is_code};
     ghost use Rattle.dl_addr.specs.Locating.{Locating, located_by, printed_by};
     ghost use Rattle.dl_addr.specs.Answers.{answer_seen, located_seen};
+    ghost use Rattle.dl_addr.specs.Location.{location_at};
     ghost use Rattle.dl_rows.specs.declared.row.Row.{Row};
     ghost use Rattle.dl_look.specs.declared.place.Place.{Place};
     ghost use Rattle.dl_look.specs.FindersRows.{Stand};
@@ -188,7 +200,7 @@ impl<'s, 'o, 'q> Locator<'s, 'o, 'q> {
     /// The row, with the path that is kept for the place of this number.
     fn answer_of(&self, row: Row, number: usize) -> Option<Answer<'_, 's>>
         ensures { option_map answer_seen result ≡ option_map
-            (λ f. (row, (printed_by self.now f.unit (path_at self.now.paths.texts.items f), f.unit.offset)))
+            (λ f. location_at row f.unit.offset (printed_by self.now f.unit (path_at self.now.paths.texts.items f)))
             (option_and_then (slice_get self.now.paths.files.items) (slice_get self.now.kept.items number)) }
     {
         let file = self.file(number)?;
@@ -198,7 +210,12 @@ impl<'s, 'o, 'q> Locator<'s, 'o, 'q> {
             root: None,
         };
         Some(Answer {
-            row,
+            position: Position {
+                line: row.line,
+                column: row.column,
+                discriminator: row.discriminator,
+                is_stmt: row.is_stmt,
+            },
             path: KeptPath {
                 root: self.root(path),
                 ..path
@@ -240,6 +257,7 @@ impl<'s, 'o, 'q> Locator<'s, 'o, 'q> {
             strings: self.strings,
             header,
             style: self.style,
+            directory: beside_table(has_directory_0(header), self.directories.of(self.unit)),
             offset: self.unit,
         };
         let answered = self.finders.answered_so_far();

@@ -9,13 +9,11 @@ ghost use Rattle.dl_addr.specs.Texts.{path_kept};
 ghost use Rattle.dl_addr.specs.Printing.{named_text, seen_line, seen_text};
 
 use crate::json_line::{print_json_asked, print_json_row};
-use crate::kept::KeptPath;
 use crate::locating::Answer;
 use crate::path_text::print_path;
 use crate::style::{Form, Style};
 use dl_look::Asked;
 use dl_print::{Printer, WriteFault};
-use dl_rows::Row;
 use std::io::Write;
 
 /// Prints the line of what is asked, with its answer.
@@ -79,26 +77,25 @@ fn print_answer<W: Write>(
         (seen_text form (option_map answer_seen answer.entry)) result }
 {
     match answer {
-        Some(answer) => print_row(printer, output, form, answer.path, &answer.row),
+        Some(answer) => print_row(printer, output, form, &answer),
         None => print_no_row(printer, output, form),
     }
 }
 
-/// Prints a row under its path, with the offset of its unit.
+/// Prints what is known of a row, under its path.
 fn print_row<W: Write>(
     printer: &mut Printer,
     output: &mut W,
     form: Form,
-    path: KeptPath<'_, '_>,
-    row: &Row,
+    answer: &Answer<'_, '_>,
 ) -> Result<(), WriteFault>
     ensures { Prints (W.contents output.old) (W.contents output.new) printer.old printer.new
-        (row_text form (named_text form (path_kept path.entry)) row.now path.entry.file.now.unit.offset) result }
+        (row_text form (named_text form (path_kept answer.now.path)) (answer_seen answer.now)) result }
 {
     match form {
-        Form::Location | Form::AddressAndLocation => print_place(printer, output, form, path, row),
+        Form::Location | Form::AddressAndLocation => print_place(printer, output, form, answer),
         Form::Json => {
-            print_json_row(printer, output, path, row)?;
+            print_json_row(printer, output, answer)?;
             printer.put(output, b"}")
         }
     }
@@ -123,15 +120,14 @@ fn print_place<W: Write>(
     printer: &mut Printer,
     output: &mut W,
     form: Form,
-    path: KeptPath<'_, '_>,
-    row: &Row,
+    answer: &Answer<'_, '_>,
 ) -> Result<(), WriteFault>
     ensures { Prints (W.contents output.old) (W.contents output.new) printer.old printer.new
-        (place_text (named_text form (path_kept path.entry)) row.now) result }
+        (place_text (named_text form (path_kept answer.now.path)) (answer_seen answer.now)) result }
 {
-    print_path(printer, output, form, path)?;
-    printer.number(output, b":", row.line)?;
-    print_column(printer, output, row.column)
+    print_path(printer, output, form, answer.path)?;
+    printer.number(output, b":", answer.position.line)?;
+    print_column(printer, output, answer.position.column)
 }
 
 fn print_column<W: Write>(

@@ -14,7 +14,7 @@ use crate::kept::{FilePath, KeptBytes, KeptText, PathUnit, Paths};
 use crate::style::Style;
 use dl_head::Header;
 use dl_look::{Answered, NoMemory};
-use dl_path::{Directory, Parts, Text, basename, has_directory_0, parts_of};
+use dl_path::{Directory, Parts, Text, basename_under, has_directory_0, parts_of};
 use dl_print::StringSections;
 use std::alloc::Global;
 use std::collections::BTreeMap;
@@ -25,6 +25,8 @@ pub struct UnitFiles<'s, 'o, 'h> {
     pub strings: &'s StringSections<'o>,
     pub header: Option<&'h Header>,
     pub style: Style<'h>,
+    /// The compilation directory that counts for the unit, as far as it is known.
+    pub directory: Option<&'h [u8]>,
     /// The offset of the unit in its section.
     pub offset: u64,
 }
@@ -181,13 +183,13 @@ fn add_file<'s>(
 
 /// The parts of the path of a file, as far as they are printed.
 fn file_parts<'s, 'h>(unit: &UnitFiles<'s, '_, 'h>, file: u64) -> Option<Parts<'s, 'h>>
-    ensures seen { option_map parts_seen result ≡ named unit.now.style
+    ensures seen { option_map parts_seen result ≡ named unit.now.style (option_copied unit.now.directory)
         (path_of (strings_of unit.now.strings.now) (option_copied unit.now.header) file) }
     ensures numbered { IfSome result (FromDirectories (directory_text unit.now)) }
 {
     let parts = parts_of(unit.strings, unit.header, file)?;
     if unit.style.basenames {
-        return Some(basename(parts));
+        return Some(basename_under(unit.directory, parts));
     }
     Some(parts)
 }

@@ -1,10 +1,10 @@
 -- The last component of a path in parts.
 use Rattle.std.proofs.Common.{◌≡◌, ◌⊎◌, inl, inr, ℕ, Bool, true, false, List, [], ◌∷◌, ◌++◌, refl, sym, ap, ap₂}
 use Rattle.std.proofs.Common.{◌∙◌, append_assoc, append-nil}
-use Rattle.std.specs.Prelude.{if◌then◌else◌, ◌==◌, ◌||◌, ◌&&◌}
+use Rattle.std.specs.Prelude.{if◌then◌else◌, ◌==◌, ◌||◌, ◌&&◌, Option, unwrap_or}
 use Rattle.std.specs.List.{list_any}
 use Rattle.std.proofs.lemmas.Bool.{eqb-true, or_right}
-use Rattle.dl_path.specs.Paths.{is_letter, is_of_windows, slash_after, under}
+use Rattle.dl_path.specs.Paths.{compiled_in, is_letter, is_of_windows, is_whole, slash_after, under}
 use Rattle.dl_path.specs.Shown.{after_the_last, basename, separates}
 use Rattle.dl_path.specs.Windows.{begins_in_windows}
 use Rattle.dl_path.proofs.PathLemmas.{closes}
@@ -102,6 +102,19 @@ pub basename_under : (directory path : List ℕ) (of_windows : Bool) → of_wind
 basename_under directory path of_windows is =
     ap (λ (w : Bool). after_the_last (separates w) (under directory path)) (sym is)
     ∙ after_under (separates of_windows) refl directory path
+
+-- the same of a path in these directories under that of the compilation
+pub basename_compiled : (root : Option (List ℕ)) (directory path : List ℕ) (of_windows : Bool)
+    → of_windows ≡ is_of_windows (compiled_in root (under directory path))
+    → basename (compiled_in root (under directory path)) ≡ after_the_last (separates of_windows) path
+basename_compiled root directory path of_windows is =
+    ap (λ (w : Bool). after_the_last (separates w) (compiled_in root (under directory path))) (sym is)
+    ∙ by (is_whole (under directory path))
+    ∙ after_under (separates of_windows) refl directory path where
+      by : (is : Bool) → after_the_last (separates of_windows) (if is then under directory path
+          else under (unwrap_or root []) (under directory path)) ≡ after_the_last (separates of_windows) (under directory path)
+      by true = refl
+      by false = after_under (separates of_windows) refl (unwrap_or root []) (under directory path)
 
 -- of two directories the first that isn't empty tells
 pub first_tells : (b : ℕ) (base directory name : List ℕ)

@@ -10,7 +10,7 @@ mod path;
 mod shown;
 
 pub use compiled::{beside_table, has_directory_0, is_whole_path};
-pub use component::basename;
+pub use component::{basename, basename_under};
 pub use json_text::print_json_text;
 pub use parts::{Directory, Parts, Text, parts_of};
 pub use path::{Path, path_of, slash_after, wants_slash};

@@ -6,10 +6,10 @@ use Rattle.dl_addr.proofs.json_line.print_position.Goals as goal
 pub returns-in_err-number : goal.returns-in_err-number
 returns-in_err-number g c start text h =
     let p = err_from_is_err_and c.from_residual.result c.from_residual.ensures.1 in
-    let row = c.args.row.now in
-    let line = codes ",\"line\":" ++ decimal row.line in
-    let column = codes ",\"column\":" ++ decimal row.column in
-    let rest = codes ",\"discriminator\":" ++ decimal row.discriminator in
+    let position = c.args.answer.now.position in
+    let line = codes ",\"line\":" ++ decimal position.line in
+    let column = codes ",\"column\":" ++ decimal position.column in
+    let rest = codes ",\"discriminator\":" ++ decimal position.discriminator in
     let old = g.W.Write.contents c.args.output.now in
     let new = g.W.Write.contents c.number.new.output in
     rw (
@@ -21,10 +21,10 @@ returns-in_err-number g c start text h =
 pub returns-in_err-number-2 : goal.returns-in_err-number-2
 returns-in_err-number-2 g c start text h =
     let p = err_from_is_err_and c.from_residual-in_err-number-2.result c.from_residual-in_err-number-2.ensures.1 in
-    let row = c.args.row.now in
-    let line = codes ",\"line\":" ++ decimal row.line in
-    let column = codes ",\"column\":" ++ decimal row.column in
-    let rest = codes ",\"discriminator\":" ++ decimal row.discriminator in
+    let position = c.args.answer.now.position in
+    let line = codes ",\"line\":" ++ decimal position.line in
+    let column = codes ",\"column\":" ++ decimal position.column in
+    let rest = codes ",\"discriminator\":" ++ decimal position.discriminator in
     let old = g.W.Write.contents c.args.output.now in
     let mid = g.W.Write.contents c.number.new.output in
     let new = g.W.Write.contents c.number-2.new.output in

@@ -9,23 +9,23 @@ use Rattle.dl_addr.proofs.printing.print_place.Goals as goal
 pub returns-in_err-print_path : goal.returns-in_err-print_path
 returns-in_err-print_path g c start text h =
     let p = err_from_is_err_and c.from_residual.result c.from_residual.ensures.1 in
-    let path = named_text c.args.form (path_kept c.args.path) in
-    let row = c.args.row.now in
+    let answer = c.args.answer.now in
+    let path = named_text c.args.form (path_kept answer.path) in
     let old = g.W.Write.contents c.args.output.now in
     let new = g.W.Write.contents c.print_path.new.output in
-    let line = codes ":" ++ decimal row.line in
-    rw (p.1, p.2) (loses_front old new c.args.printer.now (path ++ line) (column_text row.column) _
+    let line = codes ":" ++ decimal answer.position.line in
+    rw (p.1, p.2) (loses_front old new c.args.printer.now (path ++ line) (column_text answer.position.column) _
     (loses_front old new c.args.printer.now path line _ c.in_err-print_path.ensures) start text h)
 
 pub returns-in_err-number : goal.returns-in_err-number
 returns-in_err-number g c start text h =
     let p = err_from_is_err_and c.from_residual-in_err-number.result c.from_residual-in_err-number.ensures.1 in
-    let path = named_text c.args.form (path_kept c.args.path) in
-    let row = c.args.row.now in
+    let answer = c.args.answer.now in
+    let path = named_text c.args.form (path_kept answer.path) in
     let old = g.W.Write.contents c.args.output.now in
     let mid = g.W.Write.contents c.print_path.new.output in
     let new = g.W.Write.contents c.number.new.output in
-    let line = codes ":" ++ decimal row.line in
-    rw (p.1, p.2) (loses_front old new c.args.printer.now (path ++ line) (column_text row.column) _
+    let line = codes ":" ++ decimal answer.position.line in
+    rw (p.1, p.2) (loses_front old new c.args.printer.now (path ++ line) (column_text answer.position.column) _
     (loses_then old mid new c.args.printer.now c.print_path.new.printer path line _ c.in_ok-print_path.ensures
     c.in_err-number.ensures.printed) start text h)

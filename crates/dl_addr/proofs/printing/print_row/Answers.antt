@@ -3,6 +3,7 @@ use Rattle.std.proofs.lemmas.Result.{err_from_is_err_and}
 use Rattle.dl_print.specs.Output.{Prints}
 use Rattle.dl_addr.specs.declared.style.Form.{Form}
 use Rattle.dl_addr.specs.declared.style.Form.TheVariants.{Json}
+use Rattle.dl_addr.specs.Answers.{answer_seen}
 use Rattle.dl_addr.specs.Json.{json_row}
 use Rattle.dl_addr.specs.Locations.{row_text}
 use Rattle.dl_addr.specs.Printing.{named_text}
@@ -13,26 +14,24 @@ use Rattle.dl_addr.proofs.printing.print_row.Goals as goal
 pub returns-in_err-print_json_row-in-Json : goal.returns-in_err-print_json_row-in-Json
 returns-in_err-print_json_row-in-Json g c =
     let p = err_from_is_err_and c.from_residual.result c.from_residual.ensures.1 in
-    let path = path_kept c.args.path in
-    let unit = c.args.path.file.now.unit.offset in
-    let row = c.args.row.now in
+    let path = path_kept c.args.answer.now.path in
+    let seen = answer_seen c.args.answer.now in
     let old = g.W.Write.contents c.args.output.now in
     let new = g.W.Write.contents c.print_json_row.new.output in
     subst (λ (f : Form). Prints old new c.args.printer.now c.print_json_row.new.printer
-    (row_text f (named_text f path) row unit) c.from_residual.result) (sym c.in-Json.is)
-    (λ start text h. rw (p.1, p.2) (loses_front old new c.args.printer.now (json_row (named_text Json path) row unit)
+    (row_text f (named_text f path) seen) c.from_residual.result) (sym c.in-Json.is)
+    (λ start text h. rw (p.1, p.2) (loses_front old new c.args.printer.now (json_row (named_text Json path) seen)
     (codes "}") _ c.in_err-print_json_row-in-Json.ensures start text h))
 
 pub returns-in_ok-print_json_row-in-Json : goal.returns-in_ok-print_json_row-in-Json
 returns-in_ok-print_json_row-in-Json g c =
-    let path = path_kept c.args.path in
-    let unit = c.args.path.file.now.unit.offset in
-    let row = c.args.row.now in
+    let path = path_kept c.args.answer.now.path in
+    let seen = answer_seen c.args.answer.now in
     let old = g.W.Write.contents c.args.output.now in
     let mid = g.W.Write.contents c.print_json_row.new.output in
     let new = g.W.Write.contents c.put.new.output in
     subst (λ (f : Form). Prints old new c.args.printer.now c.put.new.self
-    (row_text f (named_text f path) row unit) c.put.result) (sym c.in-Json.is)
+    (row_text f (named_text f path) seen) c.put.result) (sym c.in-Json.is)
     (prints_then old mid new c.args.printer.now c.print_json_row.new.printer c.put.new.self
-    (json_row (named_text Json path) row unit) (codes "}") c.put.result c.in_ok-print_json_row-in-Json.ensures
+    (json_row (named_text Json path) seen) (codes "}") c.put.result c.in_ok-print_json_row-in-Json.ensures
     c.put.ensures.printed)

@@ -5,21 +5,17 @@ use Rattle.dl_rows.specs.declared.row.Row.{Row}
 use Rattle.dl_addr.specs.declared.kept.FilePath.{FilePath}
 use Rattle.dl_addr.specs.declared.kept.KeptPath.{KeptPath}
 use Rattle.dl_addr.specs.declared.locating.Locator.{Locator}
-use Rattle.dl_addr.specs.Answers.{SeenRow}
+use Rattle.dl_addr.specs.Location.{Location, location_at}
 use Rattle.dl_addr.specs.Locating.{printed_by}
 use Rattle.dl_addr.specs.Texts.{path_at, path_kept, rooted}
+use Rattle.dl_addr.proofs.LocationLemmas.{kept_is}
 use Rattle.dl_addr.proofs.locating.Locator.answer_of.Goals as goal
 
--- what is found by the numbers of the file
-kept_is : (p : KeptPath) → path_kept p ≡ option_map (rooted (option_copied p.root)) (path_at p.texts.now p.file.now)
-unfolding path_kept
-kept_is p = refl
+abbrev answer_row : Locator → Row → List (List ℕ) → FilePath → Location
+answer_row l row texts f = location_at row f.unit.offset (printed_by l f.unit (path_at texts f))
 
-abbrev answer_row : Locator → Row → List (List ℕ) → FilePath → SeenRow
-answer_row l row texts f = (row, (printed_by l f.unit (path_at texts f), f.unit.offset))
-
-abbrev some_row : Row → Option (List ℕ) → ℕ → Option SeenRow
-some_row row path unit = Some (row, (path, unit))
+abbrev some_row : Row → Option (List ℕ) → ℕ → Option Location
+some_row row path unit = Some (location_at row unit path)
 
 pub returns : goal.returns
 returns c =

@@ -1,7 +1,11 @@
-use Rattle.std.proofs.Common.{◌≡◌, ◌<◌, length, arith, refl, sym, ◌∙◌}
+use Rattle.std.proofs.Common.{◌≡◌, ◌<◌, ℕ, List, Option, length, slice_index_or, arith, refl, sym, ap₂, subst, ◌∙◌}
 use Rattle.std.specs.Option.{option_copied}
 use Rattle.std.proofs.lemmas.Bool.{eqb-false, eqb-true}
-use Rattle.dl_addr.specs.Keeping.{path_under}
+use Rattle.dl_look.specs.Ledgers.{no_answer}
+use Rattle.dl_path.specs.Paths.{beside_table, path_of}
+use Rattle.dl_print.specs.ValueText.{strings_of}
+use Rattle.dl_addr.specs.Keeping.{directory_under, path_under}
+use Rattle.dl_addr.specs.Texts.{IsKept, named, unit_place}
 use Rattle.dl_addr.proofs.KeepLemmas.{is_kept, is_other, none_kept, numbers, on_err, on_ok, some_first}
 use Rattle.dl_addr.proofs.TextLemmas.{grows_none}
 use Rattle.dl_addr.proofs.locating.Locator.keep.Goals as goal
@@ -35,6 +39,8 @@ returns c =
     let some : 0 < length answered =
     let not_zero = eqb-false (length answered) 0 (sym c.is_empty.ensures ∙ c.if-is_empty.false) in
     omega (arith, not_zero) in
+    let directory_is : option_copied c.beside_table.result ≡ directory_under old h =
+    c.beside_table.ensures ∙ ap₂ beside_table c.has_directory_0.ensures c.of.ensures in
     record {
       code = refl;
       directories = refl;
@@ -51,8 +57,13 @@ returns c =
       right = on_ok c.keep_all.result c.keep_all.ensures.right (λ each places units rows st count.
           is_kept places units rows answered (c.answered_so_far-answered.ensures places units rows st)
           c.keep_all.new.paths c.keep_all.new.kept.items (path_under old h)
+          (λ j lt. subst (λ (d : Option (List ℕ)). IsKept c.keep_all.new.paths c.keep_all.new.kept.items
+          (slice_index_or answered j no_answer).number (
+            named old.style d (path_of (strings_of old.strings.now) h (slice_index_or answered j no_answer).row.file),
+            unit_place h old.unit,
+          )) directory_is
           (each (numbers places units rows answered (c.answered_so_far-answered.ensures places units rows st)
-          old.kept.items count)));
+          old.kept.items count) j lt)));
       some = on_err c.keep_all.result (λ places units rows st. some_first places units rows answered
           (c.answered_so_far-answered.ensures places units rows st) some);
     }

@@ -1,15 +1,17 @@
 use Rattle.std.proofs.Common.{sym, ap, ◌∙◌, List, ℕ}
-use Rattle.dl_path.specs.Paths.{is_of_windows, under}
+use Rattle.std.specs.Option.{option_copied}
+use Rattle.dl_path.specs.Paths.{compiled_in, is_of_windows, under}
 use Rattle.dl_path.specs.PathParts.{directory_seen, text_seen}
 use Rattle.dl_path.specs.PathTexts.{joined}
 use Rattle.dl_path.specs.Shown.{after_the_last, separates}
-use Rattle.dl_path.proofs.WindowsLemmas.{basename_under}
-use Rattle.dl_path.proofs.component.basename.Goals as goal
+use Rattle.dl_path.proofs.WindowsLemmas.{basename_compiled}
+use Rattle.dl_path.proofs.component.basename_under.Goals as goal
 
 pub returns-clause-seen : goal.returns-clause-seen
 returns-clause-seen c =
     let p = c.args.parts in
-    let of_windows = c.lies_in_windows.result in
+    let root = option_copied c.args.root in
+    let of_windows = c.compiled_in_windows.result in
     let sep = separates of_windows in
     let whole = c.path-whole.ensures in
     ap joined c.alone.ensures.apart
@@ -17,5 +19,5 @@ returns-clause-seen c =
     ∙ ap (λ (w : List ℕ). Rattle.std.specs.Prelude.drop c.component_start-start.result w) (sym whole.name)
     ∙ c.component_start-start.ensures.seen
     ∙ ap (after_the_last sep) whole.name
-    ∙ sym (basename_under (under (directory_seen p.base) (directory_seen p.directory)) (text_seen p.name) of_windows
-    (c.lies_in_windows.ensures ∙ ap is_of_windows whole.seen))
+    ∙ sym (basename_compiled root (under (directory_seen p.base) (directory_seen p.directory)) (text_seen p.name) of_windows
+    (c.compiled_in_windows.ensures ∙ ap (λ (w : List ℕ). is_of_windows (compiled_in root w)) whole.seen))
