@@ -164,6 +164,11 @@ line_taken hex done c asked a old noted new r is e n own line wrapped word no_ad
     subst (λ x. HasRead hex (done ++ c ∷ []) (asked ++ and_asked x []) new) (sym e)
     (line_ended hex done c asked old noted new r is (subst (λ x. Notes x old noted) e n) own line wrapped word no_address)
 
+-- whatever follows, what the lines ask for that have ended is asked for first
+pub asked_so_far : (hex : Bool) (done : List ℕ) (asked : List Asked) (s : CurrentLine) → HasRead hex done asked s
+    → (rest : List ℕ) → asked_in hex (done ++ rest) ≡ asked ++ asked_from (base_of hex) s.line rest
+asked_so_far hex done asked s r rest = sym (lines_asked hex (done ++ rest)) ∙ r.stands.asked rest
+
 -- the input ends
 pub end_asked : (hex : Bool) (done : List ℕ) (asked : List Asked) (s : CurrentLine) → HasRead hex done asked s
     → asked ++ and_asked (asked_at_end s.line) [] ≡ asked_in hex done

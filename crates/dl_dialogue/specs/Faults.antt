@@ -1,5 +1,5 @@
 -- Why nothing is told of an address.
-use Rattle.std.specs.Prelude.{ℕ, List, Option}
+use Rattle.std.specs.Prelude.{ℕ, List, Option, Result, Ok, Err}
 use Rattle.std.specs.declared.io.Error.{Error}
 use Rattle.dl_index_file.specs.Reading.{ReadFails}
 use Rattle.dl_index_file.specs.declared.fault.TextFault as text
@@ -22,3 +22,8 @@ FileFails known Fails fault = TellFails (ReadFails known Fails) fault
 abbrev pub of_text : text.TextFault → TellFault
 of_text (of.Read error) = Read error
 of_text of.NoMemory = NoMemory
+
+-- what the reading of a text came to
+abbrev pub as_told : Result (Unit {0}) text.TextFault → Result (Unit {0}) TellFault
+as_told (Ok x) = Ok x
+as_told (Err fault) = Err (of_text fault)

@@ -1,5 +1,5 @@
 -- What an index tells of an address, with the whole path.
-use Rattle.std.specs.Prelude.{ℕ, List, [], ◌∷◌, ◌++◌, Option, Some, None}
+use Rattle.std.specs.Prelude.{ℕ, Bool, if◌then◌else◌, List, [], ◌∷◌, ◌++◌, Option, Some, None}
 use Rattle.dl_addr.specs.Location.{Location}
 use Rattle.dl_index.specs.Stretches.{Told}
 
@@ -12,6 +12,9 @@ joined (text ∷ texts) = text ++ joined texts
 abbrev pub path_told : List (List ℕ) → Option (List ℕ)
 path_told [] = None
 path_told (text ∷ texts) = Some (joined (text ∷ texts))
+
+abbrev pub path_if : (is_known : Bool) → List ℕ → Option (List ℕ)
+path_if is_known path = if is_known then Some path else None
 
 abbrev pub location_told : Told → Location
 location_told t = record {

@@ -1,15 +1,19 @@
 //! The lines of addresses.
 
-ghost use Rattle.std.specs.Prelude.{◌≡◌, ℕ, Option};
-ghost use Rattle.dl_addr.specs.Location.{Location};
+ghost use Rattle.std.specs.Prelude.{◌≡◌, ℕ, Option, IfOk, IfErr, if◌then◌else◌, option_map};
+ghost use Rattle.dl_addr.specs.Location as locations;
+ghost use Rattle.dl_addr.specs.Locations.{location_seen};
 ghost use Rattle.dl_addr.specs.Commands.{is_answered};
-ghost use Rattle.dl_dialogue.specs.Answers.{AnswersAll, Manner, Determines};
+ghost use Rattle.dl_addr.specs.declared.question.Found.TheVariants as all_found;
+ghost use Rattle.dl_dialogue.specs.Answers.{AnswersAll, Manner, Determines, answer_by};
+ghost use Rattle.dl_dialogue.specs.Faults.{TellFails};
+ghost use Rattle.dl_dialogue.specs.Standing.{stopped, written};
 
-use crate::fault::AnswerFault;
+use crate::fault::{AnswerFault, TellFault};
 use crate::telling::Tell;
-use dl_addr::{Found, Style, print_location};
+use dl_addr::{Found, Location, Style, print_location};
 use dl_look::Asked;
-use dl_print::Printer;
+use dl_print::{Printer, WriteFault};
 use std::alloc::Global;
 use std::io::Write;
 
@@ -33,17 +37,62 @@ fn is_answered(asked: Asked, is_found: bool) -> bool
     asked.address.is_none() || is_found
 }
 
+/// Whether all are found, with one more.
+fn also(found: Found, is_found: bool) -> Found
+    ensures { result ≡ (if is_found then found else all_found.NotAll) }
+{
+    if is_found { found } else { Found::NotAll }
+}
+
+/// What a write came to.
+fn written(printed: Result<(), WriteFault>) -> Result<(), AnswerFault>
+    ensures { result ≡ written printed }
+{
+    match printed {
+        Ok(()) => Ok(()),
+        Err(lost) => Err(AnswerFault::Write(lost)),
+    }
+}
+
+/// Why it ends where nothing can be told, once the lines before it were written so.
+fn stopped(printed: Result<(), WriteFault>, fault: TellFault) -> Result<(), AnswerFault>
+    ensures { result ≡ stopped printed fault }
+{
+    match printed {
+        Ok(()) => Err(AnswerFault::Tell(fault)),
+        Err(lost) => Err(AnswerFault::Write(lost)),
+    }
+}
+
+/// What is told of what is asked, less the base: nothing below 0, and of what is no address.
+fn told<'a, T: Tell>(
+    teller: &T,
+    base: u64,
+    asked: Asked,
+    path: &'a mut Vec<u8>,
+) -> Result<Option<Location<'a>>, TellFault>
+    ensures told { (m : Manner) → base ≡ m.base → Determines (T.tells teller.now) m.told
+        → IfOk result (λ told. option_map location_seen told ≡ answer_by m asked) }
+    ensures fails { IfErr result (TellFails (T.fails_with teller.now)) }
+{
+    match asked.place(base) {
+        Some(place) => teller.tell(place.address, path),
+        None => Ok(None),
+    }
+}
+
 impl<'q> Answers<'q> {
     ghost use Rattle.std.specs.Prelude.{◌≡◌, ◌++◌, ◌∷◌, [], ℕ, List, Option, MatchResult};
-    ghost use Rattle.dl_addr.specs.Location.{Location};
+    ghost use Rattle.dl_addr.specs.Location as locations;
     ghost use Rattle.dl_look.specs.declared.asked.Asked as question;
     ghost use Rattle.std.specs.Io.KnownBytes.{Appends};
     ghost use Rattle.dl_dialogue.specs.Answers.{Determines, Manner, StopsBy, lines_by};
+    ghost use Rattle.dl_asked.specs.AskedLines.{and_asked};
     ghost use Rattle.dl_dialogue.specs.Standing.{Stands};
 
     /// Nothing was asked yet.
     pub fn new(alloc: Global, style: Style<'q>, base: u64) -> Answers<'q>
-        ensures { (f : ℕ → Option Location) (start : Option (List ℕ))
+        ensures { (f : ℕ → Option locations.Location) (start : Option (List ℕ))
             → Stands (record { style = style.entry; base = base; told = f }) start start [] result }
     {
         Answers {
@@ -75,20 +124,50 @@ impl<'q> Answers<'q> {
             (λ _. Stands m start (W.contents output.new) (before ++ asked ∷ []) self.new)
             (StopsBy m (T.fails_with teller.now) start (W.contents output.new) (before ++ asked ∷ [])) }
     {
-        let told = match asked.place(self.base) {
-            Some(place) => match teller.tell(place.address, &mut self.path) {
-                Ok(told) => told,
-                Err(fault) => {
-                    self.printer.flush(output)?;
-                    return Err(AnswerFault::Tell(fault));
-                }
-            },
-            None => None,
-        };
-        if !is_answered(asked, told.is_some()) {
-            self.found = Found::NotAll;
+        match told(teller, self.base, asked, &mut self.path) {
+            Ok(location) => {
+                self.found = also(self.found, is_answered(asked, location.is_some()));
+                written(print_location(&mut self.printer, output, self.style, asked, location))
+            }
+            Err(fault) => stopped(self.printer.flush(output), fault),
         }
-        Ok(print_location(&mut self.printer, output, self.style, asked, told)?)
+    }
+
+    /// The same, where something is asked.
+    pub fn answer_if_asked<T: Tell, W: Write>(
+        &mut self,
+        teller: &T,
+        output: &mut W,
+        asked: Option<Asked>,
+    ) -> Result<(), AnswerFault>
+        ensures { (m : Manner) (start : Option (List ℕ)) (before : List question.Asked)
+            → Determines (T.tells teller.now) m.told → Stands m start (W.contents output.old) before self.old
+            → MatchResult result
+            (λ _. Stands m start (W.contents output.new) (before ++ and_asked asked []) self.new)
+            (StopsBy m (T.fails_with teller.now) start (W.contents output.new) (before ++ and_asked asked [])) }
+    {
+        match asked {
+            Some(asked) => self.answer(teller, output, asked),
+            None => Ok(()),
+        }
+    }
+
+    /// The same, and writes all lines that were held back.
+    pub fn answer_last<T: Tell, W: Write>(
+        &mut self,
+        teller: &T,
+        output: &mut W,
+        asked: Option<Asked>,
+    ) -> Result<(), AnswerFault>
+        ensures { (m : Manner) (start : Option (List ℕ)) (before : List question.Asked)
+            → Determines (T.tells teller.now) m.told → Stands m start (W.contents output.old) before self.old
+            → MatchResult result
+            (λ _. Stands m start (W.contents output.new) (before ++ and_asked asked []) self.new
+            × Appends start (W.contents output.new) (lines_by m (before ++ and_asked asked [])))
+            (StopsBy m (T.fails_with teller.now) start (W.contents output.new) (before ++ and_asked asked [])) }
+    {
+        self.answer_if_asked(teller, output, asked)?;
+        self.flush(output)
     }
 
     /// Writes the lines that were held back.
@@ -99,7 +178,7 @@ impl<'q> Answers<'q> {
             × Appends start (W.contents output.new) (lines_by m asked))
             (StopsBy m (λ _. ⊥) start (W.contents output.new) asked) }
     {
-        Ok(self.printer.flush(output)?)
+        written(self.printer.flush(output))
     }
 }
 
@@ -115,7 +194,7 @@ pub fn answer_all<T: Tell, W: Write>(
     asked: &[Asked],
     output: &mut W,
 ) -> Result<Found, AnswerFault>
-    ensures { (f : ℕ → Option Location) → Determines (T.tells teller.now) f
+    ensures { (f : ℕ → Option locations.Location) → Determines (T.tells teller.now) f
         → AnswersAll (record { style = style.entry; base = base; told = f }) (T.fails_with teller.now) asked.now
         (W.contents output.old) (W.contents output.new) result }
 {

@@ -1,10 +1,10 @@
 //! A dialogue: lines that ask, and lines that answer them.
 
-ghost use Rattle.std.specs.Prelude.{◌≡◌, ℕ, List, Option};
+ghost use Rattle.std.specs.Prelude.{◌≡◌, [], ℕ, Bool, List, Option};
 ghost use Rattle.std.specs.Io.KnownBytes.{Consumes};
 ghost use Rattle.dl_addr.specs.Location.{Location};
 ghost use Rattle.dl_dialogue.specs.Answers.{Determines, Manner};
-ghost use Rattle.dl_dialogue.specs.Dialogues.{AnswersLines};
+ghost use Rattle.dl_dialogue.specs.Dialogues.{AnswersLines, Talks};
 
 use crate::answers::Answers;
 use crate::fault::AnswerFault;
@@ -84,29 +84,20 @@ impl<'q> Dialogue<'q> {
             (λ _. Speaks m hex start (W.contents output.new) (done ++ byte ∷ []) self.new)
             (StopsIn m hex (T.fails_with teller.now) start (W.contents output.new) (done ++ byte ∷ [])) }
     {
-        match self.line.take(byte) {
-            Some(asked) => self.answers.answer(teller, output, asked),
-            None => Ok(()),
-        }
+        let asked = self.line.take(byte);
+        self.answers.answer_if_asked(teller, output, asked)
     }
 
     /// Takes the end of the input, and answers the last line, where that lacks its 0x0a.
-    pub fn end<T: Tell, W: Write>(
-        self,
-        teller: &T,
-        output: &mut W,
-    ) -> Result<Answered, AnswerFault>
+    pub fn end<T: Tell, W: Write>(self, teller: &T, output: &mut W) -> Result<Answered, AnswerFault>
         ensures { (m : Manner) (hex : Bool) (start : Option (List ℕ)) (done : List ℕ)
-            → Determines (T.tells teller.now) m.told → Talks m hex start (W.contents output.old) done self
+            → Determines (T.tells teller.now) m.told → Talks m hex start (W.contents output.old) done self.entry
             → MatchResult result (Ends m hex start (W.contents output.new) done)
             (StopsBy m (T.fails_with teller.now) start (W.contents output.new) (asked_in hex done)) }
     {
         let Dialogue { mut answers, line } = self;
         let LastLine { asked, no_address } = line.end();
-        if let Some(asked) = asked {
-            answers.answer(teller, output, asked)?;
-        }
-        answers.flush(output)?;
+        answers.answer_last(teller, output, asked)?;
         Ok(Answered {
             found: answers.found(),
             no_address,
@@ -130,7 +121,7 @@ pub fn answer_lines<T: Tell, R: Read, W: Write>(
 ) -> Result<Answered, AnswerFault>
     ensures { (bs : List ℕ) × Consumes (R.remaining input.old) (R.remaining input.new) bs
         × ((m : Manner) (hex : Bool) → Determines (T.tells teller.now) m.told
-        → Talks m hex (W.contents output.old) (W.contents output.old) [] dialogue
+        → Talks m hex (W.contents output.old) (W.contents output.old) [] dialogue.entry
         → AnswersLines m hex (T.fails_with teller.now) bs (R.remaining input.new) (W.contents output.old)
         (W.contents output.new) result) }
 {

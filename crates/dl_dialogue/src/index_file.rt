@@ -1,17 +1,17 @@
 //! What an index tells that lies in a file.
 
-ghost use Rattle.std.specs.Prelude.{◌≡◌, ◌++◌, IfOk, IfErr, is_some};
+ghost use Rattle.std.specs.Prelude.{◌≡◌, ◌++◌, ℕ, List, IfOk, IfErr, is_some};
 ghost use Rattle.dl_elf.specs.Source.{ForBytes};
 ghost use Rattle.dl_index_file.specs.Opening.{source_of};
 ghost use Rattle.dl_index_file.specs.Shown.{TextsLie, Lies, text_shown, texts_shown};
-ghost use Rattle.dl_dialogue.specs.Faults.{FileFails};
+ghost use Rattle.dl_dialogue.specs.Faults.{FileFails, as_told};
 ghost use Rattle.dl_dialogue.specs.Paths.{joined, path_told};
 
 use crate::fault::TellFault;
-use crate::telling::Tell;
+use crate::telling::{Tell, path_if};
 use dl_addr::Location;
 use dl_elf::{Range, ReadAt};
-use dl_index_file::{IndexFile, TextPlaces};
+use dl_index_file::{IndexFile, TextFault, TextPlaces};
 
 impl<S: ReadAt> Tell for IndexFile<'_, S> {
     ghost use Rattle.std.specs.Prelude.{◌≡◌, option_map};
@@ -37,14 +37,9 @@ impl<S: ReadAt> Tell for IndexFile<'_, S> {
             return Ok(None);
         };
         read_texts(self, found.texts, path)?;
-        let path = if is_known(found.texts) {
-            Some(path.as_slice())
-        } else {
-            None
-        };
         Ok(Some(Location {
             unit: found.unit,
-            path,
+            path: path_if(is_known(found.texts), path.as_slice()),
             line: found.line,
             column: found.column,
             discriminator: found.discriminator,
@@ -89,7 +84,17 @@ fn read_text<S: ReadAt>(
         → IfErr result (FileFails (S.all_bytes (source_of index.now)) (S.fails_with (source_of index.now))) }
 {
     match text {
-        Some(place) => Ok(index.read_text(place, path)?),
+        Some(place) => as_told(index.read_text(place, path)),
         None => Ok(()),
+    }
+}
+
+/// What the reading of a text came to.
+fn as_told(read: Result<(), TextFault>) -> Result<(), TellFault>
+    ensures { result ≡ as_told read }
+{
+    match read {
+        Ok(()) => Ok(()),
+        Err(fault) => Err(TellFault::from(fault)),
     }
 }

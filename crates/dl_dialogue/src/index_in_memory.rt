@@ -6,7 +6,7 @@ ghost use Rattle.dl_dialogue.specs.Faults.{IsNoMemory};
 ghost use Rattle.dl_dialogue.specs.Paths.{path_told, joined};
 
 use crate::fault::TellFault;
-use crate::telling::Tell;
+use crate::telling::{Tell, path_if};
 use dl_addr::Location;
 use dl_index::{IndexRef, PathTexts};
 
@@ -31,14 +31,9 @@ impl Tell for IndexRef<'_> {
             return Ok(None);
         };
         put_texts(found.texts, path)?;
-        let path = if is_known(found.texts) {
-            Some(path.as_slice())
-        } else {
-            None
-        };
         Ok(Some(Location {
             unit: found.unit,
-            path,
+            path: path_if(is_known(found.texts), path.as_slice()),
             line: found.line,
             column: found.column,
             discriminator: found.discriminator,

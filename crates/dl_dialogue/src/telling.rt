@@ -1,5 +1,9 @@
 //! What tells of an address where it is in the source.
 
+ghost use Rattle.std.specs.Prelude.{◌≡◌};
+ghost use Rattle.std.specs.Option.{option_copied};
+ghost use Rattle.dl_dialogue.specs.Paths.{path_if};
+
 use crate::fault::TellFault;
 use dl_addr::Location;
 
@@ -25,6 +29,13 @@ pub trait Tell {
     ) -> Result<Option<Location<'a>>, TellFault>
         ensures tells { IfOk result (λ told. tells self.now address (option_map location_seen told)) }
         ensures fails { IfErr result (TellFails (fails_with self.now)) };
+}
+
+/// The path, where it is known.
+pub(crate) fn path_if(is_known: bool, path: &[u8]) -> Option<&[u8]>
+    ensures { option_copied result ≡ path_if is_known path.now }
+{
+    if is_known { Some(path) } else { None }
 }
 
 /// What tells nothing.
