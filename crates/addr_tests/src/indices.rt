@@ -1,14 +1,12 @@
 //! Indices of worked sections, and what they answer.
 use crate::sections::{DEAD, OVER, PATHS, TOP, at, options, plain, section};
-use dl_addr::{CompilationDirectories, Question};
+use dl_addr::{Asked, CompilationDirectories, Location, Question, Style, print_location};
 use dl_head::FaultKind;
 use dl_index::{Found, IndexRef, open};
-use dl_making::{Table, make_index, make_index_around};
-use dl_path::print_shown;
+use dl_making::{Table, make_index, make_index_around, make_index_until, make_index_until_around};
 use dl_print::Printer;
 use dl_run::{Damage, DamagedUnits, RunFault};
 use std::alloc::Global;
-use std::io::Write;
 use std::process::Abort;
 use std::test::Fail;
 use test_support::{Hoarding, Sink, hoard_most};
@@ -35,41 +33,51 @@ fn path(alloc: Global, found: &Found<'_>) -> Result<Option<Vec<u8>>, Fail> {
     Ok(Some(path))
 }
 
-/// Writes the location that is told of an address.
-fn put_found(alloc: Global, output: &mut Sink, found: Option<Found<'_>>) -> Result<(), Fail> {
-    let Some(found) = found else {
-        write!(output, "??:0\n")?;
-        return Ok(());
+/// Prints the line of what is told of an address.
+fn print_found(
+    alloc: Global,
+    printer: &mut Printer,
+    output: &mut Sink,
+    (style, asked): (Style<'_>, Asked),
+    found: &Found<'_>,
+) -> Result<(), Fail> {
+    let path = path(alloc, found)?;
+    let location = Location {
+        unit: found.unit,
+        path: match &path {
+            Some(path) => Some(path.as_slice()),
+            None => None,
+        },
+        line: found.line,
+        column: found.column,
+        discriminator: found.discriminator,
+        is_stmt: found.is_stmt,
     };
-    match path(alloc, &found)? {
-        Some(path) => {
-            let mut printer = Printer::new();
-            print_shown(&mut printer, output, path.as_slice())
-                .ok()
-                .ok_or("write")?;
-            printer.flush(output).ok().ok_or("write")?;
-        }
-        None => write!(output, "??")?,
-    }
-    write!(output, ":{}", found.line)?;
-    if found.column != 0 {
-        write!(output, ":{}", found.column)?;
-    }
-    write!(output, "\n")?;
+    print_location(printer, output, style, asked, Some(location))
+        .ok()
+        .ok_or("write")?;
     Ok(())
 }
 
-/// What an index tells of the addresses of a question, a line each.
+/// The line of each address of a question, as an index tells of it.
 fn lines(alloc: Global, index: &IndexRef<'_>, question: &Question<'_>) -> Result<Vec<u8>, Fail> {
     let mut output = Sink::new(alloc, 1 << 20, 1 << 20);
+    let mut printer = Printer::new();
+    let style = question.style;
     for asked in question.asked {
         let address = asked.address.and_then(|a| a.checked_sub(question.base));
         let found = match address {
             Some(address) => index.find(address),
             None => None,
         };
-        put_found(alloc, &mut output, found)?;
+        match found {
+            Some(found) => print_found(alloc, &mut printer, &mut output, (style, *asked), &found)?,
+            None => print_location(&mut printer, &mut output, style, *asked, None)
+                .ok()
+                .ok_or("write")?,
+        }
     }
+    printer.flush(&mut output).ok().ok_or("write")?;
     Ok(output.held)
 }
 
@@ -131,11 +139,38 @@ fn indices_of_damaged_sections(rt: HostRuntime) -> Result<(), Fail> {
         others: 0,
     };
     assert_eq!(rt; made.survey.damaged, Some(units));
-    let index = open(made.index.as_slice()).ok().ok_or("damaged index")?;
+    assert_front(&rt, rt.alloc(), made.index.as_slice())
+}
+
+/// Asserts that an index answers an address of the damaged unit and one of the whole unit before it.
+fn assert_front(rt: &impl Abort, alloc: Global, index: &[u8]) -> Result<(), Fail> {
+    let index = open(index).ok().ok_or("damaged index")?;
     let asked = [at(u64::MAX - 1), at(0x1010)];
-    let text = lines(rt.alloc(), &index, &plain(&asked))?;
+    let text = lines(alloc, &index, &plain(&asked))?;
     assert!(rt; text.as_slice() == "??:0\n/src/main.c:11:1\n".as_bytes());
     Ok(())
+}
+
+/// Up to a damaged unit, or around it, the whole units answer, and the fault is told.
+#[test]
+fn indices_up_to_a_fault(rt: HostRuntime) -> Result<(), Fail> {
+    let mut damaged = section(rt.alloc(), &[PATHS, TOP])?;
+    damaged.pop();
+    let mut input = damaged.as_slice();
+    let made = make_index_until(rt.alloc(), &mut input, &plain_table(), &options());
+    let fault = RunFault::Damage {
+        offset: 314,
+        kind: FaultKind::Truncated,
+    };
+    assert!(rt; made.ended.err() == Some(fault));
+    let index = made.index.ok().ok_or("no index")?;
+    assert_front(&rt, rt.alloc(), index.as_slice())?;
+    let mut input = damaged.as_slice();
+    let made = make_index_until_around(rt.alloc(), &mut input, &plain_table(), &options());
+    let survey = made.ended.ok().ok_or("a fault")?;
+    assert!(rt; survey.damaged.is_some());
+    let index = made.index.ok().ok_or("no index")?;
+    assert_front(&rt, rt.alloc(), index.as_slice())
 }
 
 /// The index says whether each sequence was asked for, and at most 32 bytes of the build ID.

@@ -146,8 +146,7 @@ pub fn assert_pieces(
     }
 }
 
-/// The same of a section of these units. Where paths are printed whole and each address is alone in its line, their index
-/// answers so too.
+/// The same of a section of these units; and the lines of what their index tells are these too.
 pub fn assert_addr(
     rt: &impl Abort,
     alloc: Global,
@@ -157,13 +156,11 @@ pub fn assert_addr(
 ) -> Result<(), Fail> {
     let section = section(alloc, units)?;
     assert_pieces(rt, alloc, section.as_slice(), question, wanted);
-    if question.style == PLAIN {
-        let text = index_lines(alloc, section.as_slice(), question)?;
-        assert!(rt;
-            text.as_slice() == wanted.0.as_bytes(),
-            "index: {}",
-            wanted.0
-        );
-    }
+    let text = index_lines(alloc, section.as_slice(), question)?;
+    assert!(rt;
+        text.as_slice() == wanted.0.as_bytes(),
+        "index: {}",
+        wanted.0
+    );
     Ok(())
 }

@@ -28,7 +28,7 @@ use Rattle.dl_making.specs.Making.{Making, code_of, making_story, told_after}
 use Rattle.dl_making.specs.Telling.{told_of}
 
 -- of what tells the same
-same_index : (all : Bool) (build_id : List ℕ) (f g : ℕ → Option Told) (b : List ℕ) → ((a : ℕ) → f a ≡ g a)
+pub same_index : (all : Bool) (build_id : List ℕ) (f g : ℕ → Option Told) (b : List ℕ) → ((a : ℕ) → f a ≡ g a)
     → IsIndexOf all build_id f b → IsIndexOf all build_id g b
 same_index all build_id f g b same is = record {
   is_index = is.is_index;
@@ -48,7 +48,7 @@ pub record Knows (first : Maker) (table : Table) (s : Strings) : Type 0 where
   pub strings : strings_of first.strings.now ≡ s
 
 module _ (dialect : Dialect) (first : Maker) (table : Table) (s : Strings) (knows : Knows first table s) where
-  told_same : (visits : List Visit) (a : ℕ) (look_up : (ℕ → Bool) → Option Located)
+  pub told_same : (visits : List Visit) (a : ℕ) (look_up : (ℕ → Bool) → Option Located)
       → ((live : ℕ → Bool) → located_after live (place_at a) [] first.unit visits ≡ look_up live)
       → told_after first visits a
       ≡ option_map (told_of s (directory_by table.directories)) (look_up (is_code (option_copied table.code)))

@@ -4,6 +4,8 @@ pub mod Telling
 pub mod IsIndexOf
 pub mod Makes
 pub mod Writes
+pub mod Until
+pub mod LineLaws
 -- Of contracts inside the crate, and of proofs; no public contract reaches these.
 pub mod UnitFile
 pub mod Numbers

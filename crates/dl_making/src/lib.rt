@@ -2,10 +2,13 @@
 #![tactic(auto)]
 
 mod files;
+pub mod laws;
 mod maker;
 mod making;
 mod numbers;
+mod until;
 mod writing;
 
 pub use making::{Made, MadeAround, Table, make_index, make_index_around};
+pub use until::{MadeUntil, MadeUntilAround, make_index_until, make_index_until_around};
 pub use writing::{write_index, write_index_around};

@@ -96,7 +96,7 @@ pub fn make_index_around<R: Read>(
 }
 
 /// The index of what a maker was told.
-fn told_index(
+pub(crate) fn told_index(
     alloc: Global,
     maker: &Maker<'_, '_, '_>,
     table: &Table<'_>,

@@ -1,7 +1,7 @@
 -- What is told of a file before its line table is read: where it has code, and in which directories its units were compiled.
 -- DWARF 5, section 3.1.1. f: the bytes of the file; fails: the errors that opening and reading it may give; are_wanted: the
 -- directories are looked for.
-use Rattle.std.specs.Prelude.{◌≡◌, ◌⊎◌, ℕ, Bool, true, false, not, ◌&&◌, is_none, List, Option, None}
+use Rattle.std.specs.Prelude.{◌≡◌, ◌⊎◌, ℕ, Bool, true, false, is_none, List, Option, None}
 use Rattle.std.specs.Option.{option_or}
 use Rattle.std.specs.declared.io.Error.{Error}
 use Rattle.dl_cmd.specs.Job.{AddrTexts, Text}
@@ -10,9 +10,9 @@ use Rattle.dl_open.specs.Directories.{AreDirectories, RefusesDirectories}
 use Rattle.dl_open.specs.declared.fault.FileFault.{FileFault}
 use Rattle.dl_open.specs.declared.fault.FileFault.TheVariants.{Elf}
 
--- for `addr` they are looked for where none is said, and paths are printed whole
+-- for `addr` they are looked for where none is said
 abbrev pub wants_directories : AddrTexts → Bool
-wants_directories w = is_none w.comp_dir && not w.basenames
+wants_directories w = is_none w.comp_dir
 
 -- those that the file says, by the offsets of its units; none where they aren't looked for
 abbrev pub AreFound : (are_wanted : Bool) (f : List ℕ) → (ℕ → Option (List ℕ)) → Type 0

@@ -147,11 +147,11 @@ pub fn said_directory<'q>(words: &'q AddrWords<'_>) -> CompilationDirectories<'q
     directory_said(words.comp_dir)
 }
 
-/// Whether the directories are looked for that a file says: none is said, and paths are printed whole.
+/// Whether the directories are looked for that a file says: none is said.
 pub fn wants_directories(words: &AddrWords<'_>) -> bool
     ensures { result ≡ wants_directories (addr_words_made words.now) }
 {
-    words.comp_dir.is_none() && !words.basenames
+    words.comp_dir.is_none()
 }
 
 /// What is asked of a section, which is of an object file where it is named.

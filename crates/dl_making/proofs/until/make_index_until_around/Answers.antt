@@ -1,0 +1,26 @@
+use Rattle.std.proofs.Common.{None, ap, ◌∙◌}
+use Rattle.std.proofs.KnownBytes.{Appends-nil}
+use Rattle.dl_print.specs.ValueText.{strings_of}
+use Rattle.dl_run.specs.Commands.{strings_in}
+use Rattle.dl_making.proofs.MakerLemmas.{begins}
+use Rattle.dl_making.proofs.MakingLemmas.{Knows}
+use Rattle.dl_making.proofs.UntilLemmas.{until_around, refused_by}
+use Rattle.dl_making.proofs.until.make_index_until_around.Goals as goal
+
+pub returns : goal.returns
+returns g c =
+    let read = c.read_units_around-ended.ensures in
+    let maker = c.new-maker.ensures in
+    let options = c.args.options.now in
+    let first = c.new-maker.result in
+    let ended = c.read_units_around-ended.result in
+    let knows : Knows first c.args.table.now (strings_in options) =
+    record { code = maker.code; directories = maker.directories; strings = ap strings_of maker.strings ∙ c.new-strings.ensures } in (
+      read.0,
+      read.1,
+      until_around options.dialect first c.args.table.now (strings_in options) knows options.limit read.0
+          (g.R.Read.remaining c.read_units_around-ended.new.input) c.read_units_around-ended.new.visitor None None
+          c.index_until.result c.index_until.ensures.told ended
+          (λ e. c.index_until.ensures.refused (refused_by ended c.err.result c.err.ensures.value e))
+          (read.2 (begins first None maker.runs maker.names (Appends-nil None)) (Appends-nil None)),
+    )

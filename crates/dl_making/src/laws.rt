@@ -1,0 +1,18 @@
+//! Laws of what an index tells of addresses, each the contract of a function that does nothing.
+
+ghost use Rattle.dl_making.specs.LineLaws.{LinesOfIndex, LinesOfIndexAround, ToldIsLocation};
+
+/// What an index tells of an address is what `addr` tells of the row that answers it.
+pub fn told_is_location()
+    ensures { ToldIsLocation }
+{}
+
+/// The line of an address by the index of units is the one that `addr` prints.
+pub fn lines_of_index()
+    ensures { LinesOfIndex }
+{}
+
+/// The same of the whole units of a section of which units may be damaged.
+pub fn lines_of_index_around()
+    ensures { LinesOfIndexAround }
+{}

@@ -1,0 +1,107 @@
+//! The index of the units of a section before its end or a fault. Section 6.2.4.
+
+ghost use Rattle.std.specs.Prelude.{◌≡◌, ◌≤◌, ℕ, List, Option, Some, IfOk, is_err, true};
+ghost use Rattle.std.specs.Io.KnownBytes.{Consumes};
+ghost use Rattle.dl_run.specs.declared.fault.RunFault.TheVariants as faults;
+ghost use Rattle.dl_run.specs.Commands.{strings_in};
+ghost use Rattle.dl_run.specs.Section.{Visit};
+ghost use Rattle.dl_making.specs.declared.maker.Maker as makers;
+ghost use Rattle.dl_making.specs.IsIndexOf.{IsIndexOf};
+ghost use Rattle.dl_making.specs.Makes.{id_kept};
+ghost use Rattle.dl_making.specs.Making.{Making, told_after};
+ghost use Rattle.dl_making.specs.Until.{MakesUntil, MakesUntilAround};
+
+use crate::maker::Maker;
+use crate::making::{Table, told_index};
+use dl_look::NoMemory;
+use dl_print::{StringSections, Summary};
+use dl_run::{Options, RunFault, SECTION_LIMIT, Survey, read_units, read_units_around};
+use std::alloc::Global;
+use std::io;
+use std::io::Read;
+
+/// The index of the units before the end of a section, or before the fault at which its reading ended.
+#[derive(Drop)]
+pub struct MadeUntil {
+    /// None where memory was refused, for the reading or for the index.
+    pub index: Result<Vec<u8>, NoMemory>,
+    /// What the units of the section come to, or the fault.
+    pub ended: Result<Summary, RunFault>,
+}
+
+/// The index of the whole units before the end of a section of which units may be damaged, or before the fault at which
+/// its reading ended.
+#[derive(Drop)]
+pub struct MadeUntilAround {
+    /// None where memory was refused, for the reading or for the index.
+    pub index: Result<Vec<u8>, NoMemory>,
+    /// What the whole units of the section come to, and which units are damaged; or the fault.
+    pub ended: Result<Survey, RunFault>,
+}
+
+/// Makes the index of a section as `make_index` does, up to the end or the first fault: then it is that of the units before,
+/// those whose answers `addr` prints.
+///
+/// The faults are those of `check`, but for failed writes; `NoMemory` also where a growth is refused for the runs of
+/// rows, for files and texts.
+pub fn make_index_until<R: Read>(
+    alloc: Global,
+    input: &mut R,
+    table: &Table<'_>,
+    options: &Options<'_>,
+) -> MadeUntil
+    requires { options.now.limit ≤ SECTION_LIMIT }
+    ensures { (bs : List ℕ) × Consumes (R.remaining input.old) (R.remaining input.new) bs
+        × MakesUntil options.now.dialect (strings_in options.now) table.now options.now.limit bs (R.remaining input.new)
+        result.ended result.index }
+{
+    let strings = StringSections::new(options.debug_line_str, options.debug_str);
+    let mut maker = Maker::new(alloc, &strings, table.code, table.directories);
+    let ended = read_units(alloc, input, &mut io::sink(), options, &mut maker);
+    MadeUntil {
+        index: index_until(alloc, &maker, table, ended.err()),
+        ended,
+    }
+}
+
+/// Makes the index of a section as `make_index_until` does, and goes on after units that are damaged, of which nothing is
+/// told.
+///
+/// The section is read as `read_units_around` reads it, and the faults are those of `make_index_until` but for `Damage`.
+pub fn make_index_until_around<R: Read>(
+    alloc: Global,
+    input: &mut R,
+    table: &Table<'_>,
+    options: &Options<'_>,
+) -> MadeUntilAround
+    requires { options.now.limit ≤ SECTION_LIMIT }
+    ensures { (bs : List ℕ) × Consumes (R.remaining input.old) (R.remaining input.new) bs
+        × MakesUntilAround options.now.dialect (strings_in options.now) table.now options.now.limit bs
+        (R.remaining input.new) result.ended result.index }
+{
+    let strings = StringSections::new(options.debug_line_str, options.debug_str);
+    let mut maker = Maker::new(alloc, &strings, table.code, table.directories);
+    let ended = read_units_around(alloc, input, &mut io::sink(), options, &mut maker);
+    MadeUntilAround {
+        index: index_until(alloc, &maker, table, ended.err()),
+        ended,
+    }
+}
+
+/// The index of what a maker was told before the reading ended, with this fault or none.
+fn index_until(
+    alloc: Global,
+    maker: &Maker<'_, '_, '_>,
+    table: &Table<'_>,
+    fault: Option<RunFault>,
+) -> Result<Vec<u8>, NoMemory>
+    ensures told { IfOk result (λ index. (first : makers.Maker) (start held : Option (List ℕ)) (visits : List Visit)
+        → Making first maker.now start held visits
+        → IsIndexOf table.now.all (id_kept table.now) (told_after first visits) index.items) }
+    ensures refused { fault ≡ Some faults.NoMemory → is_err result ≡ true }
+{
+    match fault {
+        Some(RunFault::NoMemory) => Err(NoMemory),
+        _ => told_index(alloc, maker, table),
+    }
+}
