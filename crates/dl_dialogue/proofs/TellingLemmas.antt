@@ -11,17 +11,16 @@ use Rattle.dl_index_file.specs.declared.fault.TextFault.{TextFault}
 use Rattle.dl_index_file.specs.declared.fault.TextFault.TheVariants as of
 use Rattle.dl_dialogue.specs.Faults.{FileFails, as_told}
 use Rattle.dl_dialogue.specs.declared.fault.TellFault.{TellFault}
-use Rattle.dl_dialogue.specs.Paths.{joined, path_if, path_told}
-
-pub joined-append : (a b : List (List ℕ)) → joined (a ++ b) ≡ joined a ++ joined b
-joined-append [] b = refl
-joined-append (t ∷ a) b = ap (λ l. t ++ l) (joined-append a b) ∙ sym (append_assoc t (joined a) (joined b))
+use Rattle.std.specs.List.{concat}
+use Rattle.std.proofs.lemmas.List.Folds.{concat-append}
+use Rattle.dl_making.specs.Telling.{path_told}
+use Rattle.dl_dialogue.specs.Paths.{path_if}
 
 -- three parts of the texts, one after the other
-pub joined_three : (a b c : List (List ℕ)) → (([] ++ joined a) ++ joined b) ++ joined c ≡ joined (a ++ b ++ c)
-joined_three a b c = sym (joined-append (a ++ b) c ∙ ap (λ l. l ++ joined c) (joined-append a b))
+pub joined_three : (a b c : List (List ℕ)) → (([] ++ concat a) ++ concat b) ++ concat c ≡ concat (a ++ b ++ c)
+joined_three a b c = sym (concat-append (a ++ b) c ∙ ap (λ l. l ++ concat c) (concat-append a b))
 
-pub path_is : (texts : List (List ℕ)) (is : Bool) (path : List ℕ) → is ≡ is_some (path_told texts) → path ≡ joined texts
+pub path_is : (texts : List (List ℕ)) (is : Bool) (path : List ℕ) → is ≡ is_some (path_told texts) → path ≡ concat texts
     → path_if is path ≡ path_told texts
 path_is [] is path known same = ap (λ b. path_if b path) known
 path_is (t ∷ texts) is path known same = ap (λ b. path_if b path) known ∙ ap (λ p. Some p) same
@@ -37,15 +36,15 @@ text_fails known Fails place (Err (of.Read error)) (inr (kind, ends)) lies =
     inr (kind, λ b is below. (let short = ends b is below in let within = lies b is below in omega (arith, short, within)))
 
 pub text_read : (r : Result (Unit {0}) TextFault) (old new bytes : List ℕ) → IfOk r (λ _. new ≡ old ++ bytes)
-    → IfOk (as_told r) (λ _. new ≡ old ++ joined (bytes ∷ []))
+    → IfOk (as_told r) (λ _. new ≡ old ++ concat (bytes ∷ []))
 text_read (Ok x) old new bytes read = read ∙ ap (λ l. old ++ l) (sym (append-nil bytes))
 text_read (Err fault) old new bytes read = tt
 
 -- three texts are read one after the other
 pub read_three : (r : Result (Unit {0}) TellFault) (a b c : List (List ℕ)) (none one two three : List ℕ) → none ≡ []
-    → one ≡ none ++ joined a → two ≡ one ++ joined b → IfOk r (λ _. three ≡ two ++ joined c)
-    → IfOk r (λ _. three ≡ joined (a ++ b ++ c))
+    → one ≡ none ++ concat a → two ≡ one ++ concat b → IfOk r (λ _. three ≡ two ++ concat c)
+    → IfOk r (λ _. three ≡ concat (a ++ b ++ c))
 read_three (Ok x) a b c none one two three empty first second third =
-    third ∙ (ap (λ l. l ++ joined c) (second ∙ ap (λ l. l ++ joined b) (first ∙ ap (λ l. l ++ joined a) empty))
+    third ∙ (ap (λ l. l ++ concat c) (second ∙ ap (λ l. l ++ concat b) (first ∙ ap (λ l. l ++ concat a) empty))
     ∙ joined_three a b c)
 read_three (Err fault) a b c none one two three empty first second third = tt

@@ -5,7 +5,8 @@ ghost use Rattle.dl_elf.specs.Source.{ForBytes};
 ghost use Rattle.dl_index_file.specs.Opening.{source_of};
 ghost use Rattle.dl_index_file.specs.Shown.{TextsLie, Lies, text_shown, texts_shown};
 ghost use Rattle.dl_dialogue.specs.Faults.{FileFails, as_told};
-ghost use Rattle.dl_dialogue.specs.Paths.{joined, path_told};
+ghost use Rattle.std.specs.List.{concat};
+ghost use Rattle.dl_making.specs.Telling.{path_told};
 
 use crate::fault::TellFault;
 use crate::telling::{Tell, path_if};
@@ -20,7 +21,7 @@ impl<S: ReadAt> Tell for IndexFile<'_, S> {
     ghost use Rattle.dl_index.specs.Telling.{find_in};
     ghost use Rattle.dl_index_file.specs.Opening.{source_of};
     ghost use Rattle.dl_index_file.specs.Reading.{ReadFails};
-    ghost use Rattle.dl_dialogue.specs.Paths.{location_told};
+    ghost use Rattle.dl_making.specs.Telling.{location_told};
 
     ghost tells = { λ index address told. ForBytes (S.all_bytes (source_of index)) (λ b.
         IsIndex b → told ≡ option_map location_told (find_in b address)) };
@@ -62,7 +63,7 @@ fn read_texts<S: ReadAt>(
     path: &mut Vec<u8>,
 ) -> Result<(), TellFault>
     ensures texts { ForBytes (S.all_bytes (source_of index.now)) (λ b. IfOk result
-        (λ _. path.new.items ≡ joined (texts_shown b texts))) }
+        (λ _. path.new.items ≡ concat (texts_shown b texts))) }
     ensures fails { ForBytes (S.all_bytes (source_of index.now)) (λ b. TextsLie b texts)
         → IfErr result (FileFails (S.all_bytes (source_of index.now)) (S.fails_with (source_of index.now))) }
 {
@@ -79,7 +80,7 @@ fn read_text<S: ReadAt>(
     path: &mut Vec<u8>,
 ) -> Result<(), TellFault>
     ensures text { ForBytes (S.all_bytes (source_of index.now)) (λ b. IfOk result
-        (λ _. path.new.items ≡ path.old.items ++ joined (text_shown b text))) }
+        (λ _. path.new.items ≡ path.old.items ++ concat (text_shown b text))) }
     ensures fails { ForBytes (S.all_bytes (source_of index.now)) (λ b. Lies b text)
         → IfErr result (FileFails (S.all_bytes (source_of index.now)) (S.fails_with (source_of index.now))) }
 {

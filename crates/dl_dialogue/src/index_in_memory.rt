@@ -3,7 +3,8 @@
 ghost use Rattle.std.specs.Prelude.{◌≡◌, ◌++◌, IfOk, IfErr, is_some};
 ghost use Rattle.dl_index.specs.Shown.{text_told, texts_told};
 ghost use Rattle.dl_dialogue.specs.Faults.{IsNoMemory};
-ghost use Rattle.dl_dialogue.specs.Paths.{path_told, joined};
+ghost use Rattle.std.specs.List.{concat};
+ghost use Rattle.dl_making.specs.Telling.{path_told};
 
 use crate::fault::TellFault;
 use crate::telling::{Tell, path_if};
@@ -15,7 +16,7 @@ impl Tell for IndexRef<'_> {
     ghost use Rattle.dl_index.specs.IsIndex.{IsIndex};
     ghost use Rattle.dl_index.specs.Shown.{bytes_of};
     ghost use Rattle.dl_index.specs.Telling.{find_in};
-    ghost use Rattle.dl_dialogue.specs.Paths.{location_told};
+    ghost use Rattle.dl_making.specs.Telling.{location_told};
 
     ghost tells = { λ index address told.
         IsIndex (bytes_of index) → told ≡ option_map location_told (find_in (bytes_of index) address) };
@@ -51,7 +52,7 @@ fn is_known(texts: PathTexts<'_>) -> bool
 
 /// Puts the texts that there are, one after the other, into `path`, in place of what stood there.
 fn put_texts(texts: PathTexts<'_>, path: &mut Vec<u8>) -> Result<(), TellFault>
-    ensures texts { IfOk result (λ _. path.new.items ≡ joined (texts_told texts.entry)) }
+    ensures texts { IfOk result (λ _. path.new.items ≡ concat (texts_told texts.entry)) }
     ensures memory { IfErr result IsNoMemory }
 {
     path.clear();
@@ -62,7 +63,7 @@ fn put_texts(texts: PathTexts<'_>, path: &mut Vec<u8>) -> Result<(), TellFault>
 
 /// Puts a text behind the others, where there is one.
 fn put_text(text: Option<&[u8]>, path: &mut Vec<u8>) -> Result<(), TellFault>
-    ensures text { IfOk result (λ _. path.new.items ≡ path.old.items ++ joined (text_told text.entry)) }
+    ensures text { IfOk result (λ _. path.new.items ≡ path.old.items ++ concat (text_told text.entry)) }
     ensures memory { IfErr result IsNoMemory }
 {
     let Some(text) = text else {

@@ -4,7 +4,7 @@ use Rattle.std.specs.Option.{option_map}
 use Rattle.dl_addr.specs.Location.{Location}
 use Rattle.dl_index_file.specs.FindsIn.{FindsIn}
 use Rattle.dl_index_file.specs.Shown.{texts_shown}
-use Rattle.dl_dialogue.specs.Paths.{location_told}
+use Rattle.dl_making.specs.Telling.{location_told}
 use Rattle.dl_dialogue.proofs.TellingLemmas.{path_is}
 use Rattle.dl_dialogue.proofs.index_file.IndexFileTell.tell.Goals as goal
 
