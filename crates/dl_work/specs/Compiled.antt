@@ -8,7 +8,8 @@ use Rattle.dl_cmd.specs.Job.{AddrTexts, Text}
 use Rattle.dl_open.specs.Code.{RefusesCode}
 use Rattle.dl_open.specs.Directories.{AreDirectories, RefusesDirectories}
 use Rattle.dl_open.specs.declared.fault.FileFault.{FileFault}
-use Rattle.dl_open.specs.declared.fault.FileFault.TheVariants.{Elf}
+use Rattle.dl_open.specs.declared.fault.FileFault.TheVariants.{Elf, Open}
+use Rattle.dl_elf.specs.declared.fault.ElfFault.TheVariants.{Read}
 
 -- for `addr` they are looked for where none is said
 abbrev pub wants_directories : AddrTexts → Bool
@@ -27,6 +28,12 @@ RefusesFinding are_wanted fails f other = ⊥
 -- it can't be told where the file has code, or in which directories its units were compiled
 abbrev pub RefusesOpening : (are_wanted : Bool) (fails : Error → Type 0) (f : List ℕ) → FileFault → Type 0
 RefusesOpening are_wanted fails f fault = RefusesCode fails f fault ⊎ RefusesFinding are_wanted fails f fault
+
+-- a file can't be opened, or its first bytes can't be read
+abbrev pub IsNotOpen : (fails : Error → Type 0) → FileFault → Type 0
+IsNotOpen fails (Open error) = fails error
+IsNotOpen fails (Elf (Read error)) = fails error
+IsNotOpen fails other = ⊥
 
 -- the directory that the words say of all units, or else those that were found
 abbrev pub compiled_by : (said : Option Text) (found : ℕ → Option (List ℕ)) → (unit : ℕ) → Option (List ℕ)

@@ -10,6 +10,10 @@ pub mod Located
 pub mod Compiled
 pub mod Locate
 pub mod Indexing
+pub mod Answering
+pub mod OverIndex
+pub mod OverElfFile
+pub mod LocateFile
 -- Of contracts inside the crate, and of proofs; no public contract reaches these.
 pub mod Held
 pub mod Understood

@@ -2,43 +2,28 @@
 -- what the output held at first, and holds now. held: what the file of a path holds, where that is known; fails: the
 -- errors that opening and reading it may give.
 use Rattle.std.specs.Prelude.{◌≡◌, ◌≢◌, ◌⊎◌, ℕ, Bool, true, false, not, ◌&&◌, List, [], ◌∷◌, ◌++◌, map}
-use Rattle.std.specs.Prelude.{if◌then◌else◌, option_to_list, Option, Some, None, is_none, is_some, MatchOption, Result, Ok, Err, codes}
+use Rattle.std.specs.Prelude.{if◌then◌else◌, option_to_list, Option, Some, None, is_none, is_some, Result}
 use Rattle.std.specs.List.{list_all}
 use Rattle.std.specs.Option.{option_copied, option_map_or}
-use Rattle.std.specs.Str.{bytes_eq}
-use Rattle.std.specs.Io.KnownBytes.{IsAtEnd, Keeps}
-use Rattle.std.specs.declared.io.Error.{Error}
-use Rattle.dl_elf.specs.Source.{ForBytes}
-use Rattle.dl_file.specs.Code.{IsCode}
-use Rattle.dl_file.specs.declared.code.Code.{Code}
 use Rattle.dl_cmd.specs.Job.{AddrTexts, Text, addr}
-use Rattle.dl_run.specs.declared.fault.RunFault.{RunFault}
 use Rattle.dl_run.specs.declared.fault.RunFault.TheVariants as fault
 use Rattle.dl_run.specs.declared.around.Survey.{Survey}
-use Rattle.dl_asked.specs.AskedLines.{IsAsked, StopsAsking, address_by}
+use Rattle.dl_asked.specs.AskedLines.{address_by}
 use Rattle.dl_addr.specs.Code.{is_code}
 use Rattle.dl_dirs.specs.Compilation.{directory_by}
 use Rattle.dl_look.specs.declared.asked.Asked.{Asked}
-use Rattle.dl_asked.specs.declared.asked_lines.AskedLines.{AskedLines}
 use Rattle.dl_addr.specs.declared.question.Question.{Question}
 use Rattle.dl_addr.specs.declared.style.Form.{Form}
 use Rattle.dl_addr.specs.declared.style.Form.TheVariants.{Location, AddressAndLocation, Json}
-use Rattle.dl_open.specs.declared.fault.FileFault.{FileFault}
-use Rattle.dl_open.specs.declared.stop.FileStop.{FileStop}
-use Rattle.dl_open.specs.Code.{live_by}
-use Rattle.dl_open.specs.Stops.{IsAt}
 use Rattle.dl_work.specs.declared.command.Command.{Command}
 use Rattle.dl_work.specs.declared.command.Command.TheVariants.{Addr, AddrAround}
 use Rattle.dl_work.specs.declared.located.Located.{Located}
 use Rattle.dl_work.specs.declared.stop.Stop.{Stop}
 use Rattle.dl_work.specs.declared.stop.Stop.TheVariants.{NotAddress, NotUnderstood, Run}
-use Rattle.dl_work.specs.Asked.{WithoutTable, section_of}
+use Rattle.dl_work.specs.Asked.{section_of}
 use Rattle.dl_work.specs.Damages.{unheard}
 use Rattle.dl_work.specs.Located.{located}
-use Rattle.dl_work.specs.Stops.{over_file, stop_of}
-use Rattle.dl_work.specs.Tables.{OnFile}
-use Rattle.dl_work.specs.Compiled.{AreFound, RefusesOpening, compiled_by, wants_directories}
-use Rattle.dl_work.specs.Units.{file_units, is_size}
+use Rattle.dl_work.specs.Units.{is_size}
 use Rattle.dl_work.specs.Work.{OnInput, StopsBefore}
 
 -- ---- the words
@@ -105,9 +90,12 @@ WordsStop w other = ⊥
 
 -- ---- the section on the input, which wants an address among the words
 
--- of a section on the input no section of an object file is named, and nothing said of the units of a file
+-- of a section on the input no section of an object file is named, nor a file of which it is, and nothing said of the units
+-- of a file
 abbrev pub suits_input : AddrTexts → Bool
-suits_input w = is_none w.section && (not w.units.version_5 && (is_none w.units.address_size && is_size w.units.older))
+suits_input w =
+    is_none w.section && (is_none w.made_of
+    && (not w.units.version_5 && (is_none w.units.address_size && is_size w.units.older)))
 
 abbrev pub IsNoQuestion : AddrTexts → Type 0
 IsNoQuestion w = (suits_input w ≡ false) ⊎ (w.addresses ≡ [])
@@ -128,48 +116,3 @@ LocatesInSection held w bytes left start now result =
 abbrev pub suits_file : AddrTexts → Bool
 suits_file w =
     not w.big && (is_none w.line_str && (is_none w.strings && (is_none w.units.older && is_size w.units.address_size)))
-
--- the addresses of the words; where there are none, those that the whole input says
-abbrev pub HasAsked : AddrTexts → List Asked → (bytes : List ℕ) (left : Option (List ℕ)) → AskedLines → Type 0
-HasAsked w [] bytes left lines = IsAsked w.hex bytes lines × IsAtEnd left
-HasAsked w (a ∷ asked) bytes left lines = (bytes ≡ []) × (lines.asked.items ≡ a ∷ asked) × (lines.no_address ≡ None)
-
--- the words have none, and the input can't be read, or memory is refused for what it says
-abbrev pub InputStops : AddrTexts → List Asked → (bytes : List ℕ) → Stop → Type 0
-InputStops w asked bytes stop = (fault : RunFault) × (asked ≡ []) × StopsAsking w.hex bytes fault × (stop ≡ Run fault)
-
--- the file can't be read for its table: where the addresses can be had each has no answer, wherever there is code
-abbrev pub Unanswered : AddrTexts → (bytes : List ℕ) (left start now : Option (List ℕ)) → Type 0
-Unanswered w bytes left start now =
-    ((stop : Stop) × InputStops w (asked_in_words w) bytes stop × Keeps start now)
-    ⊎ ((lines : AskedLines) × (q : Question) × HasAsked w (asked_in_words w) bytes left lines
-    × Asks w lines.asked.items (λ a. true) (said_directory w) q × WithoutTable (Addr q) start now)
-
-abbrev pub LocatesInFile : (held : Text → Option (List ℕ)) (fails : Text → Error → Type 0) → Text → AddrTexts
-    → (bytes : List ℕ) (left start now : Option (List ℕ)) → Result Located Stop → Type 0
-LocatesInFile held fails path w bytes left start now result = ForBytes (held path) (λ f.
-    ((stop : Stop) × (WordsStop w stop ⊎ ((suits_file w ≡ false) × (stop ≡ NotUnderstood)))
-    × StopsBefore bytes start now result stop)
-    ⊎ ((stop : FileStop) × (fault : FileFault) × (suits_file w ≡ true)
-    × RefusesOpening (wants_directories w) (fails path) f fault × IsAt path fault stop × (result ≡ Err (stop_of stop)) × Unanswered w bytes left start now)
-    ⊎ ((stop : Stop) × InputStops w (asked_in_words w) bytes stop × (result ≡ Err stop) × Keeps start now)
-    ⊎ ((code : Code) × (lines : AskedLines) × (q : Question) × (answer : Result Survey FileStop)
-    × (suits_file w ≡ true) × IsCode f (Ok code) × HasAsked w (asked_in_words w) bytes left lines
-    × (found : ℕ → Option (List ℕ)) × AreFound (wants_directories w) f found
-    × Asks w lines.asked.items (live_by w.all code) (compiled_by w.comp_dir found) q
-    × OnFile (file_units w.units) (fails path) path w.section (asking w q) f start now unheard answer
-    × (result ≡ located (over_file answer) lines.no_address)))
-
--- ---- by the words; a path `-` stands for a section on the input
-
-abbrev pub LocatesWhere : (is_input : Bool) → (held : Text → Option (List ℕ)) (fails : Text → Error → Type 0) → Text
-    → AddrTexts → (bytes : List ℕ) (left start now : Option (List ℕ)) → Result Located Stop → Type 0
-LocatesWhere true held fails path w bytes left start now result = LocatesInSection held w bytes left start now result
-LocatesWhere false held fails path w bytes left start now result =
-    LocatesInFile held fails path w bytes left start now result
-
-abbrev pub LocatesFor : (held : Text → Option (List ℕ)) (fails : Text → Error → Type 0) → AddrTexts
-    → (bytes : List ℕ) (left start now : Option (List ℕ)) → Result Located Stop → Type 0
-LocatesFor held fails w bytes left start now result =
-    MatchOption w.file (StopsBefore bytes start now result NotUnderstood)
-    (λ path. LocatesWhere (bytes_eq path (codes "-")) held fails path w bytes left start now result)

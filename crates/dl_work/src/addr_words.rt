@@ -1,5 +1,5 @@
 //! What the words of `addr` ask for.
-ghost use Rattle.std.specs.Prelude.{◌≡◌, ℕ, IfErr, IfOk, MatchResult, None, Some, is_some, map, option_map, option_to_list, true};
+ghost use Rattle.std.specs.Prelude.{◌≡◌, ℕ, IfErr, IfOk, MatchResult, Some, is_some, map, option_map, option_to_list, true};
 ghost use Rattle.std.specs.List.{list_all};
 ghost use Rattle.std.specs.Option.{option_copied};
 ghost use Rattle.dl_cmd.specs.Job.{addr_words_made};
@@ -9,14 +9,15 @@ ghost use Rattle.dl_work.specs.Asked.{unless_input};
 ghost use Rattle.dl_work.specs.Compiled.{wants_directories};
 ghost use Rattle.dl_work.specs.Locate.{AddressesStop, IsFirstOther, WordsStop, are_addresses, asked_in_words, base_in};
 ghost use Rattle.dl_work.specs.Locate.{asking, form_in, suits_file, suits_input};
+ghost use Rattle.dl_work.specs.OverIndex.{making, suits_index};
 
 use crate::command::{Command, directory_said};
 use crate::stop::Stop;
 use crate::unit_words::is_size;
 use dl_addr::{Asked, CompilationDirectories, Form, Question, Style};
-use dl_asked::AskedLines;
 use dl_cmd::{AddrWords, read_address, read_hex_address};
 use dl_look::CodeRanges;
+use dl_making::Table;
 use dl_run::RunFault;
 use std::alloc::Global;
 
@@ -74,28 +75,22 @@ fn addresses<'a>(alloc: Global, hex: bool, words: &[&'a str]) -> Result<Vec<Aske
 }
 
 /// The addresses among the words, and what is subtracted from each.
+#[derive(Drop)]
 pub struct AskedWords {
     pub base: u64,
-    pub lines: AskedLines,
+    pub asked: Vec<Asked>,
 }
 
 /// What the words ask for. The word of `--base` is read before the others.
 pub fn asked_words<'a>(alloc: Global, words: &AddrWords<'a>) -> Result<AskedWords, Stop<'a>>
     ensures base { IfOk result (λ u. base_in (addr_words_made words.now) ≡ Some u.base) }
-    ensures asked { IfOk result (λ u. u.lines.asked.items ≡ asked_in_words (addr_words_made words.now)) }
+    ensures asked { IfOk result (λ u. u.asked.items ≡ asked_in_words (addr_words_made words.now)) }
     ensures understood { IfOk result (λ u. are_addresses (addr_words_made words.now) ≡ true) }
-    ensures no_lines { IfOk result (λ u. u.lines.no_address ≡ None) }
     ensures stops { IfErr result (WordsStop (addr_words_made words.now)) }
 {
     let base = base(words)?;
     let asked = addresses(alloc, words.hex, words.addresses.as_slice())?;
-    Ok(AskedWords {
-        base,
-        lines: AskedLines {
-            asked,
-            no_address: None,
-        },
-    })
+    Ok(AskedWords { base, asked })
 }
 
 /// Whether what they say beside the addresses suits a section on the input.
@@ -103,6 +98,7 @@ pub fn suits_input(words: &AddrWords<'_>) -> bool
     ensures { result ≡ suits_input (addr_words_made words.now) }
 {
     words.section.is_none()
+        && words.made_of.is_none()
         && !words.units.version_5
         && words.units.address_size.is_none()
         && is_size(words.units.older)
@@ -128,6 +124,17 @@ fn form(words: &AddrWords<'_>) -> Form
         (false, true) => Form::AddressAndLocation,
         (false, false) => Form::Location,
     }
+}
+
+/// Whether it suits an index: how units are read and which sequences count was chosen when it was made, and so was the
+/// compilation directory.
+pub fn suits_index(words: &AddrWords<'_>) -> bool
+    ensures { result ≡ suits_index (addr_words_made words.now) }
+{
+    !words.all
+        && words.comp_dir.is_none()
+        && !words.units.version_5
+        && words.units.address_size.is_none()
 }
 
 /// The section of an object file that they name.
@@ -176,11 +183,32 @@ pub fn question<'q>(
         base,
         code,
         directories,
-        style: Style {
-            form: form(words),
-            basenames: words.basenames,
-            section,
-        },
+        style: style(words, section),
+    }
+}
+
+/// How answers are printed.
+pub fn style<'q>(words: &AddrWords<'_>, section: Option<&'q str>) -> Style<'q>
+    ensures form { result.form ≡ form_in (addr_words_made words.now) }
+    ensures basenames { result.basenames ≡ words.now.basenames }
+    ensures section { result.section ≡ section.entry }
+{
+    Style {
+        form: form(words),
+        basenames: words.basenames,
+        section,
+    }
+}
+
+/// The command that makes the index from which it is answered: after a damaged unit it goes on, unless the words say that
+/// it stops.
+pub fn making<'q>(words: &AddrWords<'_>, table: Table<'q>) -> Command<'q>
+    ensures { result ≡ making (addr_words_made words.now) table.entry }
+{
+    if words.stop {
+        Command::Index(table)
+    } else {
+        Command::IndexAround(table)
     }
 }
 

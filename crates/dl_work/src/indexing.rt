@@ -60,7 +60,7 @@ fn wants_directories(words: &IndexWords<'_>) -> bool
 }
 
 /// The build ID of an open file.
-fn build_id<S: ReadAt>(file: &S) -> Result<Option<BuildId>, FileFault>
+pub fn build_id<S: ReadAt>(file: &S) -> Result<Option<BuildId>, FileFault>
     ensures { ForBytes (S.all_bytes file.now) (λ f. MatchResult result
         (λ id. IsBuildId f (option_map build_id_bytes id)) (RefusesNaming (S.fails_with file.now) f)) }
 {

@@ -2,6 +2,7 @@
 #![tactic(auto)]
 
 mod addr_words;
+mod answering;
 mod code;
 mod command;
 mod compiled;
@@ -11,7 +12,9 @@ mod indexing;
 mod located;
 mod locating;
 mod opening;
+mod over_elf_file;
 mod over_file;
+mod over_index;
 mod over_input;
 mod stop;
 mod unit_words;

@@ -2,9 +2,10 @@
 ghost use Rattle.std.specs.Prelude.{◌≡◌, IfSome, OnOk};
 ghost use Rattle.std.specs.Io.KnownBytes.{Appends};
 ghost use Rattle.dl_open.specs.Stops.{stop_line};
-ghost use Rattle.dl_work.specs.Stops.{over_file, stop_of, stop_status, stop_text};
+ghost use Rattle.dl_work.specs.Stops.{index_status, over_file, stop_of, stop_status, stop_text};
 
 use dl_asked::OtherLine;
+use dl_index_file::OpenFault;
 use dl_open::{FileFault, FileStop, Shown, ShownBytes};
 use dl_run::{Damage, DamagedUnits, RunFault, Survey};
 use std::io::Write;
@@ -21,6 +22,10 @@ pub enum Stop<'a> {
     Run(RunFault),
     /// The ELF file at this path stops it.
     File { path: &'a str, fault: FileFault },
+    /// The index at this path can't be read, or is none that is.
+    Index { path: &'a str, fault: OpenFault },
+    /// The index at this path isn't of the file that the words name.
+    OtherFile { path: &'a str },
     /// The ELF file at this path has no section of this name, in which addresses are to be looked up.
     NoSection { path: &'a str, name: &'a str },
     /// These units are damaged, and the others answered. Only `locate` answers it.
@@ -38,7 +43,11 @@ impl<'a> Stop<'a> {
             Stop::NotUnderstood | Stop::NotAddress { .. } => 2,
             Stop::Run(fault) => fault.status(),
             Stop::File { fault, .. } => fault.status(),
-            Stop::NoSection { .. } | Stop::Damaged { .. } | Stop::NoAddress { .. } => 1,
+            Stop::Index { fault, .. } => index_status(fault),
+            Stop::OtherFile { .. }
+            | Stop::NoSection { .. }
+            | Stop::Damaged { .. }
+            | Stop::NoAddress { .. } => 1,
         }
     }
 
@@ -48,6 +57,16 @@ impl<'a> Stop<'a> {
             Appends (W.contents errors.old) (W.contents errors.new) (stop_line text))) }
     {
         writeln!(errors, "dwline: {self}")
+    }
+}
+
+/// The status where an index can't be read, or is none that is.
+fn index_status(fault: &OpenFault) -> u8
+    ensures { result ≡ index_status fault.now }
+{
+    match fault {
+        OpenFault::Read(_) => 3,
+        OpenFault::Index(_) => 1,
     }
 }
 
@@ -106,6 +125,8 @@ impl fmt::Display for Stop<'_> {
             Stop::NotAddress { word } => write!(f, "{} is no address", Shown(word)),
             Stop::Run(fault) => write!(f, "{fault}"),
             Stop::File { path, fault } => write!(f, "{}: {fault}", Shown(path)),
+            Stop::Index { path, fault } => write!(f, "{}: {fault}", Shown(path)),
+            Stop::OtherFile { path } => write!(f, "{}: made of another file", Shown(path)),
             Stop::NoSection { path, name } => {
                 write!(f, "{}: no section {}", Shown(path), Shown(name))
             }

@@ -27,7 +27,7 @@ returns-in_err-base g c =
 
 pub returns-then-is_empty : goal.returns-then-is_empty
 returns-then-is_empty g c =
-    let asked = c.in_ok-base.field-0.lines.asked in
+    let asked = c.in_ok-base.field-0.asked in
     let none : vec_len asked ≡ 0 = eqb-true (vec_len asked) 0 (sym c.is_empty.ensures ∙ c.if-is_empty.true) in
     let empty : length asked.items ≡ 0 = first_of (omega arith, search rules, grind (arith, common_steps)) in (
       [],
@@ -40,7 +40,7 @@ returns g c =
     let told = c.in_ok-base.ensures in
     let q = c.question-question.ensures in
     let e = c.on_input-answer.ensures in
-    let asked = c.in_ok-base.field-0.lines.asked in
+    let asked = c.in_ok-base.field-0.asked in
     let len : vec_len asked ≡ length asked.items = first_of (omega arith, search rules, grind (arith, common_steps)) in (
       e.0,
       e.1,
@@ -48,7 +48,7 @@ returns g c =
           _ _ _ _ c.asking-command.result c.on_input-answer.result _ (sym c.suits_input.ensures ∙ c.if-not-suits_input.false)
           told.asked (ap (λ (n : ℕ). n == 0) (sym len) ∙ sym c.is_empty.ensures ∙ c.if-is_empty.false)
           (asks_all (addr_words_made c.args.words.now) c.in_ok-base.field-0 _ _ c.said_directory.result c.question-question.result
-          (record { base = told.base; asked = told.asked; understood = told.understood; no_lines = told.no_lines }) q.asked
+          (record { base = told.base; asked = told.asked; understood = told.understood }) q.asked
           c.as_slice.ensures.value q.base (q.code ∙ c.everywhere.ensures) q.directories c.said_directory.ensures q.form
           q.basenames (ap option_copied q.section ∙ c.part_name.ensures))
           refl c.asking-command.ensures (e.2 tt) c.by_answer.ensures,

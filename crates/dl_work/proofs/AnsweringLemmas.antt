@@ -1,0 +1,75 @@
+-- Addresses that are answered by what is told of them.
+use Rattle.std.proofs.Common.{◌≡◌, ◌==◌, ℕ, ◌≤◌, Bool, true, false, List, [], ◌∷◌, length, Option, Some, None, Result, Ok, Err}
+use Rattle.std.proofs.Common.{arith, refl, sym, ap, ◌∙◌, subst}
+use Rattle.std.specs.Prelude.{IfErr, OnOk, IsOk}
+use Rattle.std.specs.Option.{option_copied}
+use Rattle.std.specs.declared.io.Error.{Error}
+use Rattle.dl_addr.specs.Location.{Location}
+use Rattle.dl_addr.specs.declared.question.Found.{Found}
+use Rattle.dl_addr.specs.declared.style.Style.{Style}
+use Rattle.dl_cmd.specs.Job.{AddrTexts}
+use Rattle.dl_dialogue.specs.Answers.{AnswersAll, Manner}
+use Rattle.dl_dialogue.specs.Dialogues.{AnswersLines}
+use Rattle.dl_dialogue.specs.declared.dialogue.Answered.{Answered}
+use Rattle.dl_dialogue.specs.declared.fault.AnswerFault.{AnswerFault}
+use Rattle.dl_index.specs.IsIndex.{HasFault, IsHeaded, IsIndex}
+use Rattle.dl_look.specs.declared.asked.Asked.{Asked}
+use Rattle.dl_work.specs.Answering.{AnswersAsked, AnswersGiven, IsManner, answered_given}
+use Rattle.dl_work.specs.Locate.{asked_in_words, form_in}
+use Rattle.dl_work.specs.Understood.{IsUnderstood}
+use Rattle.dl_work.specs.declared.addr_words.AskedWords.{AskedWords}
+
+pub no_items : {A : Type 0} (xs : List A) → length xs ≡ 0 → xs ≡ []
+no_items [] none = refl
+no_items (x ∷ xs) none = absurd (omega (arith, none))
+
+-- the manner in which the words ask
+pub manner : (w : AddrTexts) (u : AskedWords) (f : ℕ → Option Location) (style : Style) → IsUnderstood w u
+    → style.form ≡ form_in w → style.basenames ≡ w.basenames → option_copied style.section ≡ w.section
+    → IsManner w f (record { style = style; base = u.base; told = f })
+manner w u f style understood form basenames section = record {
+  understood = understood.understood;
+  base = understood.base;
+  form = form;
+  basenames = basenames;
+  section = section;
+  told = refl;
+}
+
+-- the words have no address
+pub lines_asked : (w : AddrTexts) (u : AskedWords) (f : ℕ → Option Location) (m : Manner) (Fails : Error → Type 0)
+    (bytes : List ℕ) (left start now : Option (List ℕ)) (result : Result Answered AnswerFault) → IsUnderstood w u
+    → IsManner w f m → length u.asked.items ≡ 0 → AnswersLines m w.hex Fails bytes left start now result
+    → AnswersAsked w f Fails bytes left start now result
+lines_asked w u f m Fails bytes left start now result understood is none answers = (
+  m,
+  is,
+  subst (λ given. AnswersGiven w m Fails given bytes left start now result)
+      (sym (no_items u.asked.items none) ∙ understood.asked) answers,
+)
+
+-- the words have some
+pub words_asked : (w : AddrTexts) (u : AskedWords) (f : ℕ → Option Location) (m : Manner) (Fails : Error → Type 0)
+    (left start now : Option (List ℕ)) (found : Result Found AnswerFault) (result : Result Answered AnswerFault)
+    (slice : List Asked)
+    → IsUnderstood w u → IsManner w f m → (length u.asked.items == 0) ≡ false → slice ≡ u.asked.items
+    → AnswersAll m Fails slice start now found
+    → result ≡ answered_given found → AnswersAsked w f Fails [] left start now result
+words_asked w u f m Fails left start now found result slice understood is some sliced answers given = (
+  m,
+  is,
+  subst (λ given. AnswersGiven w m Fails given [] left start now result) understood.asked
+      (by u.asked.items some (subst (λ these. AnswersAll m Fails these start now found) sliced answers)),
+) where
+  by : (items : List Asked) → (length items == 0) ≡ false → AnswersAll m Fails items start now found
+      → AnswersGiven w m Fails items [] left start now result
+  by [] some answers = absurd (let e : true ≡ false = some in cc)
+  by (a ∷ items) some answers = (refl, found, answers, given)
+
+-- ---- an index that was made
+
+pub never_empty : (b : List ℕ) → IsHeaded b → b ≡ [] → ⊥
+never_empty b headed empty =
+    let long : 128 ≤ length b = headed.whole.header.len in
+    let none : length b ≡ 0 = ap length empty in
+    omega (arith, long, none)

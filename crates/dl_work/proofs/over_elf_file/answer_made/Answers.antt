@@ -1,0 +1,30 @@
+use Rattle.std.proofs.Common.{None, ap, subst, sym, ◌∙◌}
+use Rattle.dl_index.specs.IsIndex.{IsIndex}
+use Rattle.dl_work.specs.OverIndex.{location_in}
+use Rattle.dl_work.proofs.AnsweringLemmas.{never_empty}
+use Rattle.dl_work.proofs.over_elf_file.answer_made.Goals as goal
+
+pub returns-in-Ok : goal.returns-in-Ok
+returns-in-Ok g c =
+    let e = c.answer_asked.ensures in
+    let bytes = c.args.index.now in
+    let same = c.in-Ok.ensures.bytes in (
+      e.0,
+      e.1,
+      λ understood. record {
+        made = λ is. e.2 (location_in bytes) (λ address told tells.
+            tells (subst IsIndex (sym same) is) ∙ ap (λ b. location_in b address) same) understood;
+        none = λ empty. absurd (never_empty bytes c.in-Ok.ensures.headed empty);
+      },
+    )
+
+pub returns-in-Err : goal.returns-in-Err
+returns-in-Err g c =
+    let e = c.answer_asked-in-Err.ensures in (
+      e.0,
+      e.1,
+      λ understood. record {
+        made = λ is. absurd (c.in-Err.ensures.ok is.headed);
+        none = λ empty. e.2 (λ a. None) (λ address told none. none) understood;
+      },
+    )

@@ -1,0 +1,77 @@
+//! Addresses that are answered by what tells of them: those among the words, or those on the input as they come.
+ghost use Rattle.std.specs.Prelude.{◌≡◌, ℕ, List, Option};
+ghost use Rattle.std.specs.Io.KnownBytes.{Consumes};
+ghost use Rattle.dl_addr.specs.Location.{Location};
+ghost use Rattle.dl_cmd.specs.Job.{addr_words_made};
+ghost use Rattle.dl_dialogue.specs.Answers.{Determines};
+ghost use Rattle.dl_work.specs.Answering.{AnswersAsked, answered_given, stop_of_answer};
+ghost use Rattle.dl_work.specs.Understood.{IsUnderstood};
+
+use crate::addr_words::{AskedWords, part_name, style};
+use crate::stop::Stop;
+use dl_addr::Found;
+use dl_cmd::AddrWords;
+use dl_dialogue::{AnswerFault, Answered, Dialogue, Tell, TellFault, answer_all, answer_lines};
+use dl_index_file::OpenFault;
+use dl_run::RunFault;
+use std::alloc::Global;
+use std::io::{Read, Write};
+
+/// Answers the addresses among the words, or where there are none those on the input, as they come, by what `teller`
+/// tells.
+pub fn answer_asked<T: Tell, R: Read, W: Write>(
+    alloc: Global,
+    words: &AddrWords<'_>,
+    understood: &AskedWords,
+    teller: &T,
+    input: &mut R,
+    output: &mut W,
+) -> Result<Answered, AnswerFault>
+    ensures { (bytes : List ℕ) × Consumes (R.remaining input.old) (R.remaining input.new) bytes
+        × ((f : ℕ → Option Location) → Determines (T.tells teller.now) f
+        → IsUnderstood (addr_words_made words.now) understood.now
+        → AnswersAsked (addr_words_made words.now) f (T.fails_with teller.now) bytes (R.remaining input.new)
+        (W.contents output.old) (W.contents output.new) result) }
+{
+    let style = style(words, part_name(words));
+    if understood.asked.is_empty() {
+        let dialogue = Dialogue::new(alloc, style, understood.base, words.hex);
+        return answer_lines(teller, dialogue, input, output);
+    }
+    answered_given(answer_all(
+        alloc,
+        teller,
+        style,
+        understood.base,
+        understood.asked.as_slice(),
+        output,
+    ))
+}
+
+/// What came of addresses that were given among the words.
+fn answered_given(found: Result<Found, AnswerFault>) -> Result<Answered, AnswerFault>
+    ensures { result ≡ answered_given found }
+{
+    match found {
+        Ok(found) => Ok(Answered {
+            found,
+            no_address: None,
+        }),
+        Err(fault) => Err(fault),
+    }
+}
+
+/// Why the program stops where not all addresses are answered from the file at this path.
+pub fn stop_of_answer<'a>(path: &'a str, fault: AnswerFault) -> Stop<'a>
+    ensures { result ≡ stop_of_answer path.entry fault }
+{
+    match fault {
+        AnswerFault::Input => Stop::Run(RunFault::Read),
+        AnswerFault::Tell(TellFault::Read(error)) => Stop::Index {
+            path,
+            fault: OpenFault::Read(error),
+        },
+        AnswerFault::Tell(TellFault::NoMemory) => Stop::Run(RunFault::NoMemory),
+        AnswerFault::Write(lost) => Stop::Run(RunFault::Write { out: lost.out }),
+    }
+}

@@ -1,0 +1,128 @@
+//! What the program does for `addr` over an index.
+ghost use Rattle.std.specs.Prelude.{◌≡◌, ◌==◌, ℕ, List, Bool, IfOk, IfErr, MatchResult, option_map, take, true};
+ghost use Rattle.std.specs.Option.{option_copied};
+ghost use Rattle.std.specs.Io.KnownBytes.{Consumes};
+ghost use Rattle.std.specs.declared.io.Error.{Error};
+ghost use Rattle.dl_cmd.specs.Job.{addr_words_made};
+ghost use Rattle.dl_elf.specs.Notes.{build_id_bytes};
+ghost use Rattle.dl_elf.specs.Source.{ForBytes};
+ghost use Rattle.dl_open.specs.BuildIds.{IsBuildId};
+ghost use Rattle.dl_work.specs.Answering.{located_by};
+ghost use Rattle.dl_work.specs.Indexing.{RefusesNaming};
+ghost use Rattle.dl_work.specs.OverIndex.{LocatesInIndex, MadeOf, OwnIdRefused, has_id};
+ghost use Rattle.dl_work.specs.Understood.{IsUnderstood};
+
+use crate::addr_words::{AskedWords, suits_index};
+use crate::answering::{answer_asked, stop_of_answer};
+use crate::indexing::build_id;
+use crate::located::Located;
+use crate::stop::Stop;
+use dl_cmd::AddrWords;
+use dl_dialogue::{AnswerFault, Answered};
+use dl_elf::{BuildId, ReadAt};
+use dl_index_file::open_index;
+use dl_open::{FileFault, FileSource, open_file};
+use std::alloc::Global;
+use std::io::{Read, Write};
+
+/// How many bytes of a build ID an index keeps.
+const ID_KEPT: usize = 32;
+
+/// Answers from the index at this path, which is open.
+pub fn in_index<'a, F: FileSource, S: ReadAt, R: Read, W: Write>(
+    alloc: Global,
+    words: &AddrWords<'a>,
+    path: &'a str,
+    file: &S,
+    understood: &AskedWords,
+    files: &F,
+    input: &mut R,
+    output: &mut W,
+) -> Result<Located, Stop<'a>>
+    ensures { (bytes : List ℕ) × Consumes (R.remaining input.old) (R.remaining input.new) bytes
+        × (IsUnderstood (addr_words_made words.now) understood.now → ForBytes (S.all_bytes file.now)
+        (λ b. LocatesInIndex (F.held files.now) (F.fails_with files.now) (S.fails_with file.now) path.entry
+        (addr_words_made words.now) b bytes (R.remaining input.new) (W.contents output.old) (W.contents output.new) result)) }
+{
+    if !suits_index(words) {
+        return Err(Stop::NotUnderstood);
+    }
+    let index = match open_index(file) {
+        Ok(index) => index,
+        Err(fault) => return Err(Stop::Index { path, fault }),
+    };
+    check_made_of(words, path, files, index.build_id())?;
+    located_by(
+        path,
+        answer_asked(alloc, words, understood, &index, input, output),
+    )
+}
+
+/// What came of all.
+pub fn located_by<'a>(
+    path: &'a str,
+    answered: Result<Answered, AnswerFault>,
+) -> Result<Located, Stop<'a>>
+    ensures { result ≡ located_by path.entry answered }
+{
+    match answered {
+        Ok(answered) => Ok(Located {
+            found: answered.found,
+            no_address: answered.no_address,
+        }),
+        Err(fault) => Err(stop_of_answer(path, fault)),
+    }
+}
+
+/// Checks that the index at a path, which has this build ID, is of the file that the words name, where they name one.
+fn check_made_of<'a, F: FileSource>(
+    words: &AddrWords<'a>,
+    path: &'a str,
+    files: &F,
+    id: &[u8],
+) -> Result<(), Stop<'a>>
+    ensures { MadeOf (F.held files.now) (F.fails_with files.now) (addr_words_made words.now) path.entry id.now result }
+{
+    let Some(made_of) = words.made_of else {
+        return Ok(());
+    };
+    match own_id(files, made_of) {
+        Ok(own) => {
+            if has_id(own.as_ref(), id) {
+                Ok(())
+            } else {
+                Err(Stop::OtherFile { path })
+            }
+        }
+        Err(fault) => Err(Stop::File {
+            path: made_of,
+            fault,
+        }),
+    }
+}
+
+/// The build ID of the file at a path.
+fn own_id<F: FileSource>(files: &F, path: &str) -> Result<Option<BuildId>, FileFault>
+    ensures { ForBytes (F.held files.now path.now) (λ f. MatchResult result
+        (λ id. IsBuildId f (option_map build_id_bytes id)) (OwnIdRefused (F.fails_with files.now path.now) f)) }
+{
+    let file = open_file(files, path)?;
+    build_id(&file)
+}
+
+/// Whether there is a build ID, and an index has its front.
+fn has_id(own: Option<&BuildId>, id: &[u8]) -> bool
+    ensures { result ≡ has_id (option_map build_id_bytes (option_copied own.entry)) id.now }
+{
+    match own {
+        Some(own) => front(own.as_bytes()) == id,
+        None => false,
+    }
+}
+
+/// As much of a build ID as an index keeps.
+fn front(id: &[u8]) -> &[u8]
+    ensures { result.now ≡ take 32 id.now }
+{
+    &id[..id.len().min(ID_KEPT)]
+}
