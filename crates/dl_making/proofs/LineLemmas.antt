@@ -1,6 +1,6 @@
 -- The lines of an index are those that `addr` prints.
 use Rattle.std.proofs.Common.{◌≡◌, ◌∙◌, ℕ, ◌-◌, ◌<◌, ◌^◌, Bool, true, false, List, [], ◌∷◌, ◌++◌, Option, Some, None}
-use Rattle.std.proofs.Common.{refl, sym, ap, arith, subst}
+use Rattle.std.proofs.Common.{refl, sym, ap, ap₂, arith}
 use Rattle.std.specs.Prelude.{if◌then◌else◌, nat_le, IfSome}
 use Rattle.std.specs.List.{concat}
 use Rattle.std.specs.Option.{option_and_then, option_copied, option_map, option_map_or}
@@ -15,13 +15,15 @@ use Rattle.dl_look.specs.declared.place.Place.{Place}
 use Rattle.dl_look.specs.Asked.{place_above, place_of}
 use Rattle.dl_index.specs.Telling.{find_in}
 use Rattle.dl_stretch.specs.Runs.{place_at}
-use Rattle.dl_addr.specs.declared.style.Style.{Style}
 use Rattle.dl_addr.specs.AroundCommands.{located_around}
 use Rattle.dl_addr.specs.Code.{is_code}
 use Rattle.dl_addr.specs.Location.{location_at}
-use Rattle.dl_addr.specs.Locations.{Located, asked_line, compilation_directory, located, location_line, location_of}
-use Rattle.dl_making.specs.LineLaws.{LinesOfIndex, LinesOfIndexAround, ToldIsLocation}
-use Rattle.dl_making.specs.Telling.{index_line, location_told, path_told, told_asked, told_of}
+use Rattle.dl_addr.specs.Locations.{Located, compilation_directory, located, location_line, location_of}
+use Rattle.dl_addr.specs.declared.question.Question.{Question}
+use Rattle.dl_making.specs.declared.making.Table.{Table}
+use Rattle.dl_making.specs.LineLaws.{AnswersOfIndex, AnswersOfIndexAround, IsAskedWith, LinesOfIndex, LinesOfIndexAround}
+use Rattle.dl_making.specs.LineLaws.{ToldIsLocation}
+use Rattle.dl_making.specs.Telling.{location_told, path_told, told_asked, told_of}
 
 -- ---- paths
 
@@ -80,42 +82,36 @@ module _ (s : Strings) (directories : ℕ → Option (List ℕ)) (look_up : Plac
         ap (option_map location_told) (right (n - base) (omega (arith, lt)))
         ∙ told_all (look_up (place_at (n - base)))
 
-  -- the line of what is asked
-  pub line_is : (style : Style) (base : ℕ) (a : Asked) → IfSome a.address (λ n. n < 2 ^ 64)
-      → index_line style index base a
-      ≡ asked_line style directories s a (option_and_then look_up (place_of base a))
-  line_is style base a lt = ap (location_line style a) (told_above base a.address lt)
+  -- what is told of what is asked
+  pub told_is : (base : ℕ) (a : Asked) → IfSome a.address (λ n. n < 2 ^ 64)
+      → option_map location_told (told_asked index base a)
+      ≡ option_map (location_of directories s) (option_and_then look_up (place_of base a))
+  told_is base a lt = told_above base a.address lt
+
+module _ (s : Strings) (q : Question) (table : Table) (same : IsAskedWith q table)
+    (look_up : (ℕ → Bool) → Place → Option Located) where
+  -- what is told with the table is told with what is asked
+  same_told : (n : ℕ)
+      → option_map (told_of s (directory_by table.directories)) (look_up (is_code (option_copied table.code)) (place_at n))
+      ≡ option_map (told_of s (directory_by q.directories)) (look_up (is_code (option_copied q.code)) (place_at n))
+  same_told n =
+      sym (ap₂ (λ code ds. option_map (told_of s (directory_by ds)) (look_up (is_code (option_copied code)) (place_at n)))
+      same.code same.directories)
+
+pub answers_of_index : AnswersOfIndex
+answers_of_index dialect s table units index is q a same lt =
+    told_is s (directory_by q.directories) (located dialect (is_code (option_copied q.code)) units) index
+    (λ n within. is.right n within ∙ same_told s q table same (λ live. located dialect live units) n) q.base a lt
+
+pub answers_of_index_around : AnswersOfIndexAround
+answers_of_index_around dialect s table blocks index is q a same lt =
+    told_is s (directory_by q.directories) (located_around dialect (is_code (option_copied q.code)) blocks) index
+    (λ n within. is.right n within ∙ same_told s q table same (λ live. located_around dialect live blocks) n) q.base a lt
 
 pub lines_of_index : LinesOfIndex
 lines_of_index dialect s table units index is q style a same lt =
-    line_is s (directory_by q.directories) (located dialect (is_code (option_copied q.code)) units) index
-    (λ n within. is.right n within
-    ∙ sym (told_same n)) style q.base a lt
-  where
-    told_same : (n : ℕ)
-        → option_map (told_of s (directory_by q.directories))
-        (located dialect (is_code (option_copied q.code)) units (place_at n))
-        ≡ option_map (told_of s (directory_by table.directories))
-        (located dialect (is_code (option_copied table.code)) units (place_at n))
-    told_same n =
-        ap (λ code. option_map (told_of s (directory_by q.directories))
-        (located dialect (is_code (option_copied code)) units (place_at n))) same.code
-        ∙ ap (λ ds. option_map (told_of s (directory_by ds))
-        (located dialect (is_code (option_copied table.code)) units (place_at n))) same.directories
+    ap (location_line style a) (answers_of_index dialect s table units index is q a same lt)
 
 pub lines_of_index_around : LinesOfIndexAround
 lines_of_index_around dialect s table blocks index is q style a same lt =
-    line_is s (directory_by q.directories) (located_around dialect (is_code (option_copied q.code)) blocks) index
-    (λ n within. is.right n within
-    ∙ sym (told_same n)) style q.base a lt
-  where
-    told_same : (n : ℕ)
-        → option_map (told_of s (directory_by q.directories))
-        (located_around dialect (is_code (option_copied q.code)) blocks (place_at n))
-        ≡ option_map (told_of s (directory_by table.directories))
-        (located_around dialect (is_code (option_copied table.code)) blocks (place_at n))
-    told_same n =
-        ap (λ code. option_map (told_of s (directory_by q.directories))
-        (located_around dialect (is_code (option_copied code)) blocks (place_at n))) same.code
-        ∙ ap (λ ds. option_map (told_of s (directory_by ds))
-        (located_around dialect (is_code (option_copied table.code)) blocks (place_at n))) same.directories
+    ap (location_line style a) (answers_of_index_around dialect s table blocks index is q a same lt)

@@ -1,6 +1,6 @@
 -- What the making of an index comes to that ends with a fault. bytes: what was read from a reader, which has `left` left;
 -- None: it isn't known.
-use Rattle.std.specs.Prelude.{◌≡◌, ◌≢◌, ◌⊎◌, ℕ, true, List, [], take, is_err, Option, Result, Ok, Err, IfOk}
+use Rattle.std.specs.Prelude.{◌≡◌, ◌≢◌, ◌⊎◌, ℕ, true, List, [], take, is_err, Option, Result, Err, IfOk}
 use Rattle.std.specs.Global.{Vec}
 use Rattle.dl_head.specs.declared.dialect.Dialect.{Dialect}
 use Rattle.dl_look.specs.declared.index.NoMemory.{NoMemory}

@@ -1,10 +1,8 @@
 use Rattle.std.proofs.Common.{◌∙◌, ap, false, Some}
 use Rattle.std.specs.Option.{option_copied}
 use Rattle.dl_path.proofs.PrintLemmas.{prints_same}
-use Rattle.dl_addr.specs.Answers.{answer_seen}
 use Rattle.dl_addr.specs.Locations.{location_line, location_seen}
 use Rattle.dl_addr.specs.Printing.{seen_line}
-use Rattle.dl_addr.specs.Texts.{path_kept}
 use Rattle.dl_addr.proofs.LocationLemmas.{kept_is, one_text, printed_at, told_line}
 use Rattle.dl_addr.proofs.location.print_told.Goals as goal
 

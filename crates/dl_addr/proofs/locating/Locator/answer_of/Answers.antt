@@ -1,4 +1,4 @@
-use Rattle.std.proofs.Common.{◌≡◌, ◌∙◌, ℕ, List, Option, Some, refl, sym, ap}
+use Rattle.std.proofs.Common.{◌∙◌, ℕ, List, Option, Some, sym, ap}
 use Rattle.std.specs.Prelude.{option_map}
 use Rattle.std.specs.Option.{option_copied}
 use Rattle.dl_rows.specs.declared.row.Row.{Row}
@@ -7,7 +7,7 @@ use Rattle.dl_addr.specs.declared.kept.KeptPath.{KeptPath}
 use Rattle.dl_addr.specs.declared.locating.Locator.{Locator}
 use Rattle.dl_addr.specs.Location.{Location, location_at}
 use Rattle.dl_addr.specs.Locating.{printed_by}
-use Rattle.dl_addr.specs.Texts.{path_at, path_kept, rooted}
+use Rattle.dl_addr.specs.Texts.{path_at}
 use Rattle.dl_addr.proofs.LocationLemmas.{kept_is}
 use Rattle.dl_addr.proofs.locating.Locator.answer_of.Goals as goal
 
