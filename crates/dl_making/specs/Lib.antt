@@ -5,6 +5,7 @@ pub mod IsIndexOf
 pub mod Makes
 pub mod Writes
 pub mod Until
+pub mod WritesUntil
 pub mod LineLaws
 -- Of contracts inside the crate, and of proofs; no public contract reaches these.
 pub mod UnitFile

@@ -8,7 +8,9 @@ mod making;
 mod numbers;
 mod until;
 mod writing;
+mod writing_until;
 
 pub use making::{Made, MadeAround, Table, make_index, make_index_around};
 pub use until::{MadeUntil, MadeUntilAround, make_index_until, make_index_until_around};
 pub use writing::{write_index, write_index_around};
+pub use writing_until::{write_index_until, write_index_until_around};

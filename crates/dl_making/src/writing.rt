@@ -57,7 +57,7 @@ pub fn write_index_around<R: Read, W: Write>(
 }
 
 /// Writes bytes, and all of them out.
-fn put_bytes<W: Write>(output: &mut W, bytes: &[u8]) -> Result<(), WriteFault>
+pub(crate) fn put_bytes<W: Write>(output: &mut W, bytes: &[u8]) -> Result<(), WriteFault>
     ensures { MatchResult result (λ _. Appends (W.contents output.old) (W.contents output.new) bytes.now)
         (TellsOut (W.contents output.old) (W.contents output.new) bytes.now) }
 {

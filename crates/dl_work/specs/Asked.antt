@@ -28,7 +28,8 @@ use Rattle.dl_open.specs.declared.named.Sections.TheVariants.{Lines, LinesAndTex
 use Rattle.dl_work.specs.Units.{are_sizes, older_by, units_of}
 use Rattle.dl_work.specs.declared.command.Command.{Command}
 use Rattle.dl_work.specs.declared.command.Command.TheVariants.{Addr, Dump, DumpAround, Check, CheckAround, Find, Copy}
-use Rattle.dl_work.specs.declared.command.Command.TheVariants.{AddrAround, CopyTo5, Index, IndexAround}
+use Rattle.dl_work.specs.declared.command.Command.TheVariants.{AddrAround, CopyTo5, Index, IndexAround, IndexUntil}
+use Rattle.dl_work.specs.declared.command.Command.TheVariants.{IndexUntilAround}
 use Rattle.dl_work.specs.declared.command.TheConstants.{NOTHING}
 use Rattle.dl_addr.specs.declared.question.Found.{Found}
 use Rattle.dl_addr.specs.declared.question.FoundAround.{FoundAround}
@@ -38,6 +39,7 @@ use Rattle.dl_addr.specs.AroundCommands.{LocatesAround}
 use Rattle.dl_addr.specs.Commands.{Locates}
 use Rattle.dl_making.specs.declared.making.Table.{Table}
 use Rattle.dl_making.specs.Writes.{Writes, WritesAround}
+use Rattle.dl_making.specs.WritesUntil.{WritesUntil, WritesUntilAround}
 use Rattle.dl_run.specs.declared.fault.RunFault.TheVariants.{NotFound}
 
 -- the place of `find`; none where ADDRESS is no address
@@ -57,6 +59,8 @@ pub data CommandData : Type 0 where
   answers_around : Question → CommandData
   indexes : Table → CommandData
   indexes_around : Table → CommandData
+  indexes_until : Table → CommandData
+  indexes_until_around : Table → CommandData
 
 abbrev pub command_seen : Command → CommandData
 command_seen Dump = dumps
@@ -70,6 +74,8 @@ command_seen (Addr question) = answers question
 command_seen (AddrAround question) = answers_around question
 command_seen (Index table) = indexes table
 command_seen (IndexAround table) = indexes_around table
+command_seen (IndexUntil table) = indexes_until table
+command_seen (IndexUntilAround table) = indexes_until_around table
 
 -- the command; none where ADDRESS is no address, where a section of an object file is named without FILE, of `addr`,
 -- which asks for many, and of `index`, which is made with what the file tells
@@ -163,6 +169,8 @@ looks_up (Addr question) = true
 looks_up (AddrAround question) = true
 looks_up (Index table) = true
 looks_up (IndexAround table) = true
+looks_up (IndexUntil table) = true
+looks_up (IndexUntilAround table) = true
 looks_up other = false
 
 -- what `addr` answered, as the other commands answer
@@ -224,6 +232,10 @@ Does (AddrAround question) dialect s limit bytes left start now = GoesOn (λ ans
 Does (Index table) dialect s limit bytes left start now = EndsThere (Writes dialect s table limit bytes left start now)
 Does (IndexAround table) dialect s limit bytes left start now =
     GoesOn (WritesAround dialect s table limit bytes left start now)
+Does (IndexUntil table) dialect s limit bytes left start now =
+    EndsThere (WritesUntil dialect s table limit bytes left start now)
+Does (IndexUntilAround table) dialect s limit bytes left start now =
+    GoesOn (WritesUntilAround dialect s table limit bytes left start now)
 
 -- what `addr` writes of a section without bytes, so that each address has no answer
 abbrev pub Unfound : Question → (start now : Option (List ℕ)) → Type 0

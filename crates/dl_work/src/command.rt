@@ -14,7 +14,9 @@ use dl_cmd::{Job, read_address};
 use dl_dirs::CompilationDirectories;
 use dl_head::{Dialect, Older};
 use dl_look::Place;
-use dl_making::{Table, write_index, write_index_around};
+use dl_making::{
+    Table, write_index, write_index_around, write_index_until, write_index_until_around,
+};
 use dl_num::Order;
 use dl_open::Sections;
 use dl_run::{
@@ -68,6 +70,10 @@ pub enum Command<'a> {
     Index(Table<'a>),
     /// Write that of all units that are whole.
     IndexAround(Table<'a>),
+    /// Write the index of the units before the end or the first fault.
+    IndexUntil(Table<'a>),
+    /// Write that of the whole units before them, around damaged ones.
+    IndexUntilAround(Table<'a>),
 }
 
 /// The place that the words name; None where ADDRESS is no address.
@@ -183,7 +189,9 @@ impl<'a> Command<'a> {
             | Command::Addr(_)
             | Command::AddrAround(_)
             | Command::Index(_)
-            | Command::IndexAround(_) => Sections::LinesAndTexts,
+            | Command::IndexAround(_)
+            | Command::IndexUntil(_)
+            | Command::IndexUntilAround(_) => Sections::LinesAndTexts,
             Command::Check | Command::CheckAround | Command::Copy | Command::CopyTo5(_) => {
                 Sections::Lines
             }
@@ -201,6 +209,8 @@ impl<'a> Command<'a> {
                 | Command::AddrAround(_)
                 | Command::Index(_)
                 | Command::IndexAround(_)
+                | Command::IndexUntil(_)
+                | Command::IndexUntilAround(_)
         )
     }
 
@@ -260,6 +270,12 @@ impl<'a> Command<'a> {
             }
             Command::IndexAround(table) => {
                 write_index_around(alloc, input, output, &table, options)
+            }
+            Command::IndexUntil(table) => {
+                all_whole(write_index_until(alloc, input, output, &table, options))
+            }
+            Command::IndexUntilAround(table) => {
+                write_index_until_around(alloc, input, output, &table, options)
             }
         }
     }

@@ -1,0 +1,76 @@
+//! The index of the units of a section before its end or a fault, written.
+
+ghost use Rattle.std.specs.Prelude.{◌≤◌, ℕ, List};
+ghost use Rattle.std.specs.Io.KnownBytes.{Consumes};
+ghost use Rattle.dl_run.specs.Commands.{strings_in};
+ghost use Rattle.dl_making.specs.WritesUntil.{WritesMade, WritesUntil, WritesUntilAround};
+
+use crate::making::Table;
+use crate::until::{make_index_until, make_index_until_around};
+use crate::writing::put_bytes;
+use dl_look::NoMemory;
+use dl_print::Summary;
+use dl_run::{Options, RunFault, SECTION_LIMIT, Survey};
+use std::alloc::Global;
+use std::io::{Read, Write};
+
+/// Makes the index of a section as `make_index_until` does, and writes it: also where the reading ended with a fault, which
+/// is then answered. Where memory was refused nothing is written.
+///
+/// The faults are those of `make_index_until`, `NoMemory` also where it is refused for the index alone, and before them
+/// `Write` where the writer fails.
+pub fn write_index_until<R: Read, W: Write>(
+    alloc: Global,
+    input: &mut R,
+    output: &mut W,
+    table: &Table<'_>,
+    options: &Options<'_>,
+) -> Result<Summary, RunFault>
+    requires { options.now.limit ≤ SECTION_LIMIT }
+    ensures { (bs : List ℕ) × Consumes (R.remaining input.old) (R.remaining input.new) bs
+        × WritesUntil options.now.dialect (strings_in options.now) table.now options.now.limit bs
+        (R.remaining input.new) (W.contents output.old) (W.contents output.new) result }
+{
+    let made = make_index_until(alloc, input, table, options);
+    put_made(output, &made.index, made.ended)
+}
+
+/// Makes the index of a section as `make_index_until_around` does, and writes it as `write_index_until` does.
+///
+/// The faults are those of `make_index_until_around`, `NoMemory` also where it is refused for the index alone, and before
+/// them `Write` where the writer fails.
+pub fn write_index_until_around<R: Read, W: Write>(
+    alloc: Global,
+    input: &mut R,
+    output: &mut W,
+    table: &Table<'_>,
+    options: &Options<'_>,
+) -> Result<Survey, RunFault>
+    requires { options.now.limit ≤ SECTION_LIMIT }
+    ensures { (bs : List ℕ) × Consumes (R.remaining input.old) (R.remaining input.new) bs
+        × WritesUntilAround options.now.dialect (strings_in options.now) table.now options.now.limit bs
+        (R.remaining input.new) (W.contents output.old) (W.contents output.new) result }
+{
+    let made = make_index_until_around(alloc, input, table, options);
+    put_made(output, &made.index, made.ended)
+}
+
+/// Writes an index, where there is one, beside which the reading ended so.
+fn put_made<A: Copy, W: Write>(
+    output: &mut W,
+    index: &Result<Vec<u8>, NoMemory>,
+    ended: Result<A, RunFault>,
+) -> Result<A, RunFault>
+    ensures { WritesMade ended index.now (W.contents output.old) (W.contents output.new) result }
+{
+    match index {
+        Ok(index) => match put_bytes(output, index.as_slice()) {
+            Ok(()) => ended,
+            Err(lost) => Err(RunFault::Write { out: lost.out }),
+        },
+        Err(NoMemory) => match ended {
+            Ok(_) => Err(RunFault::NoMemory),
+            Err(fault) => Err(fault),
+        },
+    }
+}
