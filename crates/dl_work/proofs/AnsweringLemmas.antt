@@ -13,7 +13,11 @@ use Rattle.dl_dialogue.specs.Dialogues.{AnswersLines}
 use Rattle.dl_dialogue.specs.declared.dialogue.Answered.{Answered}
 use Rattle.dl_dialogue.specs.declared.fault.AnswerFault.{AnswerFault}
 use Rattle.dl_index.specs.IsIndex.{HasFault, IsHeaded, IsIndex}
+use Rattle.dl_index_file.specs.Opening.{IfRead, Opens}
+use Rattle.dl_index_file.specs.declared.fault.OpenFault.{OpenFault}
+use Rattle.dl_index_file.specs.declared.fault.OpenFault.TheVariants as index
 use Rattle.dl_look.specs.declared.asked.Asked.{Asked}
+use Rattle.dl_work.specs.OverIndex.{IsNotOpened}
 use Rattle.dl_work.specs.Answering.{AnswersAsked, AnswersGiven, IsManner, answered_given}
 use Rattle.dl_work.specs.Locate.{asked_in_words, form_in}
 use Rattle.dl_work.specs.Understood.{IsUnderstood}
@@ -73,3 +77,9 @@ never_empty b headed empty =
     let long : 128 ≤ length b = headed.whole.header.len in
     let none : length b ≡ 0 = ap length empty in
     omega (arith, long, none)
+
+-- why an index isn't opened
+pub not_opened : {A : Type 0} (Fails : Error → Type 0) (b : List ℕ) (fault : OpenFault) → Opens {A = A} b (Err fault)
+    → IfRead {A = A} Fails (Err fault) → IsNotOpened Fails b fault
+not_opened Fails b (index.Read error) opens read = read
+not_opened Fails b (index.Index fault) opens read = opens.0

@@ -81,7 +81,7 @@ pub section_stops : (held : Text → Option (List ℕ)) (w : AddrTexts) (left st
     → LocatesInSection held w [] left start start result
 section_stops held w left start result stop is why = inl (stop, why, (is, refl, Keeps-refl start))
 
-some_asked : (asked : List Asked) → (length asked == 0) ≡ false → asked ≡ [] → ⊥
+pub some_asked : (asked : List Asked) → (length asked == 0) ≡ false → asked ≡ [] → ⊥
 some_asked asked some none =
     let g : ◌≡◌ {A = Bool} true false = sym (ap (λ (l : List Asked). length l == 0) none) ∙ some in absurd cc
 

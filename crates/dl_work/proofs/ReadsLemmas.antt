@@ -1,5 +1,5 @@
 -- What is said of an open file, whose reads may give some errors, is said of a file whose reads may give those and others.
-use Rattle.std.proofs.Common.{◌≡◌, ◌⊎◌, inl, inr, ℕ, Bool, List, [], ◌∷◌, Option, Some, Result, Ok, Err, refl}
+use Rattle.std.proofs.Common.{rules, ◌≡◌, ◌⊎◌, inl, inr, ℕ, Bool, List, [], ◌∷◌, Option, Some, Result, Ok, Err, refl}
 use Rattle.std.specs.declared.io.Error.{Error}
 use Rattle.dl_cmd.specs.Job.{AddrTexts, Text}
 use Rattle.std.specs.Borrow.{Bor}

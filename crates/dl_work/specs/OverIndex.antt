@@ -28,7 +28,7 @@ use Rattle.dl_work.specs.Answering.{AnswersAsked, located_by}
 use Rattle.dl_work.specs.Indexing.{RefusesNaming}
 use Rattle.dl_work.specs.Work.{StopsBefore}
 use Rattle.dl_work.specs.declared.command.Command.{Command}
-use Rattle.dl_work.specs.declared.command.Command.TheVariants.{Index as MakeIndex, IndexAround}
+use Rattle.dl_work.specs.declared.command.Command.TheVariants.{IndexUntil, IndexUntilAround}
 use Rattle.dl_work.specs.declared.located.Located.{Located}
 use Rattle.dl_work.specs.declared.stop.Stop.{Stop}
 use Rattle.dl_work.specs.declared.stop.Stop.TheVariants.{File, Index, NotUnderstood, OtherFile}
@@ -40,7 +40,7 @@ suits_index w = not w.all && (is_none w.comp_dir && (not w.units.version_5 && is
 -- the command that makes the index from which it is answered: after a damaged unit it goes on, unless the words say that it
 -- stops
 abbrev pub making : AddrTexts → Table → Command
-making w table = if w.stop then MakeIndex table else IndexAround table
+making w table = if w.stop then IndexUntil table else IndexUntilAround table
 
 -- ---- the file of which an index has to be made
 

@@ -206,9 +206,9 @@ pub fn making<'q>(words: &AddrWords<'_>, table: Table<'q>) -> Command<'q>
     ensures { result ≡ making (addr_words_made words.now) table.entry }
 {
     if words.stop {
-        Command::Index(table)
+        Command::IndexUntil(table)
     } else {
-        Command::IndexAround(table)
+        Command::IndexUntilAround(table)
     }
 }
 

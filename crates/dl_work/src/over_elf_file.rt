@@ -210,7 +210,7 @@ fn located_after<'a>(
     answer: Result<Survey, FileStop<'a>>,
     answered: Result<Answered, AnswerFault>,
 ) -> Result<Located, Stop<'a>>
-    ensures { result ≡ located_after path.entry answer answered }
+    ensures { result ≡ located_after path.entry answer.entry answered }
 {
     let answered = match answered {
         Ok(answered) => answered,

@@ -124,5 +124,9 @@ fn has_id(own: Option<&BuildId>, id: &[u8]) -> bool
 fn front(id: &[u8]) -> &[u8]
     ensures { result.now ≡ take 32 id.now }
 {
-    &id[..id.len().min(ID_KEPT)]
+    if id.len() <= ID_KEPT {
+        id
+    } else {
+        &id[..ID_KEPT]
+    }
 }

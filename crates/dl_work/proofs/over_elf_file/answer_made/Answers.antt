@@ -24,7 +24,7 @@ returns-in-Err g c =
       e.0,
       e.1,
       λ understood. record {
-        made = λ is. absurd (c.in-Err.ensures.ok is.headed);
+        made = λ is. absurd (let e = c.in-Err.ensures.ok is.headed in cc);
         none = λ empty. e.2 (λ a. None) (λ address told none. none) understood;
       },
     )

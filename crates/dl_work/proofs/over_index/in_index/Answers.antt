@@ -1,0 +1,72 @@
+use Rattle.std.proofs.Common.{[], Some, Err, ap, inl, inr, refl, sym, subst, ◌∙◌}
+use Rattle.std.proofs.KnownBytes.{Consumes-nil, Keeps-refl}
+use Rattle.std.proofs.lemmas.Result.{err_from_is_err_and}
+use Rattle.dl_cmd.specs.Job.{addr_words_made}
+use Rattle.dl_index_file.specs.Opening.{source_of}
+use Rattle.dl_index_file.specs.Reading.{ReadFails}
+use Rattle.dl_work.specs.OverIndex.{MadeOf, location_in}
+use Rattle.dl_work.proofs.AnsweringLemmas.{not_opened}
+use Rattle.dl_work.proofs.ReadsLemmas.{answers_wider}
+use Rattle.dl_work.proofs.over_index.in_index.Goals as goal
+
+pub returns-then-not-suits_index : goal.returns-then-not-suits_index
+returns-then-not-suits_index g c = (
+  [],
+  Consumes-nil _,
+  λ understood b known short. inl (sym c.suits_index.ensures ∙ c.if-not-suits_index.true, (refl, refl, Keeps-refl _)),
+)
+
+pub returns-in-Err : goal.returns-in-Err
+returns-in-Err g c = (
+  [],
+  Consumes-nil _,
+  λ understood b known short. inr (inl (
+    c.in-Err.fault,
+    sym c.suits_index.ensures ∙ c.if-not-suits_index.false,
+    not_opened (g.S.ReadAt.fails_with c.args.file.now) b c.in-Err.fault (c.in-Err.ensures.opens b known short)
+        c.in-Err.ensures.read,
+    (refl, refl, Keeps-refl _),
+  )),
+)
+
+pub returns-in_err-check_made_of : goal.returns-in_err-check_made_of
+returns-in_err-check_made_of g c =
+    let p = err_from_is_err_and c.from_residual.result c.from_residual.ensures.1 in
+    let w = addr_words_made c.args.words.now in (
+      [],
+      Consumes-nil _,
+      λ understood b known short.
+          let own = ap g.S.ReadAt.all_bytes c.in-Ok.ensures.source ∙ known in
+          inr (inr (inl (
+            c.in_err-check_made_of.field-0.0,
+            sym c.suits_index.ensures ∙ c.if-not-suits_index.false,
+            c.in-Ok.ensures.opens b known short,
+            subst (λ id. MadeOf (g.F.FileSource.held c.args.files.now) (g.F.FileSource.fails_with c.args.files.now) w
+                c.args.path id (Err c.in_err-check_made_of.field-0.0)) (c.build_id.ensures.id b own short)
+                c.in_err-check_made_of.ensures,
+            (p.1 ∙ ap Err p.2, refl, Keeps-refl _),
+          ))),
+    )
+
+pub returns : goal.returns
+returns g c =
+    let w = addr_words_made c.args.words.now in
+    let e = c.answer_asked.ensures in (
+      e.0,
+      e.1,
+      λ understood b known short.
+          let own = ap g.S.ReadAt.all_bytes c.in-Ok.ensures.source ∙ known in
+          inr (inr (inr (
+            sym c.suits_index.ensures ∙ c.if-not-suits_index.false,
+            c.in-Ok.ensures.opens b known short,
+            subst (λ id. MadeOf (g.F.FileSource.held c.args.files.now) (g.F.FileSource.fails_with c.args.files.now) w
+                c.args.path id _) (c.build_id.ensures.id b own short) c.in_ok-check_made_of.ensures,
+            c.answer_asked.result,
+            c.located_by.ensures,
+            λ whole. answers_wider _ (ReadFails (Some b) (g.S.ReadAt.fails_with c.args.file.now))
+                (λ error fails. subst (λ k. ReadFails k (g.S.ReadAt.fails_with c.args.file.now) error) own
+                (subst (λ s. ReadFails (g.S.ReadAt.all_bytes (source_of c.in-Ok.index)) (g.S.ReadAt.fails_with s) error)
+                c.in-Ok.ensures.source fails)) w (location_in b) e.0 _ _ _ c.answer_asked.result
+                (e.2 (location_in b) (λ address told tells. tells b own short whole) understood),
+          ))),
+    )
