@@ -15,19 +15,14 @@ use Rattle.dl_run.specs.declared.fault.RunFault.TheVariants as fault
 use Rattle.dl_making.specs.declared.making.Table.{Table}
 use Rattle.dl_making.specs.Until.{MakesUntil, MakesUntilAround}
 
--- what is answered where there is no index: the fault of the reading, or else that memory was refused
-abbrev pub unwritten : {A : Type 0} → Result A RunFault → Result A RunFault
-unwritten (Ok x) = Err fault.NoMemory
-unwritten (Err f) = Err f
-
 -- the index is written whole, and the answer is how the reading ended; or a write failed, which is told first; where there
--- is no index nothing is written
+-- is no index nothing is written, and the answer is that memory was refused, so that no other fault stands for it
 abbrev pub WritesMade : {A : Type 0} (ended : Result A RunFault) → Result (Vec ℕ) NoMemory
     → (start now : Option (List ℕ)) (result : Result A RunFault) → Type 0
 WritesMade ended (Ok index) start now result =
     ((result ≡ ended) × Appends start now index.items)
     ⊎ ((lost : WriteFault) × (result ≡ Err (fault.Write lost.out)) × TellsOut start now index.items lost)
-WritesMade ended (Err e) start now result = (result ≡ unwritten ended) × Keeps start now
+WritesMade ended (Err e) start now result = (result ≡ Err fault.NoMemory) × Keeps start now
 
 -- `write_index_until`
 abbrev pub WritesUntil : Dialect → Strings → Table → (limit : ℕ) (bytes : List ℕ) (left start now : Option (List ℕ))

@@ -15,7 +15,7 @@ use std::alloc::Global;
 use std::io::{Read, Write};
 
 /// Makes the index of a section as `make_index_until` does, and writes it: also where the reading ended with a fault, which
-/// is then answered. Where memory was refused nothing is written.
+/// is then answered. Where memory was refused nothing is written, and `NoMemory` answered.
 ///
 /// The faults are those of `make_index_until`, `NoMemory` also where it is refused for the index alone, and before them
 /// `Write` where the writer fails.
@@ -68,9 +68,6 @@ fn put_made<A: Copy, W: Write>(
             Ok(()) => ended,
             Err(lost) => Err(RunFault::Write { out: lost.out }),
         },
-        Err(NoMemory) => match ended {
-            Ok(_) => Err(RunFault::NoMemory),
-            Err(fault) => Err(fault),
-        },
+        Err(NoMemory) => Err(RunFault::NoMemory),
     }
 }
