@@ -79,7 +79,8 @@ never_empty b headed empty =
     omega (arith, long, none)
 
 -- why an index isn't opened
-pub not_opened : {A : Type 0} (Fails : Error → Type 0) (b : List ℕ) (fault : OpenFault) → Opens {A = A} b (Err fault)
-    → IfRead {A = A} Fails (Err fault) → IsNotOpened Fails b fault
-not_opened Fails b (index.Read error) opens read = read
-not_opened Fails b (index.Index fault) opens read = opens.0
+pub not_opened : {A : Type 0} (Fails : Error → Type 0) (b : List ℕ) (r : Result A OpenFault) → Opens b r → IfRead Fails r
+    → IfErr r (IsNotOpened Fails b)
+not_opened Fails b (Ok opened) opens read = tt
+not_opened Fails b (Err (index.Read error)) opens read = read
+not_opened Fails b (Err (index.Index fault)) opens read = opens.0

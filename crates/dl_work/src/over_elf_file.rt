@@ -5,7 +5,7 @@ ghost use Rattle.dl_cmd.specs.Job.{addr_words_made};
 ghost use Rattle.dl_dirs.specs.Directories.{directory_at};
 ghost use Rattle.dl_elf.specs.Source.{ForBytes};
 ghost use Rattle.std.specs.Option.{option_copied};
-ghost use Rattle.dl_work.specs.OverElfFile.{AnswersMade, LocatesInElfFile, LocatesByIndex, LocatesGiven, is_refused, located_after};
+ghost use Rattle.dl_work.specs.OverElfFile.{AnswersMade, IsToldOf, LocatesInElfFile, LocatesByIndex, LocatesGiven, is_refused, located_after};
 ghost use Rattle.dl_work.specs.Understood.{IsUnderstood};
 
 use crate::addr_words::{AskedWords, asking, making, part_name, question, wants_directories};
@@ -140,12 +140,7 @@ fn by_index<'a, S: ReadAt, R: Read, W: Write>(
         (option_copied code.entry) (directory_at directories.now) bytes (R.remaining input.new) (W.contents output.old)
         (W.contents output.new) result)) }
 {
-    let table = Table {
-        code: live_in(words.all, code),
-        directories: compiled_in(words.comp_dir, directories),
-        all: words.all,
-        build_id: b"",
-    };
+    let table = table_of(words, code, directories);
     let mut index = Vec::new(alloc);
     let units = units_of_file(words.units);
     let command = making(words, table);
@@ -167,6 +162,22 @@ fn by_index<'a, S: ReadAt, R: Read, W: Write>(
     }
     let answered = answer_made(alloc, words, understood, index.as_slice(), input, output);
     located_after(path, answer, answered)
+}
+
+/// What the index is made with.
+fn table_of<'q>(
+    words: &'q AddrWords<'_>,
+    code: Option<&'q CodeRanges>,
+    directories: &'q Directories,
+) -> Table<'q>
+    ensures { IsToldOf (addr_words_made words.entry.now) (option_copied code.entry) (directory_at directories.entry.now) result }
+{
+    Table {
+        code: live_in(words.all, code),
+        directories: compiled_in(words.comp_dir, directories),
+        all: words.all,
+        build_id: b"",
+    }
 }
 
 /// Whether memory was refused for the index.

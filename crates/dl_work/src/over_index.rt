@@ -25,9 +25,6 @@ use dl_open::{FileFault, FileSource, open_file};
 use std::alloc::Global;
 use std::io::{Read, Write};
 
-/// How many bytes of a build ID an index keeps.
-const ID_KEPT: usize = 32;
-
 /// Answers from the index at this path, which is open.
 pub fn in_index<'a, F: FileSource, S: ReadAt, R: Read, W: Write>(
     alloc: Global,
@@ -124,9 +121,5 @@ fn has_id(own: Option<&BuildId>, id: &[u8]) -> bool
 fn front(id: &[u8]) -> &[u8]
     ensures { result.now ≡ take 32 id.now }
 {
-    if id.len() <= ID_KEPT {
-        id
-    } else {
-        &id[..ID_KEPT]
-    }
+    if id.len() <= 32 { id } else { &id[..32] }
 }

@@ -1,10 +1,11 @@
-use Rattle.std.proofs.Common.{[], Some, Err, ap, inl, inr, refl, sym, subst, ◌∙◌}
+use Rattle.std.proofs.Common.{[], Some, Ok, Err, ap, inl, inr, refl, sym, subst, ◌∙◌}
 use Rattle.std.proofs.KnownBytes.{Consumes-nil, Keeps-refl}
 use Rattle.std.proofs.lemmas.Result.{err_from_is_err_and}
 use Rattle.dl_cmd.specs.Job.{addr_words_made}
 use Rattle.dl_index_file.specs.Opening.{source_of}
 use Rattle.dl_index_file.specs.Reading.{ReadFails}
-use Rattle.dl_work.specs.OverIndex.{MadeOf, location_in}
+use Rattle.std.specs.Prelude.{IfErr}
+use Rattle.dl_work.specs.OverIndex.{IsNotOpened, MadeOf, location_in}
 use Rattle.dl_work.proofs.AnsweringLemmas.{not_opened}
 use Rattle.dl_work.proofs.ReadsLemmas.{answers_wider}
 use Rattle.dl_work.proofs.over_index.in_index.Goals as goal
@@ -23,8 +24,9 @@ returns-in-Err g c = (
   λ understood b known short. inr (inl (
     c.in-Err.fault,
     sym c.suits_index.ensures ∙ c.if-not-suits_index.false,
-    not_opened (g.S.ReadAt.fails_with c.args.file.now) b c.in-Err.fault (c.in-Err.ensures.opens b known short)
-        c.in-Err.ensures.read,
+    subst (λ r. IfErr r (IsNotOpened (g.S.ReadAt.fails_with c.args.file.now) b)) c.in-Err.is
+        (not_opened (g.S.ReadAt.fails_with c.args.file.now) b c.open_index.result (c.open_index.ensures.opens b known short)
+        c.open_index.ensures.read),
     (refl, refl, Keeps-refl _),
   )),
 )
@@ -60,7 +62,7 @@ returns g c =
             sym c.suits_index.ensures ∙ c.if-not-suits_index.false,
             c.in-Ok.ensures.opens b known short,
             subst (λ id. MadeOf (g.F.FileSource.held c.args.files.now) (g.F.FileSource.fails_with c.args.files.now) w
-                c.args.path id _) (c.build_id.ensures.id b own short) c.in_ok-check_made_of.ensures,
+                c.args.path id (Ok tt)) (c.build_id.ensures.id b own short) c.in_ok-check_made_of.ensures,
             c.answer_asked.result,
             c.located_by.ensures,
             λ whole. answers_wider _ (ReadFails (Some b) (g.S.ReadAt.fails_with c.args.file.now))

@@ -1,0 +1,61 @@
+use Rattle.std.proofs.Common.{[], Some, inl, inr, refl, sym, subst, ◌∙◌}
+use Rattle.std.proofs.KnownBytes.{Consumes-nil, Keeps-refl}
+use Rattle.dl_cmd.specs.Job.{addr_words_made}
+use Rattle.dl_work.specs.Damages.{unheard}
+use Rattle.dl_work.specs.OverElfFile.{AnswersMade}
+use Rattle.dl_work.specs.Tables.{OnFile}
+use Rattle.dl_work.specs.Units.{file_units}
+use Rattle.dl_work.proofs.TableLemmas.{on_file_as}
+use Rattle.dl_work.proofs.over_elf_file.by_index.Goals as goal
+
+pub returns-then-is_refused : goal.returns-then-is_refused
+returns-then-is_refused g c =
+    let w = addr_words_made c.args.words.now in
+    let reads = g.S.ReadAt.fails_with c.args.file.now in
+    let index = c.on_file-answer.new.output.items in (
+      [],
+      Consumes-nil _,
+      λ understood f known short. (
+        c.table_of-table.result,
+        c.table_of-table.ensures,
+        index,
+        c.on_file-answer.result,
+        subst (λ command. OnFile (file_units w.units) reads c.args.path.now w.section command f (Some []) (Some index) unheard
+            c.on_file-answer.result) c.making-command.ensures
+            (subst (λ start. OnFile (file_units w.units) reads c.args.path.now w.section c.making-command.result f
+            (Some start) (Some index) unheard c.on_file-answer.result) c.new-index.ensures.items
+            (on_file_as c.units_of_file-units.result _ _ _ c.args.path.now _ c.making-command.result f _ _ _ _
+            c.units_of_file-units.ensures (λ e fails. fails) (c.on_file-answer.ensures tt f known short))),
+        inl (sym c.is_refused.ensures ∙ c.if-is_refused.true, (refl, refl, Keeps-refl _)),
+      ),
+    )
+
+pub returns : goal.returns
+returns g c =
+    let w = addr_words_made c.args.words.now in
+    let reads = g.S.ReadAt.fails_with c.args.file.now in
+    let index = c.on_file-answer.new.output.items in
+    let e = c.answer_made-answered.ensures in (
+      e.0,
+      e.1,
+      λ understood f known short. (
+        c.table_of-table.result,
+        c.table_of-table.ensures,
+        index,
+        c.on_file-answer.result,
+        subst (λ command. OnFile (file_units w.units) reads c.args.path.now w.section command f (Some []) (Some index) unheard
+            c.on_file-answer.result) c.making-command.ensures
+            (subst (λ start. OnFile (file_units w.units) reads c.args.path.now w.section c.making-command.result f
+            (Some start) (Some index) unheard c.on_file-answer.result) c.new-index.ensures.items
+            (on_file_as c.units_of_file-units.result _ _ _ c.args.path.now _ c.making-command.result f _ _ _ _
+            c.units_of_file-units.ensures (λ e fails. fails) (c.on_file-answer.ensures tt f known short))),
+        inr (
+          sym c.is_refused.ensures ∙ c.if-is_refused.false,
+          c.answer_made-answered.result,
+          subst (λ b. AnswersMade w b e.0 (g.R.Read.remaining c.answer_made-answered.new.input)
+              (g.W.Write.contents c.args.output.now) (g.W.Write.contents c.answer_made-answered.new.output)
+              c.answer_made-answered.result) c.as_slice.ensures.value (e.2 understood),
+          c.located_after.ensures,
+        ),
+      ),
+    )
