@@ -59,6 +59,7 @@ impl Runs {
 
     /// Takes the next row of the current unit. `live` says of a sequence that begins with this row whether there is
     /// code at its address, and isn't looked at for other rows.
+    #[inline(always)]
     pub fn row(&mut self, row: &Row, live: bool) -> Result<(), NoMemory>
         ensures { IfOk result (λ _. (is_live : ℕ → Bool) (units : List UnitRows) (rows : List each.Row)
             → Stands is_live self.old units rows → (unended rows ≡ [] → live ≡ is_live row.now.address)
