@@ -21,6 +21,7 @@ use std::alloc::Global;
 /// A row takes constant time.
 #[derive(Drop)]
 pub struct Runs {
+    alloc: Global,
     /// Of the units that have ended.
     whole: RunSpans,
     /// Of the current unit.
@@ -42,6 +43,7 @@ impl Runs {
         ensures { (live : ℕ → Bool) → Stands live result [] [] }
     {
         Runs {
+            alloc,
             whole: RunSpans::new(alloc),
             unit: UnitRuns::new(alloc),
             live: LiveRows::new(),
@@ -101,7 +103,7 @@ impl Runs {
         ensures { (live : ℕ → Bool) (units : List UnitRows) (rows : List each.Row) → Stands live self.old units rows
             → Stands live self.new units [] }
     {
-        self.unit.clear();
+        self.unit = UnitRuns::new(self.alloc);
         self.live = LiveRows::new();
     }
 

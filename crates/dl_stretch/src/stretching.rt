@@ -21,7 +21,10 @@ pub fn stretches_of(alloc: Global, runs: &[Run], spans: &[Span]) -> Result<Vec<S
     ensures { IfOk result (λ stretches. AreStretches (answer_of runs.now spans.now) stretches.items) }
 {
     let cuts = cuts_of(alloc, spans)?;
-    let mut stretches = Vec::new(alloc);
+    let most = runs.len().saturating_add(cuts.len());
+    let Ok(mut stretches) = Vec::with_capacity(alloc, most) else {
+        return Err(NoMemory);
+    };
     for i in 0..cuts.len() {
         let Some(reach) = reach_of(cuts.as_slice(), i) else {
             continue;

@@ -62,12 +62,4 @@ impl UnitRuns {
     {
         &self.spans
     }
-
-    /// Forgets all rows.
-    pub fn clear(&mut self)
-        ensures { Holds self.new [] }
-    {
-        self.spans.clear();
-        self.sequence.clear();
-    }
 }
