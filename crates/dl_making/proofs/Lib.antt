@@ -1,6 +1,7 @@
-pub mod TextNumbers
-pub mod NumberLemmas
-pub mod MakerLemmas
 pub mod IndexLemmas
+pub mod MakerLemmas
 pub mod MakingLemmas
+pub mod NamedFiles
+pub mod NumberLemmas
+pub mod TextNumbers
 pub mod WritingLemmas

@@ -7,12 +7,12 @@ ghost use Rattle.dl_run.specs.Section.{Visit};
 ghost use Rattle.dl_making.specs.declared.maker.Maker as makers;
 ghost use Rattle.dl_making.specs.IsIndexOf.{IsIndexOf};
 ghost use Rattle.dl_making.specs.Makes.{Makes, MakesAround, id_kept};
-ghost use Rattle.dl_making.specs.Making.{Making, told_after};
+ghost use Rattle.dl_making.specs.Making.{Making, WasTold, told_after};
 
 use crate::maker::Maker;
 use dl_dirs::CompilationDirectories;
 use dl_look::{CodeRanges, NoMemory};
-use dl_pack::index_bytes;
+use dl_pack::{PackFault, index_bytes};
 use dl_print::{StringSections, Summary};
 use dl_run::{Options, RunFault, SECTION_LIMIT, Survey, read_units, read_units_around};
 use std::alloc::Global;
@@ -95,12 +95,13 @@ pub fn make_index_around<R: Read>(
     }
 }
 
-/// The index of what a maker was told.
+/// The index of what a maker was told. Each file that it told has a name, so memory alone can be wanted.
 fn told_index(
     alloc: Global,
     maker: &Maker<'_, '_, '_>,
     table: &Table<'_>,
 ) -> Result<Vec<u8>, NoMemory>
+    requires { WasTold maker.now }
     ensures { IfOk result (λ index. (first : makers.Maker) (start held : Option (List ℕ)) (visits : List Visit)
         → Making first maker.now start held visits
         → IsIndexOf table.now.all (id_kept table.now) (told_after first visits) index.items) }
@@ -117,7 +118,9 @@ fn told_index(
         front(table.build_id),
     ) {
         Ok(index) => Ok(index),
-        Err(_) => Err(NoMemory),
+        Err(PackFault::NoMemory) => Err(NoMemory),
+        Err(PackFault::File) => unreachable!(),
+        Err(PackFault::BuildId) => unreachable!(),
     }
 }
 

@@ -33,6 +33,7 @@ impl Runs {
     ghost use Rattle.std.specs.Prelude.{◌≡◌, ◌↔◌, ℕ, Bool, IfOk, IsTrue, List, [], ◌∷◌, ◌++◌};
     ghost use Rattle.dl_rows.specs.declared.row.Row as each;
     ghost use Rattle.dl_look.specs.FinderRows.{unended};
+    ghost use Rattle.dl_stretch.specs.Laws.{AtAddresses};
     ghost use Rattle.dl_stretch.specs.Runs.{number_in};
     ghost use Rattle.dl_stretch.specs.Stands.{Stands};
     ghost use Rattle.dl_stretch.specs.Stretches.{AreStretches};
@@ -107,11 +108,12 @@ impl Runs {
         self.live = LiveRows::new();
     }
 
-    /// The stretches of what the units tell that have ended. It takes time in proportion to the runs, and to the
+    /// The stretches of what the units tell that have ended, each of which begins at an address. It takes time in proportion to the runs, and to the
     /// sequences times the logarithm of their number, but for little.
     pub fn stretches(&self, alloc: Global) -> Result<Vec<Stretch>, NoMemory>
-        ensures { IfOk result (λ stretches. (live : ℕ → Bool) (units : List UnitRows) (rows : List each.Row)
+        ensures are { IfOk result (λ stretches. (live : ℕ → Bool) (units : List UnitRows) (rows : List each.Row)
             → Stands live self.now units rows → AreStretches (told_of_units live units) stretches.items) }
+        ensures starts { IfOk result (λ stretches. AtAddresses stretches.items) }
     {
         self.whole.stretches(alloc)
     }

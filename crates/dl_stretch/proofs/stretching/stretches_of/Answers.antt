@@ -70,11 +70,17 @@ loop-i-preserved c =
           gap_between runs spans cuts c.in_ok-cuts.ensures i a lt is (omega (arith, from, le)) under)))
     ]
 
-pub returns : goal.returns
-returns c =
-    let cuts = c.in_ok-cuts.cuts.items in
-    let f = answer_of c.args.runs.now c.args.spans.now in
-    all_made f c.loop-i.stretches.items (made_same f c.loop-i.stretches.items (cut_start cuts c.loop-i.i) (2 ^ 64)
-    c.loop-i.invariant
-    (start_past c.args.runs.now c.args.spans.now cuts c.in_ok-cuts.ensures c.loop-i.i
+pub returns-clause-are : goal.returns-clause-are
+returns-clause-are c =
+    all_made (answer_of c.args.runs.now c.args.spans.now) c.loop-i.stretches.items
+    (made_same (answer_of c.args.runs.now c.args.spans.now) c.loop-i.stretches.items
+    (cut_start c.in_ok-cuts.cuts.items c.loop-i.i) (2 ^ 64) c.loop-i.invariant
+    (start_past c.args.runs.now c.args.spans.now c.in_ok-cuts.cuts.items c.in_ok-cuts.ensures c.loop-i.i
     (omega (arith, c.in_ok-cuts.cuts.ok.0))))
+
+pub returns-clause-starts : goal.returns-clause-starts
+returns-clause-starts c =
+    (made_same (answer_of c.args.runs.now c.args.spans.now) c.loop-i.stretches.items
+    (cut_start c.in_ok-cuts.cuts.items c.loop-i.i) (2 ^ 64) c.loop-i.invariant
+    (start_past c.args.runs.now c.args.spans.now c.in_ok-cuts.cuts.items c.in_ok-cuts.ensures c.loop-i.i
+    (omega (arith, c.in_ok-cuts.cuts.ok.0)))).below
