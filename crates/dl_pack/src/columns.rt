@@ -1,6 +1,6 @@
 //! The columns of an index, and the bits of is_stmt.
 
-ghost use Rattle.std.specs.Prelude.{◌≡◌, ◌+◌, ◌-◌, ◌<◌, ◌≤◌, ◌^◌, ◌++◌, IfOk, length, map, max, vec_len, replicate};
+ghost use Rattle.std.specs.Prelude.{◌≡◌, ◌+◌, ◌-◌, ◌<◌, ◌≤◌, ◌^◌, ◌++◌, ◌*◌, IfOk, IfSome, length, take, map, max, vec_len, replicate};
 ghost use Rattle.std.specs.List.{flat_map};
 ghost use Rattle.dl_num.specs.Fixed.{little_bytes};
 ghost use Rattle.dl_index.specs.Columns.{size_of};
@@ -162,10 +162,54 @@ fn put_numbers(
     ensures { IfOk result (λ _. out.new.items ≡ out.old.items
         ++ column_bytes size (column_of base (order_of files.now) column stretches.now)) }
 {
-    for stretch in stretches {
-        put_number(out, size, number_of(base, files, column, stretch))?;
+    let start = out.len();
+    let Some(end) = end_of(start, size, stretches.len()) else {
+        return Err(NoMemory);
+    };
+    if out.resize(end, 0).is_err() {
+        return Err(NoMemory);
     }
+    fill_numbers(
+        out.as_mut_slice(),
+        start,
+        size,
+        base,
+        files,
+        column,
+        stretches,
+    );
     Ok(())
+}
+
+/// Where so many numbers of a size end that begin at `start`; None past 2^64.
+#[inline(always)]
+fn end_of(start: usize, size: usize, count: usize) -> Option<usize>
+    ensures { IfSome result (λ end. end ≡ start + count * size) }
+{
+    start.checked_add(count.checked_mul(size)?)
+}
+
+/// Fills the bytes from `start` on with the numbers of a column.
+#[inline(always)]
+fn fill_numbers(
+    bytes: &mut [u8],
+    start: usize,
+    size: usize,
+    base: u64,
+    files: &Mentions,
+    column: Column,
+    stretches: &[Stretch],
+)
+    requires small { size ≤ 8 }
+    requires room { length bytes.old ≡ start + length stretches.now * size }
+    ensures { bytes.new ≡ take start bytes.old
+        ++ column_bytes size (column_of base (order_of files.now) column stretches.now) }
+{
+    for (i, stretch) in stretches.iter().enumerate() {
+        let number = number_of(base, files, column, stretch).to_le_bytes();
+        let place = start + i * size;
+        bytes[place..place + size].copy_from_slice(&number[..size]);
+    }
 }
 
 /// Puts 0 behind a part that begins at `start`, up to a multiple of 8 bytes from there.

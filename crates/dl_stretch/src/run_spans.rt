@@ -81,6 +81,14 @@ impl RunSpans {
         Ok(())
     }
 
+    /// Forgets all spans.
+    pub fn clear(&mut self)
+        ensures { (a : ℕ) → answer_of self.new.runs.items self.new.spans.items a ≡ None }
+    {
+        self.spans.clear();
+        self.runs.clear();
+    }
+
     /// The runs of all spans, one after the other.
     pub fn runs(&self) -> &[Run]
         ensures { result.now ≡ self.now.runs.items }

@@ -17,8 +17,8 @@ use std::alloc::Global;
 ///
 /// Where a growth is refused a call answers `NoMemory`, and nothing more is promised of the runs.
 ///
-/// Kept are 48 bytes for each run, at most one for each row of a live rising sequence, and 56 for each such sequence.
-/// A row takes constant time.
+/// Kept are 48 bytes for each run, at most one for each row of a live rising sequence, and 56 for each such sequence. Those
+/// of a unit are kept twice for a moment where it ends. A row takes constant time.
 #[derive(Drop)]
 pub struct Runs {
     alloc: Global,
@@ -101,6 +101,16 @@ impl Runs {
     /// The current unit turns out to be damaged: its rows don't count, and the next row is the first one of the
     /// next unit.
     pub fn forget_unit(&mut self)
+        ensures { (live : ℕ → Bool) (units : List UnitRows) (rows : List each.Row) → Stands live self.old units rows
+            → Stands live self.new units [] }
+    {
+        self.unit.clear();
+        self.live = LiveRows::new();
+    }
+
+    /// Gives back the memory that was taken for the rows of a unit, before stretches are made. The rows of the current
+    /// unit don't count.
+    pub fn give_back(&mut self)
         ensures { (live : ℕ → Bool) (units : List UnitRows) (rows : List each.Row) → Stands live self.old units rows
             → Stands live self.new units [] }
     {

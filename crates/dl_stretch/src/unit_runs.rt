@@ -56,6 +56,14 @@ impl UnitRuns {
         Ok(())
     }
 
+    /// Forgets all rows.
+    pub fn clear(&mut self)
+        ensures { Holds self.new [] }
+    {
+        self.spans.clear();
+        self.sequence.clear();
+    }
+
     /// The spans of the sequences that have ended.
     pub fn spans(&self) -> &RunSpans
         ensures { result.now ≡ self.now.spans }
