@@ -1,8 +1,8 @@
 -- Each file that is told has a name.
-use Rattle.std.proofs.Common.{◌≡◌, ℕ, zero, suc, ◌<◌, ◌≤◌, ◌^◌, List, [], ◌∷◌, ◌++◌, length, get_or, Option, Some, None}
-use Rattle.std.proofs.Common.{refl, sym, ap, ◌∙◌, subst, arith}
+use Rattle.std.proofs.Common.{◌≡◌, ℕ, suc, ◌<◌, ◌^◌, List, [], ◌∷◌, ◌++◌, length, get_or, Option, Some, None}
+use Rattle.std.proofs.Common.{refl, sym, ap, ◌∙◌, arith}
 use Rattle.std.specs.Prelude.{slice_get}
-use Rattle.std.specs.List.{All, Contains}
+use Rattle.std.specs.List.{All}
 use Rattle.std.specs.Option.{option_and_then, option_map}
 use Rattle.std.proofs.lemmas.List.Elements.{All-cons, All-nil}
 use Rattle.std.proofs.lemmas.Option.{slice_get_within}
@@ -11,7 +11,7 @@ use Rattle.dl_stretch.specs.declared.told.Told.{Told}
 use Rattle.dl_stretch.specs.declared.stretch.Stretch.{Stretch}
 use Rattle.dl_stretch.specs.Laws.{AtAddresses}
 use Rattle.dl_stretch.specs.Stretches.{AreStretches, Apart, Neighbours, told_at}
-use Rattle.dl_stretch.proofs.LastBegun.{Rise, rise_at, some_at}
+use Rattle.dl_stretch.proofs.LastBegun.{rise_at, some_at}
 use Rattle.dl_stretch.proofs.StretchLemmas.{rise, start_of}
 use Rattle.dl_pack.specs.Faults.{TellsUnnamed}
 use Rattle.dl_pack.specs.IndexOf.{files_told, told_files}

@@ -1,5 +1,5 @@
 -- The lowest bytes of a number.
-use Rattle.std.proofs.Common.{◌≡◌, ℕ, zero, suc, ◌*◌, ◌/◌, ◌^◌, ◌≤◌, ◌%◌, List, [], ◌∷◌, take, refl, sym, ap, ◌∙◌, arith}
+use Rattle.std.proofs.Common.{◌≡◌, ℕ, zero, suc, ◌/◌, ◌^◌, ◌≤◌, ◌%◌, ◌∷◌, take, refl, sym, ap, ◌∙◌, arith}
 use Rattle.std.specs.Int.{w64, byte_at, bytes_low_first, to_le_bytes}
 use Rattle.std.proofs.Math.Nat.{div-div-eq-div-mul, pow-suc}
 use Rattle.dl_num.specs.Fixed.{little_bytes}

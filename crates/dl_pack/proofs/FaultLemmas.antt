@@ -1,5 +1,5 @@
 -- Files that have no name.
-use Rattle.std.proofs.Common.{◌≡◌, ℕ, zero, suc, ◌<◌, ◌≤◌, List, [], ◌∷◌, ◌++◌, length, get_or, refl, sym, ap, subst, ◌∙◌, arith}
+use Rattle.std.proofs.Common.{◌≡◌, ℕ, zero, suc, ◌<◌, ◌≤◌, List, [], ◌∷◌, ◌++◌, length, get_or, refl, sym, subst, arith}
 use Rattle.std.specs.Prelude.{Some}
 use Rattle.std.specs.List.{Contains, flat_map}
 use Rattle.std.proofs.lemmas.List.{append-nil}
@@ -8,7 +8,7 @@ use Rattle.dl_stretch.specs.declared.told.Told.{Told}
 use Rattle.dl_stretch.specs.declared.stretch.Stretch.{Stretch}
 use Rattle.dl_pack.specs.declared.fault.PackFault.{PackFault}
 use Rattle.dl_pack.specs.declared.fault.PackFault.TheVariants as fault
-use Rattle.dl_pack.specs.IndexOf.{told_files, files_of_stretch, files_told}
+use Rattle.dl_pack.specs.IndexOf.{told_files, files_of_stretch}
 use Rattle.dl_pack.specs.Faults.{TellsUnnamed, MentionFails, PackFails}
 
 contains_at : {A : Type 0} (f : A → List ℕ) (xs : List A) (i : ℕ) (d : A) (x : ℕ) → i < length xs
