@@ -20,10 +20,10 @@ use Rattle.dl_pack.specs.Named.{Named, Once}
 use Rattle.dl_pack.specs.Telling.{StretchesRise, named_stretch, named_told, told_as}
 use Rattle.dl_making.specs.IsIndexOf.{Apart, IsIndexOf, is_gap_first}
 
-some_same : {A : Type 0} (a b : A) → Some a ≡ Some b → a ≡ b
+pub some_same : {A : Type 0} (a b : A) → Some a ≡ Some b → a ≡ b
 some_same a b is = ap (λ o. unwrap_or o a) is
 
-none_some : {A : Type 0} (a : A) → None ≡ Some a → ⊥
+pub none_some : {A : Type 0} (a : A) → None ≡ Some a → ⊥
 none_some a is = cc
 
 -- ---- each stretch begins above the one before it

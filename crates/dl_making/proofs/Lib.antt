@@ -1,8 +1,9 @@
-pub mod TextNumbers
-pub mod NumberLemmas
-pub mod MakerLemmas
 pub mod IndexLemmas
+pub mod MakerLemmas
 pub mod MakingLemmas
 pub mod UntilLemmas
 pub mod LineLemmas
+pub mod NamedFiles
+pub mod NumberLemmas
+pub mod TextNumbers
 pub mod WritingLemmas

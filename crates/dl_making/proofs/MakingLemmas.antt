@@ -6,6 +6,8 @@ use Rattle.std.specs.Option.{option_copied, option_map}
 use Rattle.dl_head.specs.declared.dialect.Dialect.{Dialect}
 use Rattle.dl_print.specs.ValueText.{Strings, strings_of}
 use Rattle.dl_dirs.specs.Compilation.{directory_by}
+use Rattle.dl_print.specs.declared.summary.Summary.{Summary}
+use Rattle.dl_run.specs.declared.around.Survey.{Survey}
 use Rattle.dl_run.specs.declared.fault.RunFault.{RunFault}
 use Rattle.dl_run.specs.declared.fault.RunFault.TheVariants as fault
 use Rattle.dl_run.specs.Around.{RanAround, visits_around}
@@ -24,7 +26,7 @@ use Rattle.dl_making.specs.declared.making.MadeAround.{MadeAround}
 use Rattle.dl_making.specs.declared.making.Table.{Table}
 use Rattle.dl_making.specs.IsIndexOf.{IsIndexOf}
 use Rattle.dl_making.specs.Makes.{Makes, MakesAround, id_kept, told_around, told_in}
-use Rattle.dl_making.specs.Making.{Making, code_of, making_story, told_after}
+use Rattle.dl_making.specs.Making.{Making, WasTold, code_of, making_story, told_after}
 use Rattle.dl_making.specs.Telling.{told_of}
 
 -- of what tells the same
@@ -127,3 +129,17 @@ module _ (dialect : Dialect) (first : Maker) (table : Table) (s : Strings) (know
     fails_around (fault.ForeignUnit unit) (blocks, rest, inr stops) = absurd (let e = stops.3.reason in cc)
     fails_around (fault.Emit unit e) (blocks, rest, inl (ends, settled)) = (blocks, rest, ends)
     fails_around (fault.Emit unit e) (blocks, rest, inr stops) = absurd (let r = stops.3.reason in cc)
+
+-- where the reading ends the maker was told visits
+module _ (dialect : Dialect) (first : Maker) (limit : ℕ) (bytes : List ℕ) (left : Option (List ℕ)) (new : Maker)
+    (start now : Option (List ℕ)) where
+  pub was_told : (summary : Summary) → Ran making_story dialect limit bytes left first new start now (Ok summary)
+      → WasTold new
+  was_told summary (inl (units, ends, settled)) = (first, start, now, section_visits dialect units [], settled.tells)
+  was_told summary (inr done) = absurd done.4.tells
+
+  pub was_told_around : (survey : Survey) → RanAround making_story dialect limit bytes left first new start now (Ok survey)
+      → WasTold new
+  was_told_around survey (inl (blocks, rest, ends, settled)) =
+      (first, start, now, visits_around dialect blocks rest, settled.tells)
+  was_told_around survey (inr done) = absurd done.4.tells

@@ -23,9 +23,9 @@ use Rattle.dl_making.specs.declared.maker.Maker.{Maker}
 use Rattle.dl_making.specs.declared.making.Table.{Table}
 use Rattle.dl_making.specs.IsIndexOf.{IsIndexOf}
 use Rattle.dl_making.specs.Makes.{id_kept, told_around, told_in}
-use Rattle.dl_making.specs.Making.{Making, making_story, told_after}
-use Rattle.dl_making.specs.Until.{IsIndexIf, MakesUntil, MakesUntilAround}
-use Rattle.dl_making.proofs.MakingLemmas.{Knows, same_index, told_same}
+use Rattle.dl_making.specs.Making.{Making, WasTold, making_story, told_after}
+use Rattle.dl_making.specs.Until.{IsIndexIf, MakesUntil, MakesUntilAround, is_refused}
+use Rattle.dl_making.proofs.MakingLemmas.{Knows, same_index, told_same, was_told, was_told_around}
 
 -- where memory was refused for the reading
 pub refused_by : {A : Type 0} (ended : Result A RunFault) (f : Option RunFault) → f ≡ result_err ended
@@ -124,3 +124,53 @@ module _ (dialect : Dialect) (first : Maker) (table : Table) (s : Strings) (know
   until_around (Err (fault.ForeignUnit unit)) refused (blocks, rest, inr stops) = absurd (let e = stops.3.reason in cc)
   until_around (Err (fault.Emit unit e)) refused (blocks, rest, inl (ends, settled)) = absurd ends
   until_around (Err (fault.Emit unit e)) refused (blocks, rest, inr stops) = absurd (let r = stops.3.reason in cc)
+
+-- where memory sufficed for the reading, the maker was told visits
+module _ (dialect : Dialect) (first : Maker) (limit : ℕ) (bytes : List ℕ) (left : Option (List ℕ)) (new : Maker)
+    (start now : Option (List ℕ)) where
+  pub told_until : (ended : Result Summary RunFault) → is_refused (result_err ended) ≡ false
+      → Ran making_story dialect limit bytes left first new start now ended → WasTold new
+  told_until (Ok summary) some ran = was_told dialect first limit bytes left new start now summary ran
+  told_until (Err (fault.Write out)) some (units, b, back, has, writes) = absurd (let below = writes.3.0 in omega arith)
+  told_until (Err fault.NoMemory) some ran = absurd (let e : true ≡ false = some in cc)
+  told_until (Err (fault.Damage offset kind)) some (units, b, back, inl (ends, settled)) =
+      (first, start, now, section_visits dialect units b, settled.tells)
+  told_until (Err (fault.Damage offset kind)) some (units, b, back, inr (has, sound, stops)) =
+      absurd (let e = stops.reason in cc)
+  told_until (Err fault.Read) some (units, b, back, inl (ends, settled)) =
+      (first, start, now, section_visits dialect units b, settled.tells)
+  told_until (Err fault.Read) some (units, b, back, inr (has, sound, stops)) = absurd (let e = stops.reason in cc)
+  told_until (Err fault.SectionTooLong) some (units, b, back, inl (ends, settled)) =
+      (first, start, now, section_visits dialect units b, settled.tells)
+  told_until (Err fault.SectionTooLong) some (units, b, back, inr (has, sound, stops)) =
+      absurd (let e = stops.reason in cc)
+  told_until (Err fault.NotFound) some (units, b, back, inl (ends, settled)) = absurd ends
+  told_until (Err fault.NotFound) some (units, b, back, inr (has, sound, stops)) = absurd (let e = stops.reason in cc)
+  told_until (Err (fault.ForeignUnit unit)) some (units, b, back, inl (ends, settled)) = absurd ends
+  told_until (Err (fault.ForeignUnit unit)) some (units, b, back, inr (has, sound, stops)) =
+      absurd (let e = stops.reason in cc)
+  told_until (Err (fault.Emit unit e)) some (units, b, back, inl (ends, settled)) = absurd ends
+  told_until (Err (fault.Emit unit e)) some (units, b, back, inr (has, sound, stops)) =
+      absurd (let r = stops.reason in cc)
+
+  pub told_until_around : (ended : Result Survey RunFault) → is_refused (result_err ended) ≡ false
+      → RanAround making_story dialect limit bytes left first new start now ended → WasTold new
+  told_until_around (Ok survey) some ran = was_told_around dialect first limit bytes left new start now survey ran
+  told_until_around (Err (fault.Write out)) some (blocks, rest, others, cut, writes) =
+      absurd (let below = writes.3.0 in omega arith)
+  told_until_around (Err fault.NoMemory) some ran = absurd (let e : true ≡ false = some in cc)
+  told_until_around (Err (fault.Damage offset kind)) some (blocks, rest, inl (ends, settled)) = absurd ends
+  told_until_around (Err (fault.Damage offset kind)) some (blocks, rest, inr stops) =
+      absurd (let e = stops.3.reason in cc)
+  told_until_around (Err fault.Read) some (blocks, rest, inl (ends, settled)) =
+      (first, start, now, visits_around dialect blocks rest, settled.tells)
+  told_until_around (Err fault.Read) some (blocks, rest, inr stops) = absurd (let e = stops.3.reason in cc)
+  told_until_around (Err fault.SectionTooLong) some (blocks, rest, inl (ends, settled)) =
+      (first, start, now, visits_around dialect blocks rest, settled.tells)
+  told_until_around (Err fault.SectionTooLong) some (blocks, rest, inr stops) = absurd (let e = stops.3.reason in cc)
+  told_until_around (Err fault.NotFound) some (blocks, rest, inl (ends, settled)) = absurd ends
+  told_until_around (Err fault.NotFound) some (blocks, rest, inr stops) = absurd (let e = stops.3.reason in cc)
+  told_until_around (Err (fault.ForeignUnit unit)) some (blocks, rest, inl (ends, settled)) = absurd ends
+  told_until_around (Err (fault.ForeignUnit unit)) some (blocks, rest, inr stops) = absurd (let e = stops.3.reason in cc)
+  told_until_around (Err (fault.Emit unit e)) some (blocks, rest, inl (ends, settled)) = absurd ends
+  told_until_around (Err (fault.Emit unit e)) some (blocks, rest, inr stops) = absurd (let r = stops.3.reason in cc)

@@ -62,6 +62,12 @@ pub record Making (first now : Maker) (start held : Option (List ℕ)) (visits :
   pub tells : now.is_refused ≡ false → Tells first now visits
   pub nothing : Appends start held []
 
+-- it was told some visits
+abbrev pub WasTold : Maker → Type 0
+WasTold m =
+    (first : Maker) × (start : Option (List ℕ)) × (held : Option (List ℕ)) × (visits : List Visit)
+    × Making first m start held visits
+
 -- the current unit has ended, with this header: its files have their numbers
 pub record EndsUnit (old new : Maker) (h : Option HeaderData) : Type 0 where
   pub grows : Grows (named_files old.names) (named_files new.names)

@@ -1,6 +1,6 @@
 -- What the making of an index comes to that ends with a fault. bytes: what was read from a reader, which has `left` left;
 -- None: it isn't known.
-use Rattle.std.specs.Prelude.{◌≡◌, ◌≢◌, ◌⊎◌, ℕ, true, List, [], take, is_err, Option, Result, Err, IfOk}
+use Rattle.std.specs.Prelude.{◌≡◌, ◌≢◌, ◌⊎◌, ℕ, true, List, [], take, is_err, Option, Result, Err, IfOk, Bool, false, Some}
 use Rattle.std.specs.Global.{Vec}
 use Rattle.dl_head.specs.declared.dialect.Dialect.{Dialect}
 use Rattle.dl_look.specs.declared.index.NoMemory.{NoMemory}
@@ -25,6 +25,11 @@ abbrev pub WantsMemory : Dialect → (limit : ℕ) (bytes : List ℕ) → Type 0
 WantsMemory dialect limit bytes =
     (units : List (List ℕ)) × (b : List ℕ) × (back : List ℕ) × HasBegun dialect (take limit bytes) units b back
     × (AddsCell dialect b back ⊎ (section_visits dialect units b ≢ []))
+
+-- memory was refused for the reading
+abbrev pub is_refused : Option RunFault → Bool
+is_refused (Some fault.NoMemory) = true
+is_refused other = false
 
 -- `make_index_until`: the index of the units before the end or before the first fault, as of `check`, which are those that
 -- answer in `addr`; none where memory was refused for the reading

@@ -7,12 +7,12 @@ ghost use Rattle.dl_run.specs.Section.{Visit};
 ghost use Rattle.dl_making.specs.declared.maker.Maker as makers;
 ghost use Rattle.dl_making.specs.IsIndexOf.{IsIndexOf};
 ghost use Rattle.dl_making.specs.Makes.{Makes, MakesAround, id_kept};
-ghost use Rattle.dl_making.specs.Making.{Making, told_after};
+ghost use Rattle.dl_making.specs.Making.{Making, WasTold, told_after};
 
 use crate::maker::Maker;
 use dl_dirs::CompilationDirectories;
 use dl_look::{CodeRanges, NoMemory};
-use dl_pack::index_bytes;
+use dl_pack::{PackFault, index_bytes};
 use dl_print::{StringSections, Summary};
 use dl_run::{Options, RunFault, SECTION_LIMIT, Survey, read_units, read_units_around};
 use std::alloc::Global;
@@ -65,7 +65,7 @@ pub fn make_index<R: Read>(
     let strings = StringSections::new(options.debug_line_str, options.debug_str);
     let mut maker = Maker::new(alloc, &strings, table.code, table.directories);
     let summary = read_units(alloc, input, &mut io::sink(), options, &mut maker)?;
-    match told_index(alloc, &maker, table) {
+    match told_index(alloc, &mut maker, table) {
         Ok(index) => Ok(Made { index, summary }),
         Err(NoMemory) => Err(RunFault::NoMemory),
     }
@@ -89,25 +89,27 @@ pub fn make_index_around<R: Read>(
     let strings = StringSections::new(options.debug_line_str, options.debug_str);
     let mut maker = Maker::new(alloc, &strings, table.code, table.directories);
     let survey = read_units_around(alloc, input, &mut io::sink(), options, &mut maker)?;
-    match told_index(alloc, &maker, table) {
+    match told_index(alloc, &mut maker, table) {
         Ok(index) => Ok(MadeAround { index, survey }),
         Err(NoMemory) => Err(RunFault::NoMemory),
     }
 }
 
-/// The index of what a maker was told.
+/// The index of what a maker was told. Each file that it told has a name, so memory alone can be wanted.
 pub(crate) fn told_index(
     alloc: Global,
-    maker: &Maker<'_, '_, '_>,
+    maker: &mut Maker<'_, '_, '_>,
     table: &Table<'_>,
 ) -> Result<Vec<u8>, NoMemory>
+    requires { WasTold maker.old }
     ensures { IfOk result (λ index. (first : makers.Maker) (start held : Option (List ℕ)) (visits : List Visit)
-        → Making first maker.now start held visits
+        → Making first maker.old start held visits
         → IsIndexOf table.now.all (id_kept table.now) (told_after first visits) index.items) }
 {
     if maker.is_refused {
         return Err(NoMemory);
     }
+    maker.runs.give_back();
     let stretches = maker.runs.stretches(alloc)?;
     match index_bytes(
         alloc,
@@ -117,7 +119,9 @@ pub(crate) fn told_index(
         front(table.build_id),
     ) {
         Ok(index) => Ok(index),
-        Err(_) => Err(NoMemory),
+        Err(PackFault::NoMemory) => Err(NoMemory),
+        Err(PackFault::File) => unreachable!(),
+        Err(PackFault::BuildId) => unreachable!(),
     }
 }
 

@@ -1,6 +1,6 @@
 //! The index of the units of a section before its end or a fault. Section 6.2.4.
 
-ghost use Rattle.std.specs.Prelude.{◌≡◌, ◌≤◌, ℕ, List, Option, Some, IfOk, is_err, true};
+ghost use Rattle.std.specs.Prelude.{◌≡◌, ◌≤◌, ℕ, List, Option, Some, IfOk, is_err, true, false};
 ghost use Rattle.std.specs.Io.KnownBytes.{Consumes};
 ghost use Rattle.dl_run.specs.declared.fault.RunFault.TheVariants as faults;
 ghost use Rattle.dl_run.specs.Commands.{strings_in};
@@ -8,8 +8,8 @@ ghost use Rattle.dl_run.specs.Section.{Visit};
 ghost use Rattle.dl_making.specs.declared.maker.Maker as makers;
 ghost use Rattle.dl_making.specs.IsIndexOf.{IsIndexOf};
 ghost use Rattle.dl_making.specs.Makes.{id_kept};
-ghost use Rattle.dl_making.specs.Making.{Making, told_after};
-ghost use Rattle.dl_making.specs.Until.{MakesUntil, MakesUntilAround};
+ghost use Rattle.dl_making.specs.Making.{Making, WasTold, told_after};
+ghost use Rattle.dl_making.specs.Until.{MakesUntil, MakesUntilAround, is_refused};
 
 use crate::maker::Maker;
 use crate::making::{Table, told_index};
@@ -59,7 +59,7 @@ pub fn make_index_until<R: Read>(
     let mut maker = Maker::new(alloc, &strings, table.code, table.directories);
     let ended = read_units(alloc, input, &mut io::sink(), options, &mut maker);
     MadeUntil {
-        index: index_until(alloc, &maker, table, ended.err()),
+        index: index_until(alloc, &mut maker, table, ended.err()),
         ended,
     }
 }
@@ -83,7 +83,7 @@ pub fn make_index_until_around<R: Read>(
     let mut maker = Maker::new(alloc, &strings, table.code, table.directories);
     let ended = read_units_around(alloc, input, &mut io::sink(), options, &mut maker);
     MadeUntilAround {
-        index: index_until(alloc, &maker, table, ended.err()),
+        index: index_until(alloc, &mut maker, table, ended.err()),
         ended,
     }
 }
@@ -91,17 +91,25 @@ pub fn make_index_until_around<R: Read>(
 /// The index of what a maker was told before the reading ended, with this fault or none.
 fn index_until(
     alloc: Global,
-    maker: &Maker<'_, '_, '_>,
+    maker: &mut Maker<'_, '_, '_>,
     table: &Table<'_>,
     fault: Option<RunFault>,
 ) -> Result<Vec<u8>, NoMemory>
+    requires { is_refused fault ≡ false → WasTold maker.old }
     ensures told { IfOk result (λ index. (first : makers.Maker) (start held : Option (List ℕ)) (visits : List Visit)
-        → Making first maker.now start held visits
+        → Making first maker.old start held visits
         → IsIndexOf table.now.all (id_kept table.now) (told_after first visits) index.items) }
     ensures refused { fault ≡ Some faults.NoMemory → is_err result ≡ true }
 {
-    match fault {
-        Some(RunFault::NoMemory) => Err(NoMemory),
-        _ => told_index(alloc, maker, table),
+    if is_refused(fault) {
+        return Err(NoMemory);
     }
+    told_index(alloc, maker, table)
+}
+
+/// Whether memory was refused for the reading.
+fn is_refused(fault: Option<RunFault>) -> bool
+    ensures { result ≡ is_refused fault }
+{
+    matches!(fault, Some(RunFault::NoMemory))
 }

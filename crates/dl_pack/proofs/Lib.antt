@@ -1,6 +1,8 @@
+pub mod ByteLemmas
 pub mod BitLemmas
 pub mod ColumnLemmas
 pub mod CutLemmas
+pub mod FaultLemmas
 pub mod FoundLemmas
 pub mod HeadLemmas
 pub mod IndexLemmas

@@ -5,6 +5,7 @@ pub mod Numbering
 pub mod Columns
 pub mod Tables
 pub mod IndexOf
+pub mod Faults
 pub mod Telling
 pub mod Laws
 -- For what a value stands; public contracts name this, and don't rest on how it is said.

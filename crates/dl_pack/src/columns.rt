@@ -1,6 +1,6 @@
 //! The columns of an index, and the bits of is_stmt.
 
-ghost use Rattle.std.specs.Prelude.{◌≡◌, ◌+◌, ◌-◌, ◌<◌, ◌≤◌, ◌^◌, ◌++◌, IfOk, length, map, max, vec_len, replicate};
+ghost use Rattle.std.specs.Prelude.{◌≡◌, ◌+◌, ◌-◌, ◌<◌, ◌≤◌, ◌^◌, ◌++◌, ◌*◌, IfOk, IfSome, length, take, map, max, vec_len, replicate};
 ghost use Rattle.std.specs.List.{flat_map};
 ghost use Rattle.dl_num.specs.Fixed.{little_bytes};
 ghost use Rattle.dl_index.specs.Columns.{size_of};
@@ -9,13 +9,13 @@ ghost use Rattle.dl_stretch.specs.Laws.{AtAddresses};
 ghost use Rattle.dl_pack.specs.Columns.{told_number, number_of, column_of, column_bytes, greatest, least_size, padded};
 ghost use Rattle.dl_pack.specs.Columns.{bit_at, byte_at, statement_bytes};
 ghost use Rattle.dl_pack.specs.Columns.{columns_of, width_by, part_by};
+ghost use Rattle.dl_pack.specs.declared.columns.Column.TheVariants as column;
 ghost use Rattle.dl_pack.specs.Mentioned.{order_of};
 ghost use Rattle.dl_pack.specs.Fits.{NumbersFit};
 
 use crate::mentions::Mentions;
 use dl_index::Width;
 use dl_look::NoMemory;
-use dl_num::{Order, fixed_bytes};
 use dl_stretch::{Stretch, Told};
 
 /// A column of an index.
@@ -29,6 +29,7 @@ pub enum Column {
 }
 
 /// The number that what is told has in a column; 0 of a gap.
+#[inline(always)]
 fn told_number(files: &Mentions, column: Column, told: Option<Told>) -> u64
     ensures { result ≡ told_number (order_of files.now) column told }
 {
@@ -45,6 +46,7 @@ fn told_number(files: &Mentions, column: Column, told: Option<Told>) -> u64
 }
 
 /// The number of a stretch in a column.
+#[inline(always)]
 fn number_of(base: u64, files: &Mentions, column: Column, stretch: &Stretch) -> u64
     ensures number { result ≡ number_of base (order_of files.now) column stretch.now }
     ensures start { stretch.now.start < 2 ^ 64 }
@@ -56,16 +58,45 @@ fn number_of(base: u64, files: &Mentions, column: Column, stretch: &Stretch) -> 
     }
 }
 
-/// The greatest number of a column.
-fn greatest_of(base: u64, files: &Mentions, column: Column, stretches: &[Stretch]) -> u64
-    ensures greatest { result ≡ greatest (column_of base (order_of files.now) column stretches.now) }
+/// The greatest number of each column.
+#[derive(Clone, Copy)]
+struct Greatest {
+    start: u64,
+    file: u64,
+    line: u64,
+    column: u64,
+    discriminator: u64,
+}
+
+/// The greatest numbers of the columns.
+fn greatest_of(base: u64, files: &Mentions, stretches: &[Stretch]) -> Greatest
+    ensures start { result.start ≡ greatest (column_of base (order_of files.now) column.Start stretches.now) }
+    ensures file { result.file ≡ greatest (column_of base (order_of files.now) column.File stretches.now) }
+    ensures line { result.line ≡ greatest (column_of base (order_of files.now) column.Line stretches.now) }
+    ensures column { result.column ≡ greatest (column_of base (order_of files.now) column.Column stretches.now) }
+    ensures discriminator { result.discriminator
+        ≡ greatest (column_of base (order_of files.now) column.Discriminator stretches.now) }
     ensures starts { AtAddresses stretches.now }
 {
-    let mut greatest = 0;
+    let mut start = 0;
+    let mut file = 0;
+    let mut line = 0;
+    let mut column = 0;
+    let mut discriminator = 0;
     for stretch in stretches {
-        greatest = number_of(base, files, column, stretch).max(greatest);
+        start = number_of(base, files, Column::Start, stretch).max(start);
+        file = number_of(base, files, Column::File, stretch).max(file);
+        line = number_of(base, files, Column::Line, stretch).max(line);
+        column = number_of(base, files, Column::Column, stretch).max(column);
+        discriminator = number_of(base, files, Column::Discriminator, stretch).max(discriminator);
     }
-    greatest
+    Greatest {
+        start,
+        file,
+        line,
+        column,
+        discriminator,
+    }
 }
 
 /// The least width of numbers up to this one.
@@ -84,12 +115,13 @@ fn least_width(greatest: u64) -> Width
 }
 
 /// Puts the lowest bytes of a number, the lowest first.
+#[inline(always)]
 pub fn put_number(out: &mut Vec<u8>, size: usize, number: u64) -> Result<(), NoMemory>
     requires { size ≤ 8 }
     ensures { IfOk result (λ _. out.new.items ≡ out.old.items ++ little_bytes size number) }
 {
-    let bytes = fixed_bytes(Order::Little, size, number);
-    match out.extend_from_slice(bytes.as_slice()) {
+    let bytes = number.to_le_bytes();
+    match out.extend_from_slice(&bytes[..size]) {
         Ok(()) => Ok(()),
         Err(_) => Err(NoMemory),
     }
@@ -116,7 +148,8 @@ pub fn put_zeros(out: &mut Vec<u8>, count: usize) -> Result<(), NoMemory>
     }
 }
 
-/// Puts the numbers of a column.
+/// Puts the numbers of a column, in a size that is known where this is compiled.
+#[inline(always)]
 fn put_numbers(
     out: &mut Vec<u8>,
     size: usize,
@@ -129,10 +162,54 @@ fn put_numbers(
     ensures { IfOk result (λ _. out.new.items ≡ out.old.items
         ++ column_bytes size (column_of base (order_of files.now) column stretches.now)) }
 {
-    for stretch in stretches {
-        put_number(out, size, number_of(base, files, column, stretch))?;
+    let start = out.len();
+    let Some(end) = end_of(start, size, stretches.len()) else {
+        return Err(NoMemory);
+    };
+    if out.resize(end, 0).is_err() {
+        return Err(NoMemory);
     }
+    fill_numbers(
+        out.as_mut_slice(),
+        start,
+        size,
+        base,
+        files,
+        column,
+        stretches,
+    );
     Ok(())
+}
+
+/// Where so many numbers of a size end that begin at `start`; None past 2^64.
+#[inline(always)]
+fn end_of(start: usize, size: usize, count: usize) -> Option<usize>
+    ensures { IfSome result (λ end. end ≡ start + count * size) }
+{
+    start.checked_add(count.checked_mul(size)?)
+}
+
+/// Fills the bytes from `start` on with the numbers of a column.
+#[inline(always)]
+fn fill_numbers(
+    bytes: &mut [u8],
+    start: usize,
+    size: usize,
+    base: u64,
+    files: &Mentions,
+    column: Column,
+    stretches: &[Stretch],
+)
+    requires small { size ≤ 8 }
+    requires room { length bytes.old ≡ start + length stretches.now * size }
+    ensures { bytes.new ≡ take start bytes.old
+        ++ column_bytes size (column_of base (order_of files.now) column stretches.now) }
+{
+    for (i, stretch) in stretches.iter().enumerate() {
+        let number = number_of(base, files, column, stretch).to_le_bytes();
+        let place = start + i * size;
+        bytes[place..place + size].copy_from_slice(&number[..size]);
+    }
 }
 
 /// Puts 0 behind a part that begins at `start`, up to a multiple of 8 bytes from there.
@@ -149,24 +226,47 @@ pub fn pad(out: &mut Vec<u8>, start: usize) -> Result<(), NoMemory>
     }
 }
 
-/// Puts a column in its least width, which it answers.
-pub fn put_column(
+/// Puts the numbers of a column in a width.
+#[inline(always)]
+fn put_in_width(
     out: &mut Vec<u8>,
+    width: Width,
     base: u64,
     files: &Mentions,
     column: Column,
     stretches: &[Stretch],
+) -> Result<(), NoMemory>
+    ensures { IfOk result (λ _. out.new.items ≡ out.old.items
+        ++ column_bytes (size_of width) (column_of base (order_of files.now) column stretches.now)) }
+{
+    match width {
+        Width::One => put_numbers(out, 1, base, files, column, stretches),
+        Width::Two => put_numbers(out, 2, base, files, column, stretches),
+        Width::Four => put_numbers(out, 4, base, files, column, stretches),
+        Width::Eight => put_numbers(out, 8, base, files, column, stretches),
+    }
+}
+
+/// Puts a column, whose greatest number is `highest`, in its least width, which it answers.
+#[inline(always)]
+fn put_column(
+    out: &mut Vec<u8>,
+    base: u64,
+    files: &Mentions,
+    column: Column,
+    highest: u64,
+    stretches: &[Stretch],
 ) -> Result<Width, NoMemory>
+    requires { highest ≡ greatest (column_of base (order_of files.now) column stretches.now) }
     ensures width { IfOk result (λ width. size_of width
         ≡ least_size (greatest (column_of base (order_of files.now) column stretches.now))) }
     ensures part { let numbers = column_of base (order_of files.now) column stretches.now in
         IfOk result (λ _. out.new.items ≡ out.old.items ++ padded (column_bytes (least_size (greatest numbers)) numbers)) }
     ensures small { IfOk result (λ _. greatest (column_of base (order_of files.now) column stretches.now) < 2 ^ 64) }
-    ensures starts { IfOk result (λ _. AtAddresses stretches.now) }
 {
     let start = out.len();
-    let width = least_width(greatest_of(base, files, column, stretches));
-    put_numbers(out, width.size(), base, files, column, stretches)?;
+    let width = least_width(highest);
+    put_in_width(out, width, base, files, column, stretches)?;
     pad(out, start)?;
     Ok(width)
 }
@@ -184,11 +284,19 @@ pub fn put_columns(
     ensures small { IfOk result (λ _. NumbersFit base (order_of files.now) stretches.now) }
     ensures starts { IfOk result (λ _. AtAddresses stretches.now) }
 {
-    let starts = put_column(out, base, files, Column::Start, stretches)?;
-    let numbers = put_column(out, base, files, Column::File, stretches)?;
-    let lines = put_column(out, base, files, Column::Line, stretches)?;
-    let columns = put_column(out, base, files, Column::Column, stretches)?;
-    let discriminators = put_column(out, base, files, Column::Discriminator, stretches)?;
+    let highest = greatest_of(base, files, stretches);
+    let starts = put_column(out, base, files, Column::Start, highest.start, stretches)?;
+    let numbers = put_column(out, base, files, Column::File, highest.file, stretches)?;
+    let lines = put_column(out, base, files, Column::Line, highest.line, stretches)?;
+    let columns = put_column(out, base, files, Column::Column, highest.column, stretches)?;
+    let discriminators = put_column(
+        out,
+        base,
+        files,
+        Column::Discriminator,
+        highest.discriminator,
+        stretches,
+    )?;
     Ok([
         starts.size() as u8,
         numbers.size() as u8,

@@ -1,9 +1,10 @@
 //! The bytes of an index.
 
-ghost use Rattle.std.specs.Prelude.{◌≡◌, ℕ, ◌<◌, ◌≤◌, ◌++◌, [], length, map, IfOk};
+ghost use Rattle.std.specs.Prelude.{◌≡◌, ℕ, ◌<◌, ◌≤◌, ◌++◌, ◌∷◌, [], length, map, IfOk, IfErr};
 ghost use Rattle.std.specs.List.{All};
 ghost use Rattle.dl_pack.specs.IndexOf.{files_of_stretch, files_told, file_order, text_place, file_places, text_order};
 ghost use Rattle.dl_pack.specs.IndexOf.{base_of, body_by, index_by, index_of};
+ghost use Rattle.dl_pack.specs.Faults.{MentionFails, PackFails};
 ghost use Rattle.dl_pack.specs.Columns.{columns_of, width_by};
 ghost use Rattle.dl_pack.specs.Tables.{texts_at, total_len};
 ghost use Rattle.dl_pack.specs.Numbering.{mentioned};
@@ -29,6 +30,7 @@ use std::alloc::Global;
 fn mention_told(files: &mut Mentions, stretch: &Stretch) -> Result<(), PackFault>
     ensures order { IfOk result (λ _. order_of files.new ≡ mentioned (order_of files.old) (files_of_stretch stretch.now)) }
     ensures within { IfOk result (λ _. All (λ file. file < count_of files.old) (files_of_stretch stretch.now)) }
+    ensures fails { IfErr result (MentionFails (count_of files.old) (stretch.now ∷ [])) }
     ensures count { count_of files.new ≡ count_of files.old }
 {
     let Some(told) = stretch.told else {
@@ -47,6 +49,7 @@ fn mention_told(files: &mut Mentions, stretch: &Stretch) -> Result<(), PackFault
 fn mention_files(alloc: Global, stretches: &[Stretch], names: &Names) -> Result<Mentions, PackFault>
     ensures order { IfOk result (λ files. order_of files ≡ file_order stretches.now) }
     ensures within { IfOk result (λ _. All (λ file. file < length (files_of names.now)) (files_told stretches.now)) }
+    ensures fails { IfErr result (MentionFails (length (files_of names.now)) stretches.now) }
 {
     let Ok(mut files) = Mentions::new(alloc, names.file_count()) else {
         return Err(PackFault::NoMemory);
@@ -163,6 +166,9 @@ fn made(
 
 /// The bytes of the index of stretches, whose files have these names; `all` where each sequence counts. The build ID has
 /// at most 32 bytes. Where each stretch begins above the one before it, `dl_index::open` opens them.
+///
+/// The faults are `BuildId` where it is longer, `File` where a stretch tells a file that has no name, and else `NoMemory`:
+/// where a growth is refused, and where files or texts would have 2^32 numbers.
 pub fn index_bytes(
     alloc: Global,
     stretches: &[Stretch],
@@ -177,6 +183,7 @@ pub fn index_bytes(
     ensures opens { IfOk result (λ bytes. StretchesRise stretches.now → IsIndex bytes.items) }
     ensures tells { IfOk result (λ bytes. StretchesRise stretches.now
         → stretches_in bytes.items ≡ map (named_stretch (named_files names.now)) stretches.now) }
+    ensures fails { IfErr result (PackFails build_id.now (length (files_of names.now)) stretches.now) }
 {
     if build_id.len() > 32 {
         return Err(PackFault::BuildId);

@@ -26,6 +26,7 @@ use Rattle.dl_stretch.specs.Stretches.{last_begun}
 use Rattle.dl_stretch.specs.Runs.{place_at, first_address, told_of, as_given, run_told_at}
 use Rattle.dl_stretch.specs.Laws.{CoversAddresses, CoversLast, LastRowBegun}
 use Rattle.dl_stretch.specs.RowRuns.{RunsRise, StartsRise, AreRunsOf}
+use Rattle.dl_stretch.specs.Made.{is_same}
 use Rattle.dl_stretch.proofs.LastBegun.{last_begun-push, rise_push, rise_front, front_below, rise_at}
 
 pub at_most_begun : (p : Place) (a : ℕ) → is_at_most p (place_at a) ≡ nat_le (first_address p) a
@@ -247,13 +248,7 @@ told file line column discriminator is_stmt = record {
   is_stmt = is_stmt;
 }
 
--- the test of what is told
-abbrev pub told_test : Told → Told → Bool
-told_test t u =
-    eqb t.file u.file && (eqb t.line u.line && (eqb t.column u.column
-    && (eqb t.discriminator u.discriminator && beq t.is_stmt u.is_stmt)))
-
-pub same_told : (t u : Told) → told_test t u ≡ true → t ≡ u
+pub same_told : (t u : Told) → is_same t u ≡ true → t ≡ u
 same_told t u h =
     let p = and_parts (eqb t.file u.file) (eqb t.line u.line && (eqb t.column u.column
     && (eqb t.discriminator u.discriminator && beq t.is_stmt u.is_stmt))) h in
@@ -271,7 +266,7 @@ flag_itself : (b : Bool) → beq b b ≡ true
 flag_itself true = refl
 flag_itself false = refl
 
-told_itself : (t : Told) → told_test t t ≡ true
+told_itself : (t : Told) → is_same t t ≡ true
 told_itself t =
     and_from (eqb t.file t.file) _ (eq-eqb t.file t.file refl)
     (and_from (eqb t.line t.line) _ (eq-eqb t.line t.line refl)
@@ -280,16 +275,16 @@ told_itself t =
     (flag_itself t.is_stmt))))
 
 -- the same of what may be told
-pub same_option : (o p : Option Told) → option_eq told_test o p ≡ true → o ≡ p
+pub same_option : (o p : Option Told) → option_eq is_same o p ≡ true → o ≡ p
 same_option None None h = refl
 same_option None (Some u) h = cc
 same_option (Some t) None h = cc
 same_option (Some t) (Some u) h = ap (λ t. Some t) (same_told t u h)
 
-option_itself : (o : Option Told) → option_eq told_test o o ≡ true
+option_itself : (o : Option Told) → option_eq is_same o o ≡ true
 option_itself None = refl
 option_itself (Some t) = told_itself t
 
-pub other_option : (o p : Option Told) → option_eq told_test o p ≡ false → o ≢ p
+pub other_option : (o p : Option Told) → option_eq is_same o p ≡ false → o ≢ p
 other_option o p h e =
-    absurd (false≢true (sym h ∙ ap (λ q. option_eq told_test o q) (sym e) ∙ option_itself o))
+    absurd (false≢true (sym h ∙ ap (λ q. option_eq is_same o q) (sym e) ∙ option_itself o))

@@ -1,6 +1,7 @@
 -- Stretches while they are made. No promise rests on this file.
-use Rattle.std.specs.Prelude.{◌≡◌, ℕ, ◌<◌, ◌^◌, false, if◌then◌else◌, nat_lt, min, List, [], ◌∷◌, length, slice_index_or}
+use Rattle.std.specs.Prelude.{◌≡◌, ℕ, ◌<◌, ◌^◌, Bool, ◌&&◌, ◌==◌, false, if◌then◌else◌, nat_lt, min, List, [], ◌∷◌, length, slice_index_or}
 use Rattle.std.specs.Prelude.{Option, None}
+use Rattle.std.specs.Bool.{beq}
 use Rattle.std.specs.List.{All}
 use Rattle.dl_look.specs.declared.cuts.Cut.{Cut}
 use Rattle.dl_look.specs.Cuts.{cut_place}
@@ -22,6 +23,12 @@ pub record AreMade (f : ℕ → Option Told) (stretches : List Stretch) (end : �
   pub apart : Neighbours Apart stretches
   pub first : is_gap_first stretches ≡ false
   pub below : All (λ (s : Stretch). s.start < end) stretches
+
+-- the test that two tell the same
+abbrev pub is_same : Told → Told → Bool
+is_same t u =
+    (t.file == u.file) && ((t.line == u.line) && ((t.column == u.column)
+    && ((t.discriminator == u.discriminator) && beq t.is_stmt u.is_stmt)))
 
 abbrev pub no_told : Told
 no_told = record { file = 0; line = 0; column = 0; discriminator = 0; is_stmt = false }

@@ -21,6 +21,7 @@ pub struct Run {
 }
 
 /// The first address whose place isn't below this one; None where there is none.
+#[inline(always)]
 pub(crate) fn address_from(place: Place) -> Option<u64>
     ensures { MatchOption result (first_address place ≡ 2 ^ 64)
         (λ a. (a ≡ first_address place) × (first_address place < 2 ^ 64)) }
@@ -33,6 +34,7 @@ pub(crate) fn address_from(place: Place) -> Option<u64>
 }
 
 /// One more row of a rising sequence. Where a growth is refused nothing changes.
+#[inline(always)]
 pub(crate) fn push_row(runs: &mut Vec<Run>, row: &Row) -> Result<(), NoMemory>
     ensures same { OnErr result (runs.new.items ≡ runs.old.items) }
     ensures pushed { IfOk result (λ _. (rows : List each.Row) → AreRunsOf rows runs.old.items
@@ -53,7 +55,7 @@ pub(crate) fn push_row(runs: &mut Vec<Run>, row: &Row) -> Result<(), NoMemory>
             runs[count - 1] = run;
             return Ok(());
         }
-        if last.told == run.told {
+        if last.told.is_same(run.told) {
             return Ok(());
         }
     }

@@ -25,6 +25,7 @@ impl RunSpans {
     ghost use Rattle.std.specs.Prelude.{◌≡◌, ◌&&◌, ℕ, ◌<◌, ◌^◌, IfOk, if◌then◌else◌, List, [], Some, None};
     ghost use Rattle.std.specs.Option.{option_or, option_map};
     ghost use Rattle.dl_look.specs.Answer.{is_at_most, is_below};
+    ghost use Rattle.dl_stretch.specs.Laws.{AtAddresses};
     ghost use Rattle.dl_stretch.specs.Runs.{place_at, run_told_at, number_in, renumbered};
     ghost use Rattle.dl_stretch.specs.Sequences.{TellFrom};
     ghost use Rattle.dl_stretch.specs.Spans.{answer_of};
@@ -97,8 +98,9 @@ impl RunSpans {
 
     /// The stretches of what the spans answer.
     pub fn stretches(&self, alloc: Global) -> Result<Vec<Stretch>, NoMemory>
-        ensures { IfOk result (λ stretches.
+        ensures are { IfOk result (λ stretches.
             AreStretches (answer_of self.now.runs.items self.now.spans.items) stretches.items) }
+        ensures starts { IfOk result (λ stretches. AtAddresses stretches.items) }
     {
         stretches_of(alloc, self.runs.as_slice(), self.spans.as_slice())
     }

@@ -17,10 +17,11 @@ use std::alloc::Global;
 ///
 /// Where a growth is refused a call answers `NoMemory`, and nothing more is promised of the runs.
 ///
-/// Kept are 48 bytes for each run, at most one for each row of a live rising sequence, and 56 for each such sequence.
-/// A row takes constant time.
+/// Kept are 48 bytes for each run, at most one for each row of a live rising sequence, and 56 for each such sequence. Those
+/// of a unit are kept twice for a moment where it ends. A row takes constant time.
 #[derive(Drop)]
 pub struct Runs {
+    alloc: Global,
     /// Of the units that have ended.
     whole: RunSpans,
     /// Of the current unit.
@@ -32,6 +33,7 @@ impl Runs {
     ghost use Rattle.std.specs.Prelude.{◌≡◌, ◌↔◌, ℕ, Bool, IfOk, IsTrue, List, [], ◌∷◌, ◌++◌};
     ghost use Rattle.dl_rows.specs.declared.row.Row as each;
     ghost use Rattle.dl_look.specs.FinderRows.{unended};
+    ghost use Rattle.dl_stretch.specs.Laws.{AtAddresses};
     ghost use Rattle.dl_stretch.specs.Runs.{number_in};
     ghost use Rattle.dl_stretch.specs.Stands.{Stands};
     ghost use Rattle.dl_stretch.specs.Stretches.{AreStretches};
@@ -42,6 +44,7 @@ impl Runs {
         ensures { (live : ℕ → Bool) → Stands live result [] [] }
     {
         Runs {
+            alloc,
             whole: RunSpans::new(alloc),
             unit: UnitRuns::new(alloc),
             live: LiveRows::new(),
@@ -59,6 +62,7 @@ impl Runs {
 
     /// Takes the next row of the current unit. `live` says of a sequence that begins with this row whether there is
     /// code at its address, and isn't looked at for other rows.
+    #[inline(always)]
     pub fn row(&mut self, row: &Row, live: bool) -> Result<(), NoMemory>
         ensures { IfOk result (λ _. (is_live : ℕ → Bool) (units : List UnitRows) (rows : List each.Row)
             → Stands is_live self.old units rows → (unended rows ≡ [] → live ≡ is_live row.now.address)
@@ -104,11 +108,22 @@ impl Runs {
         self.live = LiveRows::new();
     }
 
-    /// The stretches of what the units tell that have ended. It takes time in proportion to the runs, and to the
+    /// Gives back the memory that was taken for the rows of a unit, before stretches are made. The rows of the current
+    /// unit don't count.
+    pub fn give_back(&mut self)
+        ensures { (live : ℕ → Bool) (units : List UnitRows) (rows : List each.Row) → Stands live self.old units rows
+            → Stands live self.new units [] }
+    {
+        self.unit = UnitRuns::new(self.alloc);
+        self.live = LiveRows::new();
+    }
+
+    /// The stretches of what the units tell that have ended, each of which begins at an address. It takes time in proportion to the runs, and to the
     /// sequences times the logarithm of their number, but for little.
     pub fn stretches(&self, alloc: Global) -> Result<Vec<Stretch>, NoMemory>
-        ensures { IfOk result (λ stretches. (live : ℕ → Bool) (units : List UnitRows) (rows : List each.Row)
+        ensures are { IfOk result (λ stretches. (live : ℕ → Bool) (units : List UnitRows) (rows : List each.Row)
             → Stands live self.now units rows → AreStretches (told_of_units live units) stretches.items) }
+        ensures starts { IfOk result (λ stretches. AtAddresses stretches.items) }
     {
         self.whole.stretches(alloc)
     }

@@ -50,6 +50,7 @@ impl SequenceRuns {
     }
 
     /// Takes the next row of the sequence.
+    #[inline(always)]
     pub fn row(&mut self, row: &Row) -> Result<(), NoMemory>
         ensures { IfOk result (λ _. (rows : List each.Row) → Keeps self.old.state self.old.runs.items rows
             → Keeps self.new.state self.new.runs.items (rows ++ row.now ∷ [])) }
@@ -112,8 +113,10 @@ impl SequenceRuns {
 }
 
 /// Whether the place isn't above the other.
+#[inline(always)]
 fn is_at_most(place: Place, other: Place) -> bool
     ensures { result ≡ is_at_most place other }
 {
-    place <= other
+    place.address < other.address
+        || place.address == other.address && place.op_index <= other.op_index
 }

@@ -2,7 +2,8 @@
 
 ghost use Rattle.std.specs.Prelude.{◌≡◌, ℕ, ◌<◌, ◌≤◌, IfOk, Option};
 ghost use Rattle.dl_stretch.specs.declared.told.Told as said;
-ghost use Rattle.dl_stretch.specs.Made.{AreMade, last_told};
+ghost use Rattle.std.specs.Option.{option_eq};
+ghost use Rattle.dl_stretch.specs.Made.{AreMade, is_same, last_told};
 
 use crate::told::Told;
 use dl_look::NoMemory;
@@ -18,6 +19,7 @@ pub struct Stretch {
 
 /// From the address `start` on this is told, as far as the stretches are made then. It becomes a stretch where it
 /// isn't what the last stretch tells.
+#[inline(always)]
 pub(crate) fn push(
     stretches: &mut Vec<Stretch>,
     start: u64,
@@ -26,7 +28,7 @@ pub(crate) fn push(
     ensures { IfOk result (λ _. (f : ℕ → Option said.Told) (end : ℕ) → AreMade f stretches.old.items start
         → start < end → ((a : ℕ) → start ≤ a → a < end → f a ≡ told) → AreMade f stretches.new.items end) }
 {
-    if last_told(stretches.as_slice()) == told {
+    if is_same(last_told(stretches.as_slice()), told) {
         return Ok(());
     }
     match stretches.push(Stretch { start, told }) {
@@ -36,8 +38,21 @@ pub(crate) fn push(
 }
 
 /// What the last stretch tells; None of a gap, and where there is no stretch.
+#[inline(always)]
 fn last_told(stretches: &[Stretch]) -> Option<Told>
     ensures { result ≡ last_told stretches.now }
 {
     stretches.last()?.told
+}
+
+/// Whether both are gaps, or tell the same.
+#[inline(always)]
+fn is_same(told: Option<Told>, other: Option<Told>) -> bool
+    ensures { result ≡ option_eq is_same told other }
+{
+    match (told, other) {
+        (Some(told), Some(other)) => told.is_same(other),
+        (None, None) => true,
+        _ => false,
+    }
 }

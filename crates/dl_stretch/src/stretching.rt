@@ -3,6 +3,7 @@
 ghost use Rattle.std.specs.Prelude.{◌≡◌, ℕ, ◌+◌, ◌<◌, ◌≤◌, IfOk, Option, length, slice_index_or};
 ghost use Rattle.dl_look.specs.Cuts.{no_span};
 ghost use Rattle.dl_stretch.specs.declared.told.Told as said;
+ghost use Rattle.dl_stretch.specs.Laws.{AtAddresses};
 ghost use Rattle.dl_stretch.specs.Made.{AreMade, start_at};
 ghost use Rattle.dl_stretch.specs.RowRuns.{RunsRise};
 ghost use Rattle.dl_stretch.specs.Runs.{run_told_at};
@@ -18,10 +19,14 @@ use std::alloc::Global;
 /// The stretches of what the spans answer, each of which has its runs among these.
 pub fn stretches_of(alloc: Global, runs: &[Run], spans: &[Span]) -> Result<Vec<Stretch>, NoMemory>
     requires { AreSound runs.now spans.now }
-    ensures { IfOk result (λ stretches. AreStretches (answer_of runs.now spans.now) stretches.items) }
+    ensures are { IfOk result (λ stretches. AreStretches (answer_of runs.now spans.now) stretches.items) }
+    ensures starts { IfOk result (λ stretches. AtAddresses stretches.items) }
 {
     let cuts = cuts_of(alloc, spans)?;
-    let mut stretches = Vec::new(alloc);
+    let most = runs.len().saturating_add(cuts.len());
+    let Ok(mut stretches) = Vec::with_capacity(alloc, most) else {
+        return Err(NoMemory);
+    };
     for i in 0..cuts.len() {
         let Some(reach) = reach_of(cuts.as_slice(), i) else {
             continue;

@@ -19,6 +19,7 @@ pub struct Told {
 
 impl Told {
     ghost use Rattle.std.specs.Prelude.{◌≡◌};
+    ghost use Rattle.dl_stretch.specs.Made.{is_same};
     ghost use Rattle.dl_stretch.specs.Runs.{told_of, as_given, renumbered, number_in};
 
     /// What a row tells, with the number of its file as the row gives it.
@@ -35,7 +36,20 @@ impl Told {
         }
     }
 
+    /// Whether both tell the same.
+    #[inline(always)]
+    pub(crate) fn is_same(self, other: Told) -> bool
+        ensures { result ≡ is_same self other }
+    {
+        self.file == other.file
+            && self.line == other.line
+            && self.column == other.column
+            && self.discriminator == other.discriminator
+            && self.is_stmt == other.is_stmt
+    }
+
     /// The same, with the number that the list has for its file; `other` where the list ends before it.
+    #[inline(always)]
     pub(crate) fn renumbered(self, numbers: &[u64], other: u64) -> Told
         ensures { result ≡ renumbered (number_in numbers.now other) self }
     {

@@ -18,6 +18,7 @@ pub struct UnitRuns {
 impl UnitRuns {
     ghost use Rattle.std.specs.Prelude.{◌≡◌, IfOk, true, List, [], ◌∷◌, ◌++◌};
     ghost use Rattle.dl_rows.specs.declared.row.Row as each;
+    ghost use Rattle.dl_look.specs.Answer.{place_of};
     ghost use Rattle.dl_stretch.specs.Stands.{Holds};
 
     /// No row yet.
@@ -31,36 +32,28 @@ impl UnitRuns {
     }
 
     /// Takes the next row.
+    #[inline(always)]
     pub fn row(&mut self, row: &Row) -> Result<(), NoMemory>
         ensures { IfOk result (λ _. (rows : List each.Row) → Holds self.old rows
             → Holds self.new (rows ++ row.now ∷ [])) }
     {
         if row.end_sequence {
-            self.end_sequence(row)
+            self.end_sequence(Place::of(row))
         } else {
             self.sequence.row(row)
         }
     }
 
-    /// Takes an end row.
-    fn end_sequence(&mut self, row: &Row) -> Result<(), NoMemory>
-        requires { row.now.end_sequence ≡ true }
-        ensures { IfOk result (λ _. (rows : List each.Row) → Holds self.old rows
-            → Holds self.new (rows ++ row.now ∷ [])) }
+    /// Takes an end row, by its place.
+    fn end_sequence(&mut self, end: Place) -> Result<(), NoMemory>
+        ensures { IfOk result (λ _. (rows : List each.Row) (row : each.Row) → place_of row ≡ end
+            → row.end_sequence ≡ true → Holds self.old rows → Holds self.new (rows ++ row ∷ [])) }
     {
-        let end = Place::of(row);
         if let Some(first) = self.sequence.first(end) {
             self.spans.add(self.sequence.runs(), first, end)?;
         }
         self.sequence.clear();
         Ok(())
-    }
-
-    /// The spans of the sequences that have ended.
-    pub fn spans(&self) -> &RunSpans
-        ensures { result.now ≡ self.now.spans }
-    {
-        &self.spans
     }
 
     /// Forgets all rows.
@@ -69,5 +62,12 @@ impl UnitRuns {
     {
         self.spans.clear();
         self.sequence.clear();
+    }
+
+    /// The spans of the sequences that have ended.
+    pub fn spans(&self) -> &RunSpans
+        ensures { result.now ≡ self.now.spans }
+    {
+        &self.spans
     }
 }

@@ -4,7 +4,7 @@ use Rattle.dl_print.specs.ValueText.{strings_of}
 use Rattle.dl_run.proofs.Names.{err_from_is_err_and}
 use Rattle.dl_run.specs.Commands.{strings_in}
 use Rattle.dl_making.proofs.MakerLemmas.{begins}
-use Rattle.dl_making.proofs.MakingLemmas.{Knows, fails, makes}
+use Rattle.dl_making.proofs.MakingLemmas.{Knows, fails, makes, was_told}
 use Rattle.dl_making.proofs.making.make_index.Goals as goal
 
 pub returns-in_err-summary : goal.returns-in_err-summary
@@ -41,3 +41,12 @@ returns-in-Ok g c =
           (read.2 (begins first None maker.runs maker.names (Appends-nil None)) (Appends-nil None))
           (λ visits m. c.in-Ok.ensures first None None visits m),
     )
+
+pub told_index-requires : goal.told_index-requires
+told_index-requires g c =
+    let read = c.in_ok-summary.ensures in
+    let maker = c.new-maker.ensures in
+    let options = c.args.options.now in
+    let first = c.new-maker.result in
+    was_told options.dialect first options.limit read.0 (g.R.Read.remaining c.read_units.new.input) c.read_units.new.visitor
+    None None c.in_ok-summary.summary (read.2 (begins first None maker.runs maker.names (Appends-nil None)) (Appends-nil None))

@@ -4,7 +4,7 @@ use Rattle.dl_print.specs.ValueText.{strings_of}
 use Rattle.dl_run.proofs.Names.{err_from_is_err_and}
 use Rattle.dl_run.specs.Commands.{strings_in}
 use Rattle.dl_making.proofs.MakerLemmas.{begins}
-use Rattle.dl_making.proofs.MakingLemmas.{Knows, fails_around, makes_around}
+use Rattle.dl_making.proofs.MakingLemmas.{Knows, fails_around, makes_around, was_told_around}
 use Rattle.dl_making.proofs.making.make_index_around.Goals as goal
 
 pub returns-in_err-survey : goal.returns-in_err-survey
@@ -41,3 +41,12 @@ returns-in-Ok g c =
           (read.2 (begins first None maker.runs maker.names (Appends-nil None)) (Appends-nil None))
           (λ visits m. c.in-Ok.ensures first None None visits m),
     )
+
+pub told_index-requires : goal.told_index-requires
+told_index-requires g c =
+    let read = c.in_ok-survey.ensures in
+    let maker = c.new-maker.ensures in
+    let options = c.args.options.now in
+    let first = c.new-maker.result in
+    was_told_around options.dialect first options.limit read.0 (g.R.Read.remaining c.read_units_around.new.input) c.read_units_around.new.visitor
+    None None c.in_ok-survey.survey (read.2 (begins first None maker.runs maker.names (Appends-nil None)) (Appends-nil None))

@@ -1,6 +1,6 @@
-use Rattle.std.proofs.Common.{◌<◌, ◌∙◌, ap, sym, subst, ℕ, List, [], length, map}
+use Rattle.std.proofs.Common.{◌<◌, arith, ◌∙◌, ap, sym, subst, ℕ, List, [], length, map}
 use Rattle.std.specs.List.{All}
-use Rattle.std.proofs.lemmas.List.{length-map}
+use Rattle.std.proofs.lemmas.List.{length-map, length-take}
 use Rattle.dl_run.specs.RowsTold.{rows_after}
 use Rattle.dl_stretch.specs.declared.stretch.Stretch.{Stretch}
 use Rattle.dl_stretch.specs.ToldUnits.{told_of_units}
@@ -10,14 +10,16 @@ use Rattle.dl_pack.specs.Shown.{files_of, named_files, texts_of}
 use Rattle.dl_pack.specs.Telling.{StretchesRise}
 use Rattle.dl_making.specs.Makes.{id_kept}
 use Rattle.dl_making.specs.Making.{code_of, told_after}
+use Rattle.dl_pack.specs.Faults.{TellsUnnamed}
 use Rattle.dl_making.proofs.IndexLemmas.{is_index_of, rise}
+use Rattle.dl_making.proofs.NamedFiles.{none_unnamed}
 use Rattle.dl_making.proofs.making.told_index.Goals as goal
 
 pub returns-in-Ok : goal.returns-in-Ok
 returns-in-Ok c first start held visits m =
     let t = m.tells c.if-maker.false in
     let names = c.args.maker.now.names in
-    let are = c.in_ok-stretches.ensures (code_of first) t.units (rows_after [] visits) t.stands in
+    let are = c.in_ok-stretches.ensures.are (code_of first) t.units [] (c.give_back.ensures (code_of first) t.units (rows_after [] visits) t.stands) in
     let stretches = c.in_ok-stretches.stretches.items in
     let here = c.as_slice.ensures.value in
     let made = c.in-Ok.ensures in
@@ -32,3 +34,23 @@ returns-in-Ok c first start held visits m =
     (made.made
     ∙ ap (λ l. index_of c.args.table.now.all c.front.result.now l (files_of names) (texts_of names)) here
     ∙ ap (λ id. index_of c.args.table.now.all id stretches (files_of names) (texts_of names)) c.front.ensures)
+
+pub unreachable-requires : goal.unreachable-requires
+unreachable-requires c =
+    let first = c.requires.0 in
+    let visits = c.requires.3 in
+    let t = c.requires.4.tells c.if-maker.false in
+    let names = c.args.maker.now.names in
+    let stretches = c.in_ok-stretches.stretches.items in
+    let are = c.in_ok-stretches.ensures.are (code_of first) t.units [] (c.give_back.ensures (code_of first) t.units (rows_after [] visits) t.stands) in
+    let fails = rw c.in-Err-File.field-0-is at c.in-Err-File.ensures.fails in
+    none_unnamed (named_files names) (told_of_units (code_of first) t.units) (told_after first visits) stretches are
+    c.in_ok-stretches.ensures.starts t.tells
+    (subst (λ n. TellsUnnamed n stretches) (sym (length-map (files_of names) (named (texts_of names))))
+    (subst (TellsUnnamed (length (files_of names))) c.as_slice.ensures.value fails.1))
+
+pub unreachable-requires-in-Err-BuildId : goal.unreachable-requires-in-Err-BuildId
+unreachable-requires-in-Err-BuildId c =
+    let fails = rw c.in-Err-BuildId.field-0-is at c.in-Err-BuildId.ensures.fails in
+    let short = ap length c.front.ensures in
+    omega (arith, fails, short, length-take 32 c.args.table.now.build_id.now)

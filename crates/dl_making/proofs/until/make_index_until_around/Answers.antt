@@ -1,10 +1,11 @@
-use Rattle.std.proofs.Common.{None, ap, ◌∙◌}
+use Rattle.std.proofs.Common.{None, ap, sym, ◌∙◌}
 use Rattle.std.proofs.KnownBytes.{Appends-nil}
 use Rattle.dl_print.specs.ValueText.{strings_of}
 use Rattle.dl_run.specs.Commands.{strings_in}
+use Rattle.dl_making.specs.Until.{is_refused}
 use Rattle.dl_making.proofs.MakerLemmas.{begins}
 use Rattle.dl_making.proofs.MakingLemmas.{Knows}
-use Rattle.dl_making.proofs.UntilLemmas.{until_around, refused_by}
+use Rattle.dl_making.proofs.UntilLemmas.{told_until_around, until_around, refused_by}
 use Rattle.dl_making.proofs.until.make_index_until_around.Goals as goal
 
 pub returns : goal.returns
@@ -24,3 +25,14 @@ returns g c =
           (λ e. c.index_until.ensures.refused (refused_by ended c.err.result c.err.ensures.value e))
           (read.2 (begins first None maker.runs maker.names (Appends-nil None)) (Appends-nil None)),
     )
+
+pub index_until-requires : goal.index_until-requires
+index_until-requires g c =
+    let read = c.read_units_around-ended.ensures in
+    let maker = c.new-maker.ensures in
+    let first = c.new-maker.result in
+    let ended = c.read_units_around-ended.result in
+    λ some. told_until_around c.args.options.now.dialect first c.args.options.now.limit read.0
+        (g.R.Read.remaining c.read_units_around-ended.new.input) c.read_units_around-ended.new.visitor None None ended
+        (ap is_refused (sym c.err.ensures.value) ∙ some)
+        (read.2 (begins first None maker.runs maker.names (Appends-nil None)) (Appends-nil None))

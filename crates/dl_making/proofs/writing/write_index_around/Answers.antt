@@ -1,4 +1,4 @@
-use Rattle.std.proofs.Common.{◌∙◌, subst}
+use Rattle.std.proofs.Common.{subst}
 use Rattle.std.specs.Io.KnownBytes.{Appends}
 use Rattle.dl_print.specs.Output.{TellsOut}
 use Rattle.dl_run.specs.Commands.{strings_in}

@@ -14,14 +14,14 @@ use Rattle.dl_stretch.proofs.stretching.stretches_of.Goals.{in-None+in_ok-push-i
 
 pub loop-i-init : goal.loop-i-init
 loop-i-init c =
-    rw c.new-stretches.ensures.items (none_first c.args.runs.now c.args.spans.now c.in_ok-cuts.cuts.items
+    rw c.in-Ok.ensures.items (none_first c.args.runs.now c.args.spans.now c.in_ok-cuts.cuts.items
     c.in_ok-cuts.ensures)
 
-pub loop-i-preserved-in_default : goal.loop-i-preserved-in_default
-loop-i-preserved-in_default c =
+pub loop-i-preserved-in_default-reach_of : goal.loop-i-preserved-in_default-reach_of
+loop-i-preserved-in_default-reach_of c =
     let same = c.as_slice.ensures.value in
     none_between c.args.runs.now c.args.spans.now c.in_ok-cuts.cuts.items c.in_ok-cuts.ensures
-    c.loop-i.stretches.items c.loop-i.i (rw same at c.in_default.ensures) c.loop-i.invariant
+    c.loop-i.stretches.items c.loop-i.i (rw same at c.in_default-reach_of.ensures) c.loop-i.invariant
 
 pub runs_of-requires-clause-within : goal.runs_of-requires-clause-within
 runs_of-requires-clause-within c =
@@ -70,11 +70,17 @@ loop-i-preserved c =
           gap_between runs spans cuts c.in_ok-cuts.ensures i a lt is (omega (arith, from, le)) under)))
     ]
 
-pub returns : goal.returns
-returns c =
-    let cuts = c.in_ok-cuts.cuts.items in
-    let f = answer_of c.args.runs.now c.args.spans.now in
-    all_made f c.loop-i.stretches.items (made_same f c.loop-i.stretches.items (cut_start cuts c.loop-i.i) (2 ^ 64)
-    c.loop-i.invariant
-    (start_past c.args.runs.now c.args.spans.now cuts c.in_ok-cuts.ensures c.loop-i.i
+pub returns-clause-are : goal.returns-clause-are
+returns-clause-are c =
+    all_made (answer_of c.args.runs.now c.args.spans.now) c.loop-i.stretches.items
+    (made_same (answer_of c.args.runs.now c.args.spans.now) c.loop-i.stretches.items
+    (cut_start c.in_ok-cuts.cuts.items c.loop-i.i) (2 ^ 64) c.loop-i.invariant
+    (start_past c.args.runs.now c.args.spans.now c.in_ok-cuts.cuts.items c.in_ok-cuts.ensures c.loop-i.i
     (omega (arith, c.in_ok-cuts.cuts.ok.0))))
+
+pub returns-clause-starts : goal.returns-clause-starts
+returns-clause-starts c =
+    (made_same (answer_of c.args.runs.now c.args.spans.now) c.loop-i.stretches.items
+    (cut_start c.in_ok-cuts.cuts.items c.loop-i.i) (2 ^ 64) c.loop-i.invariant
+    (start_past c.args.runs.now c.args.spans.now c.in_ok-cuts.cuts.items c.in_ok-cuts.ensures c.loop-i.i
+    (omega (arith, c.in_ok-cuts.cuts.ok.0)))).below

@@ -12,7 +12,7 @@ pub returns-then-takes : goal.returns-then-takes
 returns-then-takes c =
     let old = c.args.self.now in
     let r = c.args.row.now in
-    let new : Runs = record { whole = old.whole; unit = c.row.new.self; live = c.takes.new.self } in
+    let new : Runs = record { alloc = old.alloc; whole = old.whole; unit = c.row.new.self; live = c.takes.new.self } in
     IfOk-weaker c.row.result
     (λ _. (rows : List Row) → Holds old.unit rows → Holds new.unit (rows ++ r ∷ []))
     (λ _. (is_live : ℕ → Bool) (units : List UnitRows) (rows : List Row) → Stands is_live old units rows

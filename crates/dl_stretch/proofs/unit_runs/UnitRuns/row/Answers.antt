@@ -1,6 +1,7 @@
-use Rattle.std.proofs.Common.{◌∷◌, ◌++◌, [], List, refl}
+use Rattle.std.proofs.Common.{◌≡◌, ◌∷◌, ◌++◌, [], List, true, refl, sym}
 use Rattle.std.proofs.lemmas.Result.{IfOk-weaker}
 use Rattle.dl_rows.specs.declared.row.Row.{Row}
+use Rattle.dl_look.specs.Answer.{place_of}
 use Rattle.dl_look.specs.FinderRows.{unended}
 use Rattle.dl_stretch.specs.Sequences.{Keeps}
 use Rattle.dl_stretch.specs.Stands.{Holds}
@@ -18,3 +19,13 @@ returns-else-row c =
     → Keeps new.sequence.state new.sequence.runs.items (rows ++ r ∷ []))
     (λ _. (rows : List Row) → Holds old rows → Holds new (rows ++ r ∷ []))
     (λ _ keeps rows holds. goes_on old new rows r c.if-row.false holds refl (keeps (unended rows))) c.row.ensures
+
+pub returns-then-row : goal.returns-then-row
+returns-then-row c =
+    let old = c.args.self.now in
+    let r = c.args.row.now in
+    IfOk-weaker c.end_sequence.result
+    (λ _. (rows : List Row) (row : Row) → place_of row ≡ c.of.result → row.end_sequence ≡ true → Holds old rows
+    → Holds c.end_sequence.new.self (rows ++ row ∷ []))
+    (λ _. (rows : List Row) → Holds old rows → Holds c.end_sequence.new.self (rows ++ r ∷ []))
+    (λ _ ended rows holds. ended rows r (sym c.of.ensures) c.if-row.true holds) c.end_sequence.ensures
