@@ -13,9 +13,15 @@ ghost use Rattle.dl_calls.specs.FindCalls.{Finds, place_at};
 ghost use Rattle.dl_calls.specs.PathCalls.{TellsPath, both_strings};
 ghost use Rattle.dl_calls.specs.PathsCalls.{TellsPaths};
 ghost use Rattle.dl_calls.specs.Records.{status_code};
-ghost use Rattle.dl_calls.specs.UnitCalls.{Describes, Lists, written_over};
+ghost use Rattle.dl_calls.specs.UnitCalls.{Describes, Lists, length_told, written_over};
+ghost use Rattle.dl_index_calls.specs.IndexFaultCalls as index_faults;
+ghost use Rattle.dl_index_calls.specs.IndexFindCalls.{FindsMany, FindsOne};
+ghost use Rattle.dl_index_calls.specs.IndexPathCalls.{path_told};
+ghost use Rattle.dl_index_calls.specs.OpenCalls.{Opens, OpensUnchecked};
+ghost use Rattle.dl_index_calls.specs.StretchCalls.{ListsStretch};
 
 use dl_calls::{Counts, FaultRecord, Place, RowRecord, UnitRecord};
+use dl_index_calls::{IndexFaultRecord, IndexRecord, LocationRecord};
 use std::alloc::Global;
 
 /// As `dl_calls::check`.
@@ -177,4 +183,93 @@ pub extern "C" fn boxantrel_fault_text(fault: &FaultRecord, text: &mut [u8]) -> 
     ensures few { result ≤ 128 }
 {
     dl_calls::fault_text(fault, text)
+}
+
+/// As `dl_index_calls::open`.
+#[unsafe(no_mangle)]
+pub extern "C" fn boxantrel_index_open(
+    bytes: &[u8],
+    index: &mut IndexRecord,
+    fault: &mut IndexFaultRecord,
+) -> u32
+    ensures { (status : Status) × (result ≡ status_code status)
+        × Opens bytes.now index.old index.new fault.old fault.new status }
+{
+    dl_index_calls::open(bytes, index, fault).code()
+}
+
+/// As `dl_index_calls::open_unchecked`.
+#[unsafe(no_mangle)]
+pub extern "C" fn boxantrel_index_open_unchecked(
+    bytes: &[u8],
+    index: &mut IndexRecord,
+    fault: &mut IndexFaultRecord,
+) -> u32
+    ensures { (status : Status) × (result ≡ status_code status)
+        × OpensUnchecked bytes.now index.old index.new fault.old fault.new status }
+{
+    dl_index_calls::open_unchecked(bytes, index, fault).code()
+}
+
+/// As `dl_index_calls::find`.
+#[unsafe(no_mangle)]
+pub extern "C" fn boxantrel_index_find(
+    bytes: &[u8],
+    address: u64,
+    location: &mut LocationRecord,
+) -> u32
+    ensures { (status : Status) × (result ≡ status_code status)
+        × FindsOne bytes.now address location.old location.new status }
+{
+    dl_index_calls::find(bytes, address, location).code()
+}
+
+/// As `dl_index_calls::find_many`. `dl_index_find_many` hands in one number of addresses and locations.
+#[unsafe(no_mangle)]
+pub extern "C" fn boxantrel_index_find_many(
+    bytes: &[u8],
+    addresses: &[u64],
+    locations: &mut [LocationRecord],
+) -> u32
+    ensures { (status : Status) × (result ≡ status_code status)
+        × FindsMany bytes.now addresses.now locations.old locations.new status }
+{
+    dl_index_calls::find_many(bytes, addresses, locations).code()
+}
+
+/// As `dl_index_calls::stretch`.
+#[unsafe(no_mangle)]
+pub extern "C" fn boxantrel_index_stretch(
+    bytes: &[u8],
+    k: usize,
+    start: &mut u64,
+    last: &mut u64,
+    location: &mut LocationRecord,
+) -> u32
+    ensures { (status : Status) × (result ≡ status_code status)
+        × ListsStretch bytes.now k start.old start.new last.old last.new location.old location.new status }
+{
+    dl_index_calls::stretch(bytes, k, start, last, location).code()
+}
+
+/// As `dl_index_calls::path`.
+#[unsafe(no_mangle)]
+pub extern "C" fn boxantrel_index_path(
+    bytes: &[u8],
+    location: &LocationRecord,
+    path: &mut [u8],
+) -> usize
+    ensures written { path.new ≡ written_over path.old (path_told bytes.now location.now) }
+    ensures len { result ≡ length_told (path_told bytes.now location.now) }
+{
+    dl_index_calls::path(bytes, location, path)
+}
+
+/// As `dl_index_calls::fault_text`.
+#[unsafe(no_mangle)]
+pub extern "C" fn boxantrel_index_fault_text(fault: &IndexFaultRecord, text: &mut [u8]) -> usize
+    ensures written { text.new ≡ written_over text.old (index_faults.told_text fault.now) }
+    ensures len { result ≡ length_told (index_faults.told_text fault.now) }
+{
+    dl_index_calls::fault_text(fault, text)
 }

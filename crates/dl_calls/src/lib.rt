@@ -11,7 +11,7 @@ mod listing;
 mod naming;
 mod paths;
 mod record;
-mod room;
+pub mod room;
 mod status;
 mod stop;
 mod telling;
