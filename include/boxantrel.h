@@ -39,8 +39,11 @@ enum {
     DL_OLDER_2 = 4,     /* of two */
     DL_OLDER_4 = 8,     /* of four */
     DL_OLDER_8 = 16,    /* of eight */
-    DL_KEEP_GOING = 128 /* dl_check and dl_find_all go on after a damaged unit whose initial length is good, with the unit
-                           that begins where this length says; the other calls take no notice of it */
+    DL_ALL = 64,        /* only for dl_index_build and the calls beside it: each sequence counts, one that begins where there
+                           is no code too */
+    DL_KEEP_GOING = 128 /* dl_check, dl_find_all, dl_index_build and the calls beside it go on after a damaged unit whose
+                           initial length is good, with the unit that begins where this length says; the other calls take
+                           no notice of it */
 };
 
 /* How a call ends. */
@@ -86,14 +89,25 @@ enum {
     DL_EXTENDED_EMPTY = 14,   /* an extended opcode has the length 0 */
     DL_EXTENDED_LENGTH = 15,  /* the operand of an extended opcode doesn't fill its length */
     DL_OPCODE_OVERRUN = 16,   /* the unit ends inside an opcode */
-    DL_TRUNCATED = 17         /* the section ends inside a unit */
+    DL_TRUNCATED = 17,        /* the section ends inside a unit */
+
+    /* of an ELF file, which dl_index_build tells; the offset and the detail are 0 where nothing is said of them */
+    DL_NOT_ELF = 32,            /* the bytes don't begin with the header of an ELF file */
+    DL_DAMAGED_ELF = 33,        /* something lies outside the file, or doesn't fit what it stands in */
+    DL_NO_LINE_SECTION = 34,    /* there is no section with a line table */
+    DL_COMPRESSED = 35,         /* a section is compressed otherwise than with zlib */
+    DL_DAMAGED_STREAM = 36,     /* a compressed section is damaged at this offset of it */
+    DL_UNKNOWN_RELOCATION = 37, /* an object file has a relocation, whose number is the detail, that isn't known */
+    DL_RELOCATION_OUTSIDE = 38, /* a relocation changes bytes outside its section */
+    DL_SECTION_TOO_LONG = 39    /* the line section has more than 2^44 bytes, or a string section more than 2^32 */
 };
 
 /*
  * Writes the text of a fault, as far as there is room: `damage at 0x`, the offset in hexadecimal, a colon, a space, and
  * what is wrong in words, as `dwline` prints them. No zero byte comes after it. The answer is how many bytes the text
  * has, be there room for them or not; room for 128 is always enough. It is 0 where *fault is none that a call writes:
- * its kind isn't 1 to 17, or that of DL_STANDARD_LENGTH with a detail above 255.
+ * its kind isn't one of the above, or that of DL_STANDARD_LENGTH with a detail above 255. From DL_NOT_ELF on the text has
+ * no offset, and doesn't name the section.
  */
 size_t dl_fault_text(const dl_fault *fault, uint8_t *text, size_t room);
 
@@ -313,6 +327,56 @@ size_t dl_index_path(const dl_index *index, const dl_location *location, uint8_t
  * DL_NO_ANSWER: there is no such stretch. DL_FAULT: as of dl_index_find.
  */
 uint32_t dl_index_stretch(const dl_index *index, size_t number, uint64_t *start, uint64_t *last, dl_location *location);
+
+/* Bytes that a call took by malloc. */
+typedef struct {
+    uint8_t *bytes;
+    size_t len;
+} dl_bytes;
+
+/*
+ * Makes the index of an ELF file, whose bytes are handed in (a mapped file, say), as `dwline index` does: of its units of
+ * versions 2 to 5, in compressed sections too, with the directories that .debug_info says, and with its build ID; of those
+ * sequences that begin where the file has code. In an object file the sequences of its code answer. `how`: 0, DL_ALL,
+ * DL_KEEP_GOING or both.
+ * DL_DONE: *index is the index, whose bytes the caller owes dl_index_free. DL_FAULT: *fault is the first fault, of the file or
+ * of its line section; with DL_KEEP_GOING, where units are damaged, *index is written too, and else its bytes are null.
+ * DL_NO_MEMORY: its bytes are null.
+ */
+uint32_t dl_index_build(const uint8_t *file, size_t len, uint8_t how, dl_bytes *index, dl_fault *fault);
+
+/* Gives the bytes of an index back that a call took by malloc; nothing where they are null. */
+void dl_index_free(dl_bytes *index);
+
+/*
+ * The same into room of the caller.
+ * DL_DONE: *made is how many bytes the index has, and out begins with it. DL_NO_ROOM: *made is the same, more than the room
+ * is; nothing else is written. DL_FAULT: *fault is written, and with DL_KEEP_GOING, where units are damaged, *made and the
+ * bytes too; else *made is 0. An index is nearly always shorter than its file.
+ */
+uint32_t dl_index_build_into(const uint8_t *file, size_t len, uint8_t how, uint8_t *out, size_t room, size_t *made,
+                             dl_fault *fault);
+
+/* A range of addresses that have code. */
+typedef struct {
+    uint64_t start; /* the first one */
+    uint64_t size;  /* how many there are */
+} dl_range;
+
+/*
+ * Makes the index of a section: of those sequences that begin in the ranges `code`, which stand in any order, or of all
+ * where there are none. `how`: as of the other calls over a section, and DL_ALL. `line_str` and `str` as of dl_path_at.
+ * The paths stand as the section says them, and the index has no build ID.
+ * As of dl_index_build.
+ */
+uint32_t dl_index_build_section(const uint8_t *section, size_t len, uint8_t how, const uint8_t *line_str,
+                                size_t line_str_len, const uint8_t *str, size_t str_len, const dl_range *code,
+                                size_t code_count, dl_bytes *index, dl_fault *fault);
+
+/* The same into room of the caller, as of dl_index_build_into. */
+uint32_t dl_index_build_section_into(const uint8_t *section, size_t len, uint8_t how, const uint8_t *line_str,
+                                     size_t line_str_len, const uint8_t *str, size_t str_len, const dl_range *code,
+                                     size_t code_count, uint8_t *out, size_t room, size_t *made, dl_fault *fault);
 
 #ifdef __cplusplus
 }

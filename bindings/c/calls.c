@@ -3,6 +3,7 @@
  * elements, and take none that is null: where there is nothing, the address of `nowhere` is handed in.
  */
 #include <boxantrel.h>
+#include <stdlib.h>
 
 uint32_t boxantrel_check(const uint8_t *section, size_t len, uint8_t how, dl_counts *counts, dl_fault *fault);
 uint32_t boxantrel_unit_at(const uint8_t *section, size_t len, uint8_t how, uint64_t offset, dl_unit *unit,
@@ -58,6 +59,13 @@ uint32_t boxantrel_index_stretch(const uint8_t *bytes, size_t len, size_t number
 size_t boxantrel_index_path(const uint8_t *bytes, size_t len, const struct location_record *location, uint8_t *path,
                             size_t room);
 size_t boxantrel_index_fault_text(const dl_index_fault *fault, uint8_t *text, size_t room);
+uint32_t boxantrel_index_build(const uint8_t *file, size_t len, bool all, bool keep_going, uint8_t *room,
+                               size_t room_len, size_t *made, dl_fault *fault);
+uint32_t boxantrel_index_build_section(const uint8_t *section, size_t len, uint8_t how, bool all,
+                                       const uint8_t *line_str, size_t line_str_len, const uint8_t *str, size_t str_len,
+                                       const dl_range *code, size_t code_count, uint8_t *room, size_t room_len,
+                                       size_t *made, dl_fault *fault);
+size_t boxantrel_file_fault_text(uint32_t kind, uint8_t *text, size_t room);
 
 /* Where a pointer of no elements points. Nobody reads or writes it. It is aligned for each type of an element. */
 static uint64_t nowhere;
@@ -130,6 +138,8 @@ uint32_t dl_copy(const uint8_t *section, size_t len, uint8_t how, uint8_t *out, 
 
 size_t dl_fault_text(const dl_fault *fault, uint8_t *text, size_t room)
 {
+    if (fault->kind >= DL_NOT_ELF)
+        return boxantrel_file_fault_text(fault->kind, into(text, room), room);
     return boxantrel_fault_text(fault, into(text, room), room);
 }
 
@@ -231,4 +241,103 @@ uint32_t dl_index_stretch(const dl_index *index, size_t number, uint64_t *start,
 size_t dl_index_fault_text(const dl_index_fault *fault, uint8_t *text, size_t room)
 {
     return boxantrel_index_fault_text(fault, into(text, room), room);
+}
+
+uint32_t dl_index_build_into(const uint8_t *file, size_t len, uint8_t how, uint8_t *out, size_t room, size_t *made,
+                             dl_fault *fault)
+{
+    *made = 0;
+    return boxantrel_index_build(from(file, len), len, (how & DL_ALL) != 0, (how & DL_KEEP_GOING) != 0, into(out, room),
+                                 room, made, fault);
+}
+
+uint32_t dl_index_build_section_into(const uint8_t *section, size_t len, uint8_t how, const uint8_t *line_str,
+                                     size_t line_str_len, const uint8_t *str, size_t str_len, const dl_range *code,
+                                     size_t code_count, uint8_t *out, size_t room, size_t *made, dl_fault *fault)
+{
+    *made = 0;
+    return boxantrel_index_build_section(from(section, len), len, how & ~DL_ALL, (how & DL_ALL) != 0,
+                                         from(line_str, line_str_len), line_str_len, from(str, str_len), str_len,
+                                         from(code, code_count), code_count, into(out, room), room, made, fault);
+}
+
+/* What an index is made of: an ELF file, or a section with its strings and ranges. */
+struct source {
+    bool is_file;
+    const uint8_t *bytes;
+    size_t len;
+    uint8_t how;
+    const uint8_t *line_str;
+    size_t line_str_len;
+    const uint8_t *str;
+    size_t str_len;
+    const dl_range *code;
+    size_t code_count;
+};
+
+static uint32_t build_into(const struct source *source, uint8_t *out, size_t room, size_t *made, dl_fault *fault)
+{
+    if (source->is_file)
+        return dl_index_build_into(source->bytes, source->len, source->how, out, room, made, fault);
+    return dl_index_build_section_into(source->bytes, source->len, source->how, source->line_str, source->line_str_len,
+                                       source->str, source->str_len, source->code, source->code_count, out, room, made,
+                                       fault);
+}
+
+/* Room that an index needs besides as many bytes as its source has, where that is small. */
+#define FIRST_ROOM 4096
+
+/* Takes room for as many bytes as the source has, which is nearly always enough, and gives back what the index leaves of
+   it; where it isn't enough the index is made again, in as much as it wants. */
+static uint32_t build(const struct source *source, dl_bytes *index, dl_fault *fault)
+{
+    size_t room = source->len + FIRST_ROOM;
+    index->bytes = NULL;
+    index->len = 0;
+    for (;;) {
+        uint8_t *bytes = malloc(room);
+        size_t made = 0;
+        if (bytes == NULL)
+            return DL_NO_MEMORY;
+        uint32_t status = build_into(source, bytes, room, &made, fault);
+        if (made != 0 && status != DL_NO_ROOM) {
+            uint8_t *less = realloc(bytes, made);
+            index->bytes = less != NULL ? less : bytes;
+            index->len = made;
+            return status;
+        }
+        free(bytes);
+        if (status != DL_NO_ROOM)
+            return status;
+        room = made;
+    }
+}
+
+uint32_t dl_index_build(const uint8_t *file, size_t len, uint8_t how, dl_bytes *index, dl_fault *fault)
+{
+    struct source source = {.is_file = true, .bytes = file, .len = len, .how = how};
+    return build(&source, index, fault);
+}
+
+uint32_t dl_index_build_section(const uint8_t *section, size_t len, uint8_t how, const uint8_t *line_str,
+                                size_t line_str_len, const uint8_t *str, size_t str_len, const dl_range *code,
+                                size_t code_count, dl_bytes *index, dl_fault *fault)
+{
+    struct source source = {.bytes = section,
+                            .len = len,
+                            .how = how,
+                            .line_str = line_str,
+                            .line_str_len = line_str_len,
+                            .str = str,
+                            .str_len = str_len,
+                            .code = code,
+                            .code_count = code_count};
+    return build(&source, index, fault);
+}
+
+void dl_index_free(dl_bytes *index)
+{
+    free(index->bytes);
+    index->bytes = NULL;
+    index->len = 0;
 }

@@ -4,6 +4,9 @@
 #![tactic(auto)]
 
 ghost use Rattle.std.specs.Prelude.{◌≡◌, ◌≤◌, drop, length};
+ghost use Rattle.dl_building.specs.FileBuilding.{BuildsFile};
+ghost use Rattle.dl_building.specs.FileFaultTexts.{file_fault_words};
+ghost use Rattle.dl_building.specs.SectionBuilding.{BuildsSection};
 ghost use Rattle.dl_calls.specs.declared.status.Status.{Status};
 ghost use Rattle.dl_calls.specs.AroundCalls.{ChecksBy, FindsAllBy};
 ghost use Rattle.dl_calls.specs.Calls.{dialect_of, goes_on};
@@ -20,6 +23,7 @@ ghost use Rattle.dl_index_calls.specs.IndexPathCalls.{path_told};
 ghost use Rattle.dl_index_calls.specs.OpenCalls.{Opens, OpensUnchecked};
 ghost use Rattle.dl_index_calls.specs.StretchCalls.{ListsStretch};
 
+use dl_building::CodeRange;
 use dl_calls::{Counts, FaultRecord, Place, RowRecord, UnitRecord};
 use dl_index_calls::{IndexFaultRecord, IndexRecord, LocationRecord};
 use std::alloc::Global;
@@ -272,4 +276,54 @@ pub extern "C" fn boxantrel_index_fault_text(fault: &IndexFaultRecord, text: &mu
     ensures len { result ≡ length_told (index_faults.told_text fault.now) }
 {
     dl_index_calls::fault_text(fault, text)
+}
+
+/// As `dl_building::build_file`.
+#[unsafe(no_mangle)]
+pub extern "C" fn boxantrel_index_build(
+    alloc: Global,
+    file: &[u8],
+    all: bool,
+    keep_going: bool,
+    room: &mut [u8],
+    len: &mut usize,
+    fault: &mut FaultRecord,
+) -> u32
+    ensures { (status : Status) × (result ≡ status_code status)
+        × BuildsFile file.now all keep_going room.old room.new len.old len.new fault.old fault.new status }
+{
+    dl_building::build_file(alloc, file, all, keep_going, room, len, fault).code()
+}
+
+/// As `dl_building::build_section`.
+#[unsafe(no_mangle)]
+pub extern "C" fn boxantrel_index_build_section(
+    alloc: Global,
+    section: &[u8],
+    how: u8,
+    all: bool,
+    line_str: &[u8],
+    str: &[u8],
+    code: &[CodeRange],
+    room: &mut [u8],
+    len: &mut usize,
+    fault: &mut FaultRecord,
+) -> u32
+    ensures { (status : Status) × (result ≡ status_code status)
+        × BuildsSection (goes_on how) (dialect_of how) (both_strings line_str.now str.now) all code.now section.now
+        room.old room.new len.old len.new fault.old fault.new status }
+{
+    dl_building::build_section(
+        alloc, section, how, all, line_str, str, code, room, len, fault,
+    )
+    .code()
+}
+
+/// As `dl_building::file_fault_text`.
+#[unsafe(no_mangle)]
+pub extern "C" fn boxantrel_file_fault_text(kind: u32, text: &mut [u8]) -> usize
+    ensures written { text.new ≡ written_over text.old (file_fault_words kind) }
+    ensures len { result ≡ length (file_fault_words kind) }
+{
+    dl_building::file_fault_text(kind, text)
 }

@@ -17,7 +17,7 @@ mod stop;
 mod telling;
 mod unit;
 
-pub use checking::check;
+pub use checking::{check, dialect_of, goes_on};
 pub use copying::copy;
 pub use describing::unit_at;
 pub use dl_look::Place;
