@@ -1,5 +1,6 @@
 /*
- * Boxantrel: line tables of DWARF 5, and of versions 2 to 4 (the section .debug_line), read out of memory.
+ * Boxantrel: line tables of DWARF 5, and of versions 2 to 4 (the section .debug_line), read out of memory, and indices of
+ * them, which answer each address.
  *
  * Each call is a function of the bytes that it is given: it keeps nothing between calls, and may be called from several
  * threads at once. What it answers is proved of the code of the library, for whatever bytes come.
@@ -38,8 +39,11 @@ enum {
     DL_OLDER_2 = 4,     /* of two */
     DL_OLDER_4 = 8,     /* of four */
     DL_OLDER_8 = 16,    /* of eight */
-    DL_KEEP_GOING = 128 /* dl_check and dl_find_all go on after a damaged unit whose initial length is good, with the unit
-                           that begins where this length says; the other calls take no notice of it */
+    DL_ALL = 64,        /* only for dl_index_build and the calls beside it: each sequence counts, one that begins where there
+                           is no code too */
+    DL_KEEP_GOING = 128 /* dl_check, dl_find_all, dl_index_build and the calls beside it go on after a damaged unit whose
+                           initial length is good, with the unit that begins where this length says; the other calls take
+                           no notice of it */
 };
 
 /* How a call ends. */
@@ -85,14 +89,25 @@ enum {
     DL_EXTENDED_EMPTY = 14,   /* an extended opcode has the length 0 */
     DL_EXTENDED_LENGTH = 15,  /* the operand of an extended opcode doesn't fill its length */
     DL_OPCODE_OVERRUN = 16,   /* the unit ends inside an opcode */
-    DL_TRUNCATED = 17         /* the section ends inside a unit */
+    DL_TRUNCATED = 17,        /* the section ends inside a unit */
+
+    /* of an ELF file, which dl_index_build tells; the offset and the detail are 0 where nothing is said of them */
+    DL_NOT_ELF = 32,            /* the bytes don't begin with the header of an ELF file */
+    DL_DAMAGED_ELF = 33,        /* something lies outside the file, or doesn't fit what it stands in */
+    DL_NO_LINE_SECTION = 34,    /* there is no section with a line table */
+    DL_COMPRESSED = 35,         /* a section is compressed otherwise than with zlib */
+    DL_DAMAGED_STREAM = 36,     /* a compressed section is damaged at this offset of it */
+    DL_UNKNOWN_RELOCATION = 37, /* an object file has a relocation, whose number is the detail, that isn't known */
+    DL_RELOCATION_OUTSIDE = 38, /* a relocation changes bytes outside its section */
+    DL_SECTION_TOO_LONG = 39    /* the line section has more than 2^44 bytes, or a string section more than 2^32 */
 };
 
 /*
  * Writes the text of a fault, as far as there is room: `damage at 0x`, the offset in hexadecimal, a colon, a space, and
  * what is wrong in words, as `dwline` prints them. No zero byte comes after it. The answer is how many bytes the text
  * has, be there room for them or not; room for 128 is always enough. It is 0 where *fault is none that a call writes:
- * its kind isn't 1 to 17, or that of DL_STANDARD_LENGTH with a detail above 255.
+ * its kind isn't one of the above, or that of DL_STANDARD_LENGTH with a detail above 255. From DL_NOT_ELF on the text has
+ * no offset, and doesn't name the section.
  */
 size_t dl_fault_text(const dl_fault *fault, uint8_t *text, size_t room);
 
@@ -215,6 +230,153 @@ uint32_t dl_find_all(const uint8_t *section, size_t len, uint8_t how, const uint
  */
 uint32_t dl_copy(const uint8_t *section, size_t len, uint8_t how, uint8_t *out, size_t room, size_t *copied,
                  dl_fault *fault);
+
+/*
+ * An index: bytes, made once of a file, that tell of each address what `dwline addr` tells of it, in the time of one
+ * search. `dwline index` writes them, and dl_index_build makes them. They are read where they stand, which may be a
+ * mapped file: none is copied, no call over an index takes memory, and none keeps anything, so that threads may share
+ * one. They stay where and as they are while a dl_index, or a text that was told, is used.
+ */
+typedef struct {
+    const uint8_t *bytes;
+    size_t len;
+    size_t stretches;        /* how many it has, gaps among them */
+    const uint8_t *build_id; /* of the file that it was made of; the first 32 bytes of a longer one */
+    size_t build_id_len;     /* 0 where the file has none */
+    bool all;                /* each sequence counts, one that begins where there is no code too */
+} dl_index;
+
+/* Why bytes aren't an index: the first check that fails. */
+typedef struct {
+    uint32_t kind;    /* one of the following */
+    uint32_t version; /* that of DL_INDEX_VERSION; else 0 */
+} dl_index_fault;
+
+enum {
+    DL_INDEX_MAGIC = 1,   /* they don't begin with `dlineidx` */
+    DL_INDEX_VERSION = 2, /* the index is of a version other than 1 */
+    DL_INDEX_LENGTH = 3,  /* there are fewer bytes than the header has, or not as many as it says */
+    DL_INDEX_PLACE = 4,   /* the parts of the index don't end where the bytes do */
+    DL_INDEX_SUM = 5,     /* a check value, of the header or of what follows it, is another one */
+    DL_INDEX_ORDER = 6,   /* the first addresses of its stretches don't rise, or one is 2^64 or above */
+    DL_INDEX_FILE = 7,    /* a stretch names a file that there isn't */
+    DL_INDEX_TEXT = 8     /* a file names a text that there isn't, or a text lies outside the index */
+};
+
+/*
+ * Writes the text of such a fault, as far as there is room, as `dwline` prints it. No zero byte comes after it. The
+ * answer is how many bytes it has, be there room for them or not; room for 64 is always enough. It is 0 where
+ * *fault is none that a call writes.
+ */
+size_t dl_index_fault_text(const dl_index_fault *fault, uint8_t *text, size_t room);
+
+/*
+ * Opens an index, whose bytes are checked whole, in one pass.
+ * DL_DONE: *index is written, which the calls below take. DL_FAULT: *fault tells why they are none.
+ */
+uint32_t dl_index_open(const uint8_t *bytes, size_t len, dl_index *index, dl_index_fault *fault);
+
+/*
+ * The same without the pass over what stands after the first 128 bytes, in a time that doesn't grow with the index. Of an
+ * index that is damaged there the answers are wrong, or none; whatever the bytes are, none outside is read.
+ */
+uint32_t dl_index_open_unchecked(const uint8_t *bytes, size_t len, dl_index *index, dl_index_fault *fault);
+
+/* Bytes that belong to what they were told of. */
+typedef struct {
+    const uint8_t *bytes;
+    size_t len;
+} dl_text;
+
+/* What an index tells of an address. */
+typedef struct {
+    uint64_t unit;          /* the offset of the unit in the line section */
+    uint64_t line;          /* modulo 2^64 */
+    uint64_t column;        /* from 1 on; 0 is the line's left edge */
+    uint64_t discriminator; /* 0 where there is but one block */
+    dl_text texts[3];       /* the path: these, one after the other, in the bytes of the index. A text that it doesn't
+                               need has the length 0 */
+    bool is_stmt;           /* a recommended place for a breakpoint */
+    bool has_path;          /* the path is known; else it has no texts */
+    bool is_found;          /* something is told; else all numbers are 0 */
+} dl_location;
+
+/*
+ * Looks an address up.
+ * DL_DONE: *location is what is told of it. DL_NO_ANSWER: nothing is. DL_FAULT: *index is none that was opened, or its
+ * bytes are others now.
+ */
+uint32_t dl_index_find(const dl_index *index, uint64_t address, dl_location *location);
+
+/*
+ * Looks addresses up, in any order and as often as they come, four at a time, which is faster.
+ * DL_DONE: locations[i] is what is told of addresses[i], or says that nothing is. DL_FAULT: as of dl_index_find.
+ */
+uint32_t dl_index_find_many(const dl_index *index, const uint64_t *addresses, size_t count, dl_location *locations);
+
+/*
+ * Joins the path of a location that was told of the index, as far as there is room: `??` where it isn't known. No zero
+ * byte comes after it. The answer is how many bytes it has, be there room for them or not.
+ */
+size_t dl_index_path(const dl_index *index, const dl_location *location, uint8_t *path, size_t room);
+
+/*
+ * Tells a stretch, by its number from 0 on: a run of addresses, as long as can be, of which the same is told. They stand in
+ * rising order, the gaps between them too, and the last one is a gap.
+ * DL_DONE: *start is its first address, *last its last one, and *location what is told of them, or that nothing is.
+ * DL_NO_ANSWER: there is no such stretch. DL_FAULT: as of dl_index_find.
+ */
+uint32_t dl_index_stretch(const dl_index *index, size_t number, uint64_t *start, uint64_t *last, dl_location *location);
+
+/* Bytes that a call took by malloc. */
+typedef struct {
+    uint8_t *bytes;
+    size_t len;
+} dl_bytes;
+
+/*
+ * Makes the index of an ELF file, whose bytes are handed in (a mapped file, say), as `dwline index` does: of its units of
+ * versions 2 to 5, in compressed sections too, with the directories that .debug_info says, and with its build ID; of those
+ * sequences that begin where the file has code. In an object file the sequences of its code answer. `how`: 0, DL_ALL,
+ * DL_KEEP_GOING or both.
+ * DL_DONE: *index is the index, whose bytes the caller owes dl_index_free. DL_FAULT: *fault is the first fault, of the file or
+ * of its line section; with DL_KEEP_GOING, where units are damaged, *index is written too, and else its bytes are null.
+ * DL_NO_MEMORY: its bytes are null.
+ */
+uint32_t dl_index_build(const uint8_t *file, size_t len, uint8_t how, dl_bytes *index, dl_fault *fault);
+
+/* Gives the bytes of an index back that a call took by malloc; nothing where they are null. */
+void dl_index_free(dl_bytes *index);
+
+/*
+ * The same into room of the caller.
+ * DL_DONE: *made is how many bytes the index has, and out begins with it. DL_NO_ROOM: *made is the same, more than the room
+ * is; nothing else is written. DL_FAULT: *fault is written, and with DL_KEEP_GOING, where units are damaged, *made and the
+ * bytes too; else *made is 0. An index is nearly always shorter than its file.
+ */
+uint32_t dl_index_build_into(const uint8_t *file, size_t len, uint8_t how, uint8_t *out, size_t room, size_t *made,
+                             dl_fault *fault);
+
+/* A range of addresses that have code. */
+typedef struct {
+    uint64_t start; /* the first one */
+    uint64_t size;  /* how many there are */
+} dl_range;
+
+/*
+ * Makes the index of a section: of those sequences that begin in the ranges `code`, which stand in any order, or of all
+ * where there are none. `how`: as of the other calls over a section, and DL_ALL. `line_str` and `str` as of dl_path_at.
+ * The paths stand as the section says them, and the index has no build ID.
+ * As of dl_index_build.
+ */
+uint32_t dl_index_build_section(const uint8_t *section, size_t len, uint8_t how, const uint8_t *line_str,
+                                size_t line_str_len, const uint8_t *str, size_t str_len, const dl_range *code,
+                                size_t code_count, dl_bytes *index, dl_fault *fault);
+
+/* The same into room of the caller, as of dl_index_build_into. */
+uint32_t dl_index_build_section_into(const uint8_t *section, size_t len, uint8_t how, const uint8_t *line_str,
+                                     size_t line_str_len, const uint8_t *str, size_t str_len, const dl_range *code,
+                                     size_t code_count, uint8_t *out, size_t room, size_t *made, dl_fault *fault);
 
 #ifdef __cplusplus
 }

@@ -114,12 +114,13 @@ static void check_text(dl_fault told, size_t room)
     memset(text_end - MOST_TEXT, FILL, MOST_TEXT);
     uint8_t *text = text_end - room;
     size_t length = dl_fault_text(fault, or_null(text, room), room);
-    bool is_kind = told.kind >= DL_RESERVED_LENGTH && told.kind <= DL_TRUNCATED
-        && (told.kind != DL_STANDARD_LENGTH || told.detail < 256);
+    bool is_file = told.kind >= DL_NOT_ELF && told.kind <= DL_SECTION_TOO_LONG;
+    bool is_kind = is_file || (told.kind >= DL_RESERVED_LENGTH && told.kind <= DL_TRUNCATED
+        && (told.kind != DL_STANDARD_LENGTH || told.detail < 256));
     wanted(memcmp(fault, &told, sizeof told) == 0, "a fault that the text of it changes");
     wanted(length <= MOST_TEXT && (length > 0) == is_kind, "a text of no fault, or none of one");
     size_t written = length < room ? length : room;
-    wanted(memcmp(text, "damage at 0x", written < 12 ? written : 12) == 0, "a text that begins otherwise");
+    wanted(is_file || memcmp(text, "damage at 0x", written < 12 ? written : 12) == 0, "a text that begins otherwise");
     wanted(is_filled(text_end - MOST_TEXT, MOST_TEXT - room), "a text before its room");
     wanted(is_filled(text + written, room - written), "more than the text");
 }

@@ -1,7 +1,7 @@
 /*
  * nothing SECTION LINE_STR: each call with null pointers where there are no bytes, no elements or no room, over no
  * section, and over the section examples/gcc-O2 has, whose first unit has 59 rows and the file 1
- * `/boxantrel/series.c`, by a string section that has it or without one.
+ * `/boxantrel/series.c`, by a string section that has it or without one; and indices of nothing, and of that section.
  */
 #include <boxantrel.h>
 #include <stdio.h>
@@ -55,6 +55,71 @@ static void without_section(void)
     wanted(dl_copy(NULL, 0, false, NULL, 0, &length, &fault) == DL_DONE && length == 0, "dl_copy of nothing");
 }
 
+/* No index, no file, and no room. */
+static void without_index(void)
+{
+    dl_index index = {.bytes = NULL};
+    dl_index_fault why;
+    dl_location location = {.is_found = false};
+    dl_bytes made;
+    dl_fault fault;
+    size_t length = 7;
+    uint64_t start, last;
+    wanted(dl_index_open(NULL, 0, &index, &why) == DL_FAULT && why.kind == DL_INDEX_MAGIC, "an index of nothing");
+    wanted(dl_index_open_unchecked(NULL, 0, &index, &why) == DL_FAULT && why.kind == DL_INDEX_MAGIC,
+           "an unchecked index of nothing");
+    wanted(dl_index_fault_text(&why, NULL, 0) == 12, "the text of no index");
+    wanted(dl_index_find(&index, 0, &location) == DL_FAULT, "dl_index_find in nothing");
+    wanted(dl_index_find_many(&index, NULL, 0, NULL) == DL_DONE, "dl_index_find_many of nothing");
+    wanted(dl_index_stretch(&index, 0, &start, &last, &location) == DL_FAULT, "a stretch of nothing");
+    wanted(dl_index_path(&index, &location, NULL, 0) == 2, "the path of nothing");
+    wanted(dl_index_build(NULL, 0, 0, &made, &fault) == DL_FAULT && fault.kind == DL_NOT_ELF && made.bytes == NULL,
+           "the index of no file");
+    wanted(dl_fault_text(&fault, NULL, 0) == 15, "the text of no file");
+    dl_index_free(&made);
+    wanted(dl_index_build_into(NULL, 0, 0, NULL, 0, &length, &fault) == DL_FAULT && length == 0, "no index in no room");
+    wanted(dl_index_build_section(NULL, 0, 0, NULL, 0, NULL, 0, NULL, 0, &made, &fault) == DL_DONE,
+           "the index of no section");
+    wanted(dl_index_open(made.bytes, made.len, &index, &why) == DL_DONE && index.stretches == 0 && !index.all,
+           "an index without stretches");
+    wanted(dl_index_find(&index, 0x401008, &location) == DL_NO_ANSWER, "an answer of none");
+    wanted(dl_index_build_section_into(NULL, 0, 0, NULL, 0, NULL, 0, NULL, 0, NULL, 0, &length, &fault) == DL_NO_ROOM &&
+               length == made.len,
+           "an index in no room");
+    dl_index_free(&made);
+}
+
+/* The index of a section, with its strings, in ranges of code or in none. */
+static void index_of_section(void)
+{
+    static const dl_range other = {.start = 0x500000, .size = 16}, all[] = {{0, 1}, {0x401000, 0x1000}};
+    static const uint8_t path[] = "/boxantrel/series.c";
+    dl_bytes made;
+    dl_index index;
+    dl_index_fault why;
+    dl_fault fault;
+    dl_location location;
+    uint8_t room[64];
+    wanted(dl_index_build_section(section, len, 0, line_str, line_str_len, NULL, 0, &other, 1, &made, &fault) == DL_DONE &&
+               dl_index_open(made.bytes, made.len, &index, &why) == DL_DONE && index.stretches == 0,
+           "no sequence in code");
+    dl_index_free(&made);
+    wanted(dl_index_build_section(section, len, DL_ALL, line_str, line_str_len, NULL, 0, &other, 1, &made, &fault) ==
+                   DL_DONE &&
+               dl_index_open(made.bytes, made.len, &index, &why) == DL_DONE && index.stretches > 0 && index.all,
+           "all sequences");
+    dl_index_free(&made);
+    wanted(dl_index_build_section(section, len, 0, line_str, line_str_len, NULL, 0, all, 2, &made, &fault) == DL_DONE &&
+               dl_index_open(made.bytes, made.len, &index, &why) == DL_DONE && index.build_id_len == 0,
+           "the index of a section");
+    wanted(dl_index_find(&index, 0x401008, &location) == DL_DONE && location.line == 8 && location.unit == 0,
+           "an address in the index of a section");
+    wanted(dl_index_path(&index, &location, room, sizeof room) == sizeof path - 1 &&
+               memcmp(room, path, sizeof path - 1) == 0,
+           "a path in the index of a section");
+    dl_index_free(&made);
+}
+
 /* A section, and nothing besides. */
 static void without_room(void)
 {
@@ -83,6 +148,8 @@ int main(int words_count, char **words)
     len = read_file(words[1], section, sizeof section);
     line_str_len = read_file(words[2], line_str, sizeof line_str);
     without_section();
+    without_index();
     without_room();
+    index_of_section();
     return 0;
 }

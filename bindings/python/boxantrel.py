@@ -14,6 +14,17 @@
     >>> [(unit.offset, unit.rows, len(list(section.rows_at(unit.offset)))) for unit in section.units()]
     [(0, 59, 59), (297, 32, 32)]
 
+Of an ELF file an index is made once, and then asked:
+
+    >>> index = Index.of_file("examples/gcc-O2/program")
+    >>> location = index.find(0x401008)
+    >>> location.path, location.line, location.column
+    (b'/boxantrel/series.c', 8, 23)
+    >>> [found and found.line for found in index.find_many([0x401008, 0])]
+    [8, None]
+    >>> Index.open(index.data).find(0x401008) == location
+    True
+
 The library is the file that the environment variable BOXANTREL_LIBRARY names, else `out/libboxantrel.so` of the repository
 that this file stands in, else the one that the system finds.
 """
@@ -22,16 +33,31 @@ from __future__ import annotations
 
 import ctypes
 import ctypes.util
+import mmap
 import operator
 import os
 import pathlib
 from typing import Any, Iterator, List, NamedTuple, NoReturn, Optional, Sequence
 
-__all__ = ["Counts", "Damage", "Found", "OtherVersion", "Row", "Section", "Unit"]
+__all__ = [
+    "Counts",
+    "Damage",
+    "FileFault",
+    "Found",
+    "Index",
+    "Location",
+    "NoIndex",
+    "OtherVersion",
+    "Row",
+    "Section",
+    "Stretch",
+    "Unit",
+]
 
 _DONE, _FAULT, _NO_ANSWER, _NO_MEMORY, _OTHER_VERSION, _NO_ROOM = range(6)
 _NO_UNIT = 2**64 - 1
-_KEEP_GOING = 128
+_ALL, _KEEP_GOING = 64, 128
+_NOT_ELF = 32
 
 
 class _Counts(ctypes.Structure):
@@ -54,6 +80,33 @@ class _Unit(ctypes.Structure):
         ("address_size", ctypes.c_uint8),
         ("is_dwarf64", ctypes.c_uint8),
     ]
+
+
+class _Index(ctypes.Structure):
+    _fields_ = [
+        ("bytes", ctypes.c_void_p),
+        ("len", ctypes.c_size_t),
+        ("stretches", ctypes.c_size_t),
+        ("build_id", ctypes.c_void_p),
+        ("build_id_len", ctypes.c_size_t),
+        ("all", ctypes.c_bool),
+    ]
+
+
+class _IndexFault(ctypes.Structure):
+    _fields_ = [("kind", ctypes.c_uint32), ("version", ctypes.c_uint32)]
+
+
+class _Text(ctypes.Structure):
+    _fields_ = [("bytes", ctypes.c_void_p), ("len", ctypes.c_size_t)]
+
+
+class _Location(ctypes.Structure):
+    _fields_ = (
+        [(name, ctypes.c_uint64) for name in ("unit", "line", "column", "discriminator")]
+        + [("texts", _Text * 3)]
+        + [(name, ctypes.c_bool) for name in ("is_stmt", "has_path", "is_found")]
+    )
 
 
 class _Buffer(ctypes.Structure):
@@ -144,6 +197,56 @@ class Damage(Exception):
         return _fault_text(self.offset, self.kind, self.detail)
 
 
+class FileFault(Damage):
+    """An ELF file is damaged, or has no line table that is read. `kind`, `offset` and `detail` are the numbers that stand for
+    the fault in include/boxantrel.h.
+
+    >>> str(FileFault(0, 32, 0))
+    'not an ELF file'
+    """
+
+
+class NoIndex(Exception):
+    """Bytes are no index. `kind` is the number of the first check that fails in include/boxantrel.h, and `version` that of
+    an index of another one.
+
+    >>> str(NoIndex(2, 7))
+    'an index of version 7'
+    """
+
+    def __init__(self, kind: int, version: int) -> None:
+        self.kind = _number(kind, 32)
+        self.version = _number(version, 32)
+        super().__init__(self.kind, self.version)
+
+    def __str__(self) -> str:
+        fault, text = _IndexFault(self.kind, self.version), ctypes.create_string_buffer(64)
+        length = _calls.dl_index_fault_text(ctypes.byref(fault), text, len(text))
+        return text.raw[:length].decode()
+
+
+class Location(NamedTuple):
+    """What an index tells of an address: the path, `??` where it isn't known, the line, the column from 1 on (0 is the line's
+    left edge), the discriminator, whether the row is a recommended place for a breakpoint, and the offset of the unit in the
+    line section."""
+
+    path: bytes
+    line: int
+    column: int
+    discriminator: int
+    is_stmt: bool
+    unit: int
+
+
+class Stretch(NamedTuple):
+    """A run of addresses, as long as can be, of which the same is told: the first and the last one, and what is told of them,
+    which is None in a gap."""
+
+    start: int
+    last: int
+    location: Optional[Location]
+
+
 class OtherVersion(Exception):
     """A unit isn't of version 5 where it has to be."""
 
@@ -159,6 +262,7 @@ def _library() -> ctypes.CDLL:
     section = held + [ctypes.c_uint8]
     fault = ctypes.POINTER(_Fault)
     row = ctypes.POINTER(_Row)
+    index, location = ctypes.POINTER(_Index), ctypes.POINTER(_Location)
     place = [ctypes.c_uint64, ctypes.c_uint8]
     rows = [row, ctypes.c_size_t, ctypes.POINTER(ctypes.c_size_t)]
     arguments = {
@@ -178,12 +282,20 @@ def _library() -> ctypes.CDLL:
         "dl_find_all": section
         + [ctypes.POINTER(ctypes.c_uint64), ctypes.c_size_t, row, ctypes.POINTER(ctypes.c_uint64), fault],
         "dl_find": section + place + [row, ctypes.POINTER(ctypes.c_uint64), fault],
+        "dl_index_fault_text": [ctypes.POINTER(_IndexFault), ctypes.c_void_p, ctypes.c_size_t],
+        "dl_index_open": held + [index, ctypes.POINTER(_IndexFault)],
+        "dl_index_open_unchecked": held + [index, ctypes.POINTER(_IndexFault)],
+        "dl_index_find": [index, ctypes.c_uint64, location],
+        "dl_index_find_many": [index, ctypes.POINTER(ctypes.c_uint64), ctypes.c_size_t, location],
+        "dl_index_stretch": [index, ctypes.c_size_t] + [ctypes.POINTER(ctypes.c_uint64)] * 2 + [location],
+        "dl_index_build_into": section + [ctypes.c_void_p, ctypes.c_size_t, ctypes.POINTER(ctypes.c_size_t), fault],
     }
     for name, types in arguments.items():
         call = getattr(library, name)
         call.argtypes = types
         call.restype = ctypes.c_uint32
     library.dl_fault_text.restype = ctypes.c_size_t
+    library.dl_index_fault_text.restype = ctypes.c_size_t
     return library
 
 
@@ -224,7 +336,7 @@ def _row(row: _Row) -> Row:
 def _refuse(status: int, fault: _Fault) -> NoReturn:
     """Raises what a status says that is none of an answer."""
     if status == _FAULT:
-        raise Damage(fault.offset, fault.kind, fault.detail)
+        raise (FileFault if fault.kind >= _NOT_ELF else Damage)(fault.offset, fault.kind, fault.detail)
     if status == _OTHER_VERSION:
         raise OtherVersion("a unit that is not of version 5")
     if status == _NO_MEMORY:
@@ -393,3 +505,99 @@ class Section:
         status = _calls.dl_find_all(*self._how(keep_going), asked, count, rows, units, ctypes.byref(fault))
         answers = zip(rows, units)
         return [None if unit == _NO_UNIT else Found(_row(row), unit) for row, unit in answers], status, fault
+
+
+def _location(location: _Location) -> Optional[Location]:
+    """What a call told, with its path joined; None where it tells nothing."""
+    if not location.is_found:
+        return None
+    path = b"".join(ctypes.string_at(text.bytes, text.len) for text in location.texts if text.len > 0)
+    numbers = (location.line, location.column, location.discriminator)
+    return Location(path if location.has_path else b"??", *numbers, location.is_stmt, location.unit)
+
+
+class Index:
+    """An index: bytes, made once of a file, that tell of each address what `dwline addr` tells of it. It is made by `of_file`,
+    or opened by `open`; `data` has the bytes, which may be written to a file. Iterating gives its stretches, the gaps between
+    them too, in rising order.
+
+    The bytes are read where they stand, so nothing else may change them during a call. An address that doesn't fit 64 bits
+    is an OverflowError.
+    """
+
+    def __init__(self, data: Any, checked: bool = True) -> None:
+        self.data = data
+        self._held = _Bytes(data)
+        self._index, fault = _Index(), _IndexFault()
+        call = _calls.dl_index_open if checked else _calls.dl_index_open_unchecked
+        if call(*self._held.pointer, ctypes.byref(self._index), ctypes.byref(fault)) != _DONE:
+            raise NoIndex(fault.kind, fault.version)
+
+    @classmethod
+    def open(cls, data: Any) -> Index:
+        """The index that bytes are, which are checked whole, in one pass; else NoIndex is raised. `data` is any object with
+        the buffer protocol whose bytes stand one after the other, as bytes, bytearray, array or mmap."""
+        return cls(data)
+
+    @classmethod
+    def open_unchecked(cls, data: Any) -> Index:
+        """The same, but of the bytes only the first 128 are checked. Where others are damaged the answers are wrong, or none;
+        none outside is read."""
+        return cls(data, False)
+
+    @classmethod
+    def of_file(cls, path: Any, all_sequences: bool = False, keep_going: bool = False) -> Index:
+        """The index of the ELF file at a path, which is mapped while the index is made. With `all_sequences` each sequence
+        counts, one that begins where there is no code too. FileFault is raised where it has no line table that is read, and
+        Damage where that is damaged; with `keep_going` damaged units are gone around."""
+        with open(path, "rb") as file, mmap.mmap(file.fileno(), 0, access=mmap.ACCESS_READ) as data:
+            return cls.of_bytes(data, all_sequences, keep_going)
+
+    @classmethod
+    def of_bytes(cls, data: Any, all_sequences: bool = False, keep_going: bool = False) -> Index:
+        """The index of the ELF file that these bytes are, as by `of_file`."""
+        held, how = _Bytes(data), _ALL * bool(all_sequences) + _KEEP_GOING * bool(keep_going)
+        room, status = held.pointer[1] + 4096, _NO_ROOM
+        while status == _NO_ROOM:
+            out, made, fault = bytearray(room), ctypes.c_size_t(), _Fault()
+            answer = ((ctypes.c_uint8 * room).from_buffer(out), room, ctypes.byref(made), ctypes.byref(fault))
+            status = _calls.dl_index_build_into(*held.pointer, how, *answer)
+            room = made.value
+        if room == 0 or (status == _FAULT and not keep_going):
+            _refuse(status, fault)
+        return cls(bytes(memoryview(out)[:room]), False)
+
+    def find(self, address: int) -> Optional[Location]:
+        """What is told of an address; None in a gap, and before the first stretch."""
+        location = _Location()
+        _calls.dl_index_find(ctypes.byref(self._index), _number(address, 64), ctypes.byref(location))
+        return _location(location)
+
+    def find_many(self, addresses: Sequence[int]) -> List[Optional[Location]]:
+        """What is told of each address, as by `find`, in one call."""
+        count = len(addresses)
+        asked = (ctypes.c_uint64 * count)(*(_number(address, 64) for address in addresses))
+        locations = (_Location * count)()
+        _calls.dl_index_find_many(ctypes.byref(self._index), asked, count, locations)
+        return list(map(_location, locations))
+
+    def __len__(self) -> int:
+        """How many stretches there are."""
+        return self._index.stretches
+
+    def __iter__(self) -> Iterator[Stretch]:
+        for number in range(len(self)):
+            start, last, location = ctypes.c_uint64(), ctypes.c_uint64(), _Location()
+            answer = (ctypes.byref(start), ctypes.byref(last), ctypes.byref(location))
+            if _calls.dl_index_stretch(ctypes.byref(self._index), number, *answer) == _DONE:
+                yield Stretch(start.value, last.value, _location(location))
+
+    @property
+    def build_id(self) -> bytes:
+        """The build ID of the file; of a longer one the first 32 bytes, and none where the file has none."""
+        return ctypes.string_at(self._index.build_id, self._index.build_id_len)
+
+    @property
+    def has_all_sequences(self) -> bool:
+        """Whether each sequence counts, one that begins where there is no code too."""
+        return self._index.all

@@ -7,9 +7,10 @@ import gc
 import mmap
 import pathlib
 import pickle
+import tempfile
 import unittest
 
-from boxantrel import Counts, Damage, OtherVersion, Section
+from boxantrel import Counts, Damage, FileFault, Index, NoIndex, OtherVersion, Section
 
 EXAMPLES = pathlib.Path(__file__).resolve().parents[2] / "examples"
 BYTES = (EXAMPLES / "gcc-O2" / "debug_line").read_bytes()
@@ -205,6 +206,66 @@ class Faults(unittest.TestCase):
             self.assertIs(type(other), Damage)
             self.assertEqual(str(other), str(fault))
             self.assertEqual((other.offset, other.kind, other.detail), (100, 17, 0))
+
+
+class Indices(unittest.TestCase):
+    def setUp(self) -> None:
+        self.path = EXAMPLES / "gcc-O2" / "program"
+        self.index = Index.of_file(self.path)
+
+    def test_addresses(self) -> None:
+        found = self.index.find(0x401008)
+        assert found is not None
+        self.assertEqual((found.path, found.line, found.unit), (SERIES, 8, 0))
+        self.assertIsNone(self.index.find(0))
+        asked = [0, 0x401008] * 70
+        self.assertEqual(self.index.find_many(asked), [None, found] * 70)
+        self.assertEqual(self.index.find_many([]), [])
+        for number in (-1, 1 << 64):
+            self.assertRaises(OverflowError, self.index.find, number)
+            self.assertRaises(OverflowError, self.index.find_many, [0, number])
+
+    def test_stretches(self) -> None:
+        stretches = list(self.index)
+        self.assertEqual(len(stretches), len(self.index))
+        self.assertEqual(stretches[-1].last, (1 << 64) - 1)
+        for stretch, following in zip(stretches, stretches[1:]):
+            self.assertEqual(stretch.last + 1, following.start)
+            self.assertEqual(self.index.find(stretch.start), stretch.location)
+            self.assertEqual(self.index.find(stretch.last), stretch.location)
+
+    def test_buffers(self) -> None:
+        whole = self.path.read_bytes()
+        for data in (whole, bytearray(whole), memoryview(whole)):
+            self.assertEqual(Index.of_bytes(data).data, self.index.data)
+        for data in (bytearray(self.index.data), memoryview(self.index.data)):
+            self.assertEqual(list(Index.open(data)), list(self.index))
+        with tempfile.TemporaryFile() as file:
+            file.write(self.index.data)
+            file.flush()
+            with mmap.mmap(file.fileno(), 0, access=mmap.ACCESS_READ) as mapped:
+                opened = Index.open(mapped)
+                self.assertEqual(opened.find(0x401008), self.index.find(0x401008))
+                del opened
+                gc.collect()
+
+    def test_what_it_says_of_its_file(self) -> None:
+        self.assertFalse(self.index.has_all_sequences)
+        self.assertTrue(Index.of_file(self.path, all_sequences=True).has_all_sequences)
+        self.assertLessEqual(len(self.index.build_id), 32)
+
+    def test_faults(self) -> None:
+        damaged = bytearray(self.index.data)
+        damaged[-1] ^= 1
+        with self.assertRaises(NoIndex) as caught:
+            Index.open(damaged)
+        self.assertEqual((caught.exception.kind, str(caught.exception)), (5, "damaged index: sum"))
+        self.assertEqual(Index.open_unchecked(damaged).find(0), None)
+        self.assertRaises(NoIndex, Index.open, b"")
+        with self.assertRaises(FileFault) as refused:
+            Index.of_bytes(BYTES)
+        self.assertEqual(str(refused.exception), "not an ELF file")
+        self.assertRaises(FileFault, Index.of_bytes, (EXAMPLES / "stripped" / "program").read_bytes())
 
 
 if __name__ == "__main__":

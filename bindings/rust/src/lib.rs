@@ -26,10 +26,29 @@
 //! }
 //! # Ok::<(), Box<dyn std::error::Error>>(())
 //! ```
+//!
+//! Of an ELF file an index is made once, and then asked:
+//!
+//! ```
+//! let program = concat!(env!("CARGO_MANIFEST_DIR"), "/../../examples/gcc-O2/program");
+//! let index = boxantrel::File::open(program)?.index()?;
+//! let found = index.find(0x401008).unwrap();
+//! assert_eq!((found.path(), found.line, found.column), (b"/boxantrel/series.c".to_vec(), 8, 23));
+//! assert_eq!(index.find_many(&[0x401008, 0]), [Some(found), None]);
+//! let kept = boxantrel::Index::open(index.as_bytes())?;
+//! assert!(kept.stretches().any(|stretch| stretch.start <= 0x401008 && stretch.location == Some(found)));
+//! # Ok::<(), Box<dyn std::error::Error>>(())
+//! ```
 
 use std::fmt;
 
+mod file;
+mod index;
 mod raw;
+
+pub use file::{File, IndexOptions};
+pub use index::{Index, IndexError, Location, Stretch, Stretches};
+pub use raw::CodeRange;
 
 /// The order of a section's numbers.
 #[derive(Clone, Copy, Debug, PartialEq, Eq)]
@@ -150,6 +169,9 @@ pub enum Error {
     /// The section is damaged at this offset. The kind and its detail are the numbers that stand for the fault in
     /// include/boxantrel.h; Display has it in words.
     Damage { offset: u64, kind: u32, detail: u64 },
+    /// The ELF file is damaged, or has no line table that is read. The kind, the offset and the detail are the numbers that
+    /// stand for the fault in include/boxantrel.h; Display has it in words.
+    File { kind: u32, offset: u64, detail: u64 },
     /// Memory was refused.
     NoMemory,
     /// A unit is of a version that isn't read, or isn't copied.
@@ -159,7 +181,9 @@ pub enum Error {
 impl fmt::Display for Error {
     fn fmt(&self, f: &mut fmt::Formatter<'_>) -> fmt::Result {
         match *self {
-            Error::Damage { offset, kind, detail } => f.write_str(&fault_text(offset, kind, detail)),
+            Error::Damage { offset, kind, detail } | Error::File { kind, offset, detail } => {
+                f.write_str(&fault_text(offset, kind, detail))
+            }
             Error::NoMemory => f.write_str("out of memory"),
             Error::OtherVersion => f.write_str("a unit that is not of version 5"),
         }
@@ -429,6 +453,39 @@ impl<'a> Section<'a> {
         }
     }
 
+    /// The index of the section: of the sequences that begin in the ranges, in any order, or of all where there are none. The
+    /// string sections are those of `path_at`. Where damaged units are gone around, what is wrong with the first of them comes
+    /// beside it.
+    pub fn index(
+        &self,
+        line_str: &[u8],
+        str: &[u8],
+        code: &[CodeRange],
+        options: IndexOptions,
+    ) -> Result<(Index<Vec<u8>>, Option<Error>), Error> {
+        let how = self.how() + raw::ALL * u8::from(options.all) + raw::KEEP_GOING * u8::from(options.keep_going);
+        file::built(self.bytes.len() + line_str.len() + str.len(), |room, made, fault| {
+            // SAFETY: as in `path_at`; the ranges are a slice's.
+            unsafe {
+                raw::dl_index_build_section_into(
+                    self.bytes.as_ptr(),
+                    self.bytes.len(),
+                    how,
+                    line_str.as_ptr(),
+                    line_str.len(),
+                    str.as_ptr(),
+                    str.len(),
+                    code.as_ptr(),
+                    code.len(),
+                    room.as_mut_ptr(),
+                    room.len(),
+                    made,
+                    fault,
+                )
+            }
+        })
+    }
+
     /// The row that answers for an address and an operation of its instruction, in the first unit that has one.
     pub fn find(&self, address: u64, op_index: u8) -> Result<Option<Found>, Error> {
         let mut row = raw::Row::default();
@@ -553,6 +610,11 @@ fn parted(texts: &[u8], ends: &[usize]) -> Vec<Vec<u8>> {
 /// What a status says that is none of an answer.
 fn error(status: u32, fault: &raw::Fault) -> Error {
     match status {
+        raw::FAULT if fault.kind >= raw::NOT_ELF => Error::File {
+            kind: fault.kind,
+            offset: fault.offset,
+            detail: fault.detail,
+        },
         raw::FAULT => Error::Damage {
             offset: fault.offset,
             kind: fault.kind,

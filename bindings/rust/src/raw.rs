@@ -10,6 +10,12 @@ pub const NO_ROOM: u32 = 5;
 /// What is added to `how` where the calls go on after damaged units.
 pub const KEEP_GOING: u8 = 128;
 
+/// What is added to `how` where each sequence counts in an index.
+pub const ALL: u8 = 64;
+
+/// The first kind of a fault of an ELF file.
+pub const NOT_ELF: u32 = 32;
+
 /// The offset of no unit.
 pub const NO_UNIT: u64 = u64::MAX;
 
@@ -57,7 +63,97 @@ pub struct Unit {
     pub is_dwarf64: u8,
 }
 
+/// An index that was opened. The calls that take one read its bytes, and nothing else of it.
+#[repr(C)]
+#[derive(Clone, Copy, Debug)]
+pub struct Index {
+    pub bytes: *const u8,
+    pub len: usize,
+    pub stretches: usize,
+    pub build_id: *const u8,
+    pub build_id_len: usize,
+    pub all: bool,
+}
+
+#[repr(C)]
+#[derive(Clone, Copy, Debug, Default)]
+pub struct IndexFault {
+    pub kind: u32,
+    pub version: u32,
+}
+
+#[repr(C)]
+#[derive(Clone, Copy, Debug)]
+pub struct Text {
+    pub bytes: *const u8,
+    pub len: usize,
+}
+
+#[repr(C)]
+#[derive(Clone, Copy, Debug)]
+pub struct Location {
+    pub unit: u64,
+    pub line: u64,
+    pub column: u64,
+    pub discriminator: u64,
+    pub texts: [Text; 3],
+    pub is_stmt: bool,
+    pub has_path: bool,
+    pub is_found: bool,
+}
+
+/// A range of addresses that have code.
+#[repr(C)]
+#[derive(Clone, Copy, Debug, PartialEq, Eq)]
+pub struct CodeRange {
+    /// The first address.
+    pub start: u64,
+    /// How many addresses there are.
+    pub size: u64,
+}
+
 extern "C" {
+    pub fn dl_index_fault_text(fault: *const IndexFault, text: *mut u8, room: usize) -> usize;
+    pub fn dl_index_open(bytes: *const u8, len: usize, index: *mut Index, fault: *mut IndexFault) -> u32;
+    pub fn dl_index_open_unchecked(bytes: *const u8, len: usize, index: *mut Index, fault: *mut IndexFault) -> u32;
+    pub fn dl_index_find(index: *const Index, address: u64, location: *mut Location) -> u32;
+    pub fn dl_index_find_many(
+        index: *const Index,
+        addresses: *const u64,
+        count: usize,
+        locations: *mut Location,
+    ) -> u32;
+    pub fn dl_index_stretch(
+        index: *const Index,
+        number: usize,
+        start: *mut u64,
+        last: *mut u64,
+        location: *mut Location,
+    ) -> u32;
+    pub fn dl_index_build_into(
+        file: *const u8,
+        len: usize,
+        how: u8,
+        out: *mut u8,
+        room: usize,
+        made: *mut usize,
+        fault: *mut Fault,
+    ) -> u32;
+    pub fn dl_index_build_section_into(
+        section: *const u8,
+        len: usize,
+        how: u8,
+        line_str: *const u8,
+        line_str_len: usize,
+        str: *const u8,
+        str_len: usize,
+        code: *const CodeRange,
+        code_count: usize,
+        out: *mut u8,
+        room: usize,
+        made: *mut usize,
+        fault: *mut Fault,
+    ) -> u32;
     pub fn dl_fault_text(fault: *const Fault, text: *mut u8, room: usize) -> usize;
     pub fn dl_check(section: *const u8, len: usize, how: u8, counts: *mut Counts, fault: *mut Fault) -> u32;
     pub fn dl_unit_at(

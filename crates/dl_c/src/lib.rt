@@ -4,6 +4,9 @@
 #![tactic(auto)]
 
 ghost use Rattle.std.specs.Prelude.{◌≡◌, ◌≤◌, drop, length};
+ghost use Rattle.dl_building.specs.FileBuilding.{BuildsFile};
+ghost use Rattle.dl_building.specs.FileFaultTexts.{file_fault_words};
+ghost use Rattle.dl_building.specs.SectionBuilding.{BuildsSection};
 ghost use Rattle.dl_calls.specs.declared.status.Status.{Status};
 ghost use Rattle.dl_calls.specs.AroundCalls.{ChecksBy, FindsAllBy};
 ghost use Rattle.dl_calls.specs.Calls.{dialect_of, goes_on};
@@ -13,9 +16,16 @@ ghost use Rattle.dl_calls.specs.FindCalls.{Finds, place_at};
 ghost use Rattle.dl_calls.specs.PathCalls.{TellsPath, both_strings};
 ghost use Rattle.dl_calls.specs.PathsCalls.{TellsPaths};
 ghost use Rattle.dl_calls.specs.Records.{status_code};
-ghost use Rattle.dl_calls.specs.UnitCalls.{Describes, Lists, written_over};
+ghost use Rattle.dl_calls.specs.UnitCalls.{Describes, Lists, length_told, written_over};
+ghost use Rattle.dl_index_calls.specs.IndexFaultCalls as index_faults;
+ghost use Rattle.dl_index_calls.specs.IndexFindCalls.{FindsMany, FindsOne};
+ghost use Rattle.dl_index_calls.specs.IndexPathCalls.{path_told};
+ghost use Rattle.dl_index_calls.specs.OpenCalls.{Opens, OpensUnchecked};
+ghost use Rattle.dl_index_calls.specs.StretchCalls.{ListsStretch};
 
+use dl_building::CodeRange;
 use dl_calls::{Counts, FaultRecord, Place, RowRecord, UnitRecord};
+use dl_index_calls::{IndexFaultRecord, IndexRecord, LocationRecord};
 use std::alloc::Global;
 
 /// As `dl_calls::check`.
@@ -177,4 +187,143 @@ pub extern "C" fn boxantrel_fault_text(fault: &FaultRecord, text: &mut [u8]) -> 
     ensures few { result ≤ 128 }
 {
     dl_calls::fault_text(fault, text)
+}
+
+/// As `dl_index_calls::open`.
+#[unsafe(no_mangle)]
+pub extern "C" fn boxantrel_index_open(
+    bytes: &[u8],
+    index: &mut IndexRecord,
+    fault: &mut IndexFaultRecord,
+) -> u32
+    ensures { (status : Status) × (result ≡ status_code status)
+        × Opens bytes.now index.old index.new fault.old fault.new status }
+{
+    dl_index_calls::open(bytes, index, fault).code()
+}
+
+/// As `dl_index_calls::open_unchecked`.
+#[unsafe(no_mangle)]
+pub extern "C" fn boxantrel_index_open_unchecked(
+    bytes: &[u8],
+    index: &mut IndexRecord,
+    fault: &mut IndexFaultRecord,
+) -> u32
+    ensures { (status : Status) × (result ≡ status_code status)
+        × OpensUnchecked bytes.now index.old index.new fault.old fault.new status }
+{
+    dl_index_calls::open_unchecked(bytes, index, fault).code()
+}
+
+/// As `dl_index_calls::find`.
+#[unsafe(no_mangle)]
+pub extern "C" fn boxantrel_index_find(
+    bytes: &[u8],
+    address: u64,
+    location: &mut LocationRecord,
+) -> u32
+    ensures { (status : Status) × (result ≡ status_code status)
+        × FindsOne bytes.now address location.old location.new status }
+{
+    dl_index_calls::find(bytes, address, location).code()
+}
+
+/// As `dl_index_calls::find_many`. `dl_index_find_many` hands in one number of addresses and locations.
+#[unsafe(no_mangle)]
+pub extern "C" fn boxantrel_index_find_many(
+    bytes: &[u8],
+    addresses: &[u64],
+    locations: &mut [LocationRecord],
+) -> u32
+    ensures { (status : Status) × (result ≡ status_code status)
+        × FindsMany bytes.now addresses.now locations.old locations.new status }
+{
+    dl_index_calls::find_many(bytes, addresses, locations).code()
+}
+
+/// As `dl_index_calls::stretch`.
+#[unsafe(no_mangle)]
+pub extern "C" fn boxantrel_index_stretch(
+    bytes: &[u8],
+    k: usize,
+    start: &mut u64,
+    last: &mut u64,
+    location: &mut LocationRecord,
+) -> u32
+    ensures { (status : Status) × (result ≡ status_code status)
+        × ListsStretch bytes.now k start.old start.new last.old last.new location.old location.new status }
+{
+    dl_index_calls::stretch(bytes, k, start, last, location).code()
+}
+
+/// As `dl_index_calls::path`.
+#[unsafe(no_mangle)]
+pub extern "C" fn boxantrel_index_path(
+    bytes: &[u8],
+    location: &LocationRecord,
+    path: &mut [u8],
+) -> usize
+    ensures written { path.new ≡ written_over path.old (path_told bytes.now location.now) }
+    ensures len { result ≡ length_told (path_told bytes.now location.now) }
+{
+    dl_index_calls::path(bytes, location, path)
+}
+
+/// As `dl_index_calls::fault_text`.
+#[unsafe(no_mangle)]
+pub extern "C" fn boxantrel_index_fault_text(fault: &IndexFaultRecord, text: &mut [u8]) -> usize
+    ensures written { text.new ≡ written_over text.old (index_faults.told_text fault.now) }
+    ensures len { result ≡ length_told (index_faults.told_text fault.now) }
+{
+    dl_index_calls::fault_text(fault, text)
+}
+
+/// As `dl_building::build_file`.
+#[unsafe(no_mangle)]
+pub extern "C" fn boxantrel_index_build(
+    alloc: Global,
+    file: &[u8],
+    all: bool,
+    keep_going: bool,
+    room: &mut [u8],
+    len: &mut usize,
+    fault: &mut FaultRecord,
+) -> u32
+    ensures { (status : Status) × (result ≡ status_code status)
+        × BuildsFile file.now all keep_going room.old room.new len.old len.new fault.old fault.new status }
+{
+    dl_building::build_file(alloc, file, all, keep_going, room, len, fault).code()
+}
+
+/// As `dl_building::build_section`.
+#[unsafe(no_mangle)]
+pub extern "C" fn boxantrel_index_build_section(
+    alloc: Global,
+    section: &[u8],
+    how: u8,
+    all: bool,
+    line_str: &[u8],
+    str: &[u8],
+    code: &[CodeRange],
+    room: &mut [u8],
+    len: &mut usize,
+    fault: &mut FaultRecord,
+) -> u32
+    ensures { (status : Status) × (result ≡ status_code status)
+        × BuildsSection (goes_on how) (dialect_of how) (both_strings line_str.now str.now) all code.now section.now
+        room.old room.new len.old len.new fault.old fault.new status }
+{
+    dl_building::build_section(
+        alloc, section, how, all, line_str, str, code, room, len, fault,
+    )
+    .code()
+}
+
+/// As `dl_building::file_fault_text`.
+#[unsafe(no_mangle)]
+pub extern "C" fn boxantrel_file_fault_text(kind: u32, text: &mut [u8]) -> usize
+    ensures written { text.new ≡ written_over text.old (file_fault_words kind) }
+    ensures len { result ≡ length (file_fault_words kind) }
+{
+    dl_building::file_fault_text(kind, text)
 }

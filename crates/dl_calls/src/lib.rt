@@ -11,13 +11,13 @@ mod listing;
 mod naming;
 mod paths;
 mod record;
-mod room;
+pub mod room;
 mod status;
 mod stop;
 mod telling;
 mod unit;
 
-pub use checking::check;
+pub use checking::{check, dialect_of, goes_on};
 pub use copying::copy;
 pub use describing::unit_at;
 pub use dl_look::Place;

@@ -51,7 +51,8 @@ pub struct FaultRecord {
 }
 
 impl FaultRecord {
-    pub(crate) fn of(offset: u64, kind: FaultKind) -> FaultRecord
+    /// That of a fault at an offset.
+    pub fn of(offset: u64, kind: FaultKind) -> FaultRecord
         ensures { result ≡ record_of offset kind }
     {
         FaultRecord {

@@ -1,11 +1,11 @@
 -- What the first 128 bytes of an index say of all of them.
-use Rattle.std.proofs.Common.{◌≡◌, ◌≢◌, ℕ, ◌+◌, ◌-◌, ◌<◌, ◌≤◌, ◌⊎◌, min, inl, inr, true, List, ◌++◌, [], ◌∷◌, take, drop, length, slice_index, map, sum, length-take, sym, ap, ap₂, subst, ◌∙◌, arith, codes}
+use Rattle.std.proofs.Common.{◌≡◌, ◌≢◌, ℕ, ◌+◌, ◌-◌, ◌<◌, ◌≤◌, min, true, List, ◌++◌, [], ◌∷◌, take, drop, length, slice_index, map, sum, length-take, sym, ap, ap₂, subst, ◌∙◌, arith}
 use Rattle.std.proofs.lemmas.List.{drop-take, get_or-take, take-take, take_min}
 use Rattle.std.specs.List.{list_all}
 use Rattle.dl_num.specs.Fixed.{little, is_number_size}
 use Rattle.dl_crc.specs.Crc32.{crc_32}
-use Rattle.dl_index.specs.Layout.{field, version_in, length_in, rounded, build_id_len_in}
-use Rattle.dl_index.specs.IsIndex.{HasMagic, HasHeader, IsWhole, IsPlaced, widths, HeaderAgrees, summed_header}
+use Rattle.dl_index.specs.Layout.{field, rounded, build_id_len_in}
+use Rattle.dl_index.specs.IsIndex.{HasMagic, IsPlaced, widths, HeaderAgrees, summed_header}
 use Rattle.dl_index.specs.Parts.{HasWidths, Reads, header_sizes}
 use Rattle.dl_index.specs.declared.header.Widths.{Widths}
 use Rattle.dl_index.specs.declared.header.Header.{Header}

@@ -6,3 +6,4 @@ pub mod ManyLemmas
 pub mod PartLemmas
 pub mod SearchLemmas
 pub mod TellLemmas
+pub mod PlaceLemmas

@@ -4,6 +4,7 @@ use Rattle.std.specs.Option.{option_map}
 use Rattle.dl_index.specs.Layout.{count_in}
 use Rattle.dl_index.specs.Telling.{told_in, find_in}
 use Rattle.dl_index.specs.Shown.{told}
+use Rattle.dl_index.specs.TextPlaces.{AreAt}
 use Rattle.dl_index.specs.IsIndex.{IsIndex}
 use Rattle.dl_index.specs.declared.index.Found.{Found}
 
@@ -11,3 +12,4 @@ use Rattle.dl_index.specs.declared.index.Found.{Found}
 pub record Finds (b : List ℕ) (a : ℕ) (found : Option Found) : Type 0 where
   pub exact : IsIndex b → option_map told found ≡ find_in b a
   pub stands : IfSome found (λ f. (k : ℕ) × (k < count_in b) × (told_in b k ≡ Some (told f)))
+  pub places : IfSome found (AreAt b)

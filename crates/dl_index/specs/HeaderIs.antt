@@ -2,7 +2,7 @@
 use Rattle.std.specs.Prelude.{◌≡◌, ℕ, List, Result, Ok, Err}
 use Rattle.dl_index.specs.Layout.{length_in}
 use Rattle.dl_index.specs.Parts.{Reads}
-use Rattle.dl_index.specs.IsIndex.{HasHeader, IsHeaded, HasFault}
+use Rattle.dl_index.specs.IsIndex.{HasHeader, IsLaidOut, IsHeaded, HasFault}
 use Rattle.dl_index.specs.declared.fault.IndexFault.{IndexFault}
 use Rattle.dl_index.specs.declared.header.Header.{Header}
 
@@ -15,3 +15,8 @@ LengthIs b (Err fault) = HasFault b fault × ¬ (HasHeader b)
 abbrev pub HeaderIs : List ℕ → Result Header IndexFault → Type 0
 HeaderIs b (Ok h) = IsHeaded b × Reads h b
 HeaderIs b (Err fault) = HasFault b fault × ¬ (IsHeaded b)
+
+-- the same but for its sum
+abbrev pub LayoutIs : List ℕ → Result Header IndexFault → Type 0
+LayoutIs b (Ok h) = IsLaidOut b × Reads h b
+LayoutIs b (Err fault) = HasFault b fault × ¬ (IsLaidOut b)

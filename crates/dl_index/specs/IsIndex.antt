@@ -67,6 +67,11 @@ pub record HasTexts (b : List ℕ) : Type 0 where
   pub numbers : TextsAreThere b
   pub within : TextsLieWithin b
 
+-- the parts stand where the header says, whatever its sum is
+pub record IsLaidOut (b : List ℕ) : Type 0 where
+  pub whole : IsWhole b
+  pub placed : IsPlaced b
+
 -- what the header says of the bytes holds
 pub record IsHeaded (b : List ℕ) : Type 0 where
   pub whole : IsWhole b

@@ -6,6 +6,7 @@ pub mod Layout
 pub mod Stretches
 pub mod Telling
 pub mod Shown
+pub mod TextPlaces
 pub mod IsIndex
 pub mod Parts
 pub mod HeaderIs
@@ -15,3 +16,4 @@ pub mod FaultText
 pub mod Checked
 pub mod Entries
 pub mod PartsOf
+pub mod TextsOf

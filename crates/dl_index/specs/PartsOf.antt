@@ -1,5 +1,5 @@
 -- The parts of an index, as they are kept. No promise rests on how this is said.
-use Rattle.std.specs.Prelude.{◌≡◌, ℕ, ◌*◌, ◌≤◌, List, length}
+use Rattle.std.specs.Prelude.{◌≡◌, ℕ, ◌+◌, ◌*◌, ◌≤◌, List, length, take, drop}
 use Rattle.dl_index.specs.Columns.{size_of}
 use Rattle.dl_index.specs.Layout.{count_in, files_in, texts_in, text_bytes_in, width_in, part}
 use Rattle.dl_index.specs.declared.numbers.Numbers.{Numbers}
@@ -20,6 +20,9 @@ pub record ArePartsOf (p : Parts) (b : List ℕ) : Type 0 where
   pub file_table : p.file_table.now ≡ part b 6
   pub text_table : p.text_table.now ≡ part b 7
   pub texts : p.texts.now ≡ part b 8
+  -- where the last one stands
+  pub texts_there : part b 8 ≡ take (text_bytes_in b) (drop p.texts_at b)
+  pub texts_within : p.texts_at + text_bytes_in b ≤ length b
   -- how long they are
   pub statements_len : count_in b ≤ length p.statements.now * 8
   pub file_table_len : length p.file_table.now ≡ files_in b * 24

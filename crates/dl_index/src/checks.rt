@@ -4,7 +4,7 @@ ghost use Rattle.std.specs.Prelude.{◌+◌, ◌*◌, ◌<◌, ◌≤◌, length
 ghost use Rattle.dl_index.specs.Layout.{count_in, start_in};
 ghost use Rattle.dl_index.specs.Checked.{NamesTexts};
 ghost use Rattle.dl_index.specs.LookUp.{Rise};
-ghost use Rattle.dl_index.specs.IsIndex.{BodyAgrees, IsOrdered, HasTexts, IsIndex, HasFault};
+ghost use Rattle.dl_index.specs.IsIndex.{BodyAgrees, IsHeaded, IsOrdered, HasTexts, IsIndex, HasFault};
 ghost use Rattle.dl_index.specs.IsIndex.{FilesAreThere, TextsAreThere, TextsLieWithin};
 ghost use Rattle.dl_index.specs.Shown.{bytes_of};
 
@@ -15,6 +15,7 @@ use dl_crc::crc_32;
 
 /// The checks that [`crate::open_unchecked`] leaves out.
 pub fn check(index: &IndexRef<'_>) -> Result<(), IndexFault>
+    requires { IsHeaded (bytes_of index.now) }
     ensures ok { OnOk result (IsIndex (bytes_of index.now)) }
     ensures fault { IfErr result (HasFault (bytes_of index.now)) }
 {

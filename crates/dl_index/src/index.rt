@@ -2,7 +2,7 @@
 
 ghost use Rattle.std.specs.Prelude.{◌≡◌};
 ghost use Rattle.dl_index.specs.Layout.{base_in};
-ghost use Rattle.dl_index.specs.IsIndex.{IsHeaded};
+ghost use Rattle.dl_index.specs.IsIndex.{IsLaidOut};
 ghost use Rattle.dl_index.specs.PartsOf.{ArePartsOf};
 
 use crate::four::Four;
@@ -17,6 +17,14 @@ pub struct PathTexts<'a> {
     pub third: Option<&'a [u8]>,
 }
 
+/// Where the texts of a path stand in the bytes of the index, in their order; 0 where there is none.
+#[derive(Clone, Copy)]
+pub struct TextPlaces {
+    pub first: usize,
+    pub second: usize,
+    pub third: usize,
+}
+
 /// What is told of an address.
 #[derive(Clone, Copy)]
 pub struct Found<'a> {
@@ -24,6 +32,8 @@ pub struct Found<'a> {
     pub unit: u64,
     /// The texts of the path.
     pub texts: PathTexts<'a>,
+    /// Where these stand in the bytes of the index.
+    pub places: TextPlaces,
     /// The line, column and discriminator of the row, as in section 6.2.2 of DWARF 5.
     pub line: u64,
     pub column: u64,
@@ -49,7 +59,7 @@ pub struct IndexRef<'a> {
     pub(crate) bytes: &'a [u8],
     pub(crate) base: u64,
     pub(crate) parts: Parts<'a>,
-    ghost headed: { IsHeaded bytes.now },
+    ghost laid_out: { IsLaidOut bytes.now },
     ghost based: { base ≡ base_in bytes.now },
     ghost cut: { ArePartsOf parts bytes.now },
 }
@@ -64,6 +74,8 @@ impl<'a> IndexRef<'a> {
     ghost use Rattle.dl_index.specs.LookUp.{Rise, IsLastUpto, FindsLast};
     ghost use Rattle.dl_index.specs.Finds.{Finds};
     ghost use Rattle.dl_index.specs.Telling.{text_in, texts_of, told_in, find_in, IsStart};
+    ghost use Rattle.dl_index.specs.TextPlaces.{AreAt};
+    ghost use Rattle.dl_index.specs.TextsOf.{AreTextsOf, IsPlaceOf, ArePlacesOf};
     ghost use Rattle.dl_index.specs.IsIndex.{IsIndex};
     ghost use Rattle.dl_index.specs.Shown.{bytes_of, text_told, texts_told, told};
 
@@ -103,6 +115,7 @@ impl<'a> IndexRef<'a> {
         ensures told { IsIndex (bytes_of self.now) → option_map told result ≡ find_in (bytes_of self.now) address }
         ensures stands { IfSome result (λ found. (k : ℕ) × (k < count_in (bytes_of self.now))
             × (told_in (bytes_of self.now) k ≡ Some (told found))) }
+        ensures places { IfSome result (AreAt (bytes_of self.now)) }
     {
         let k = self.last_upto(address)?;
         self.found(k)
@@ -134,9 +147,9 @@ impl<'a> IndexRef<'a> {
         }
     }
 
-    /// What is told of four addresses.
+    /// What is told of four addresses, as by [`IndexRef::find`], side by side.
     #[inline(always)]
-    fn find_four(&self, addresses: Four<u64>) -> Four<Option<Found<'a>>>
+    pub fn find_four(&self, addresses: Four<u64>) -> Four<Option<Found<'a>>>
         ensures first { Finds (bytes_of self.now) addresses.first result.first }
         ensures second { Finds (bytes_of self.now) addresses.second result.second }
         ensures third { Finds (bytes_of self.now) addresses.third result.third }
@@ -198,6 +211,7 @@ impl<'a> IndexRef<'a> {
         ensures start { IsStart (bytes_of self.now) k (option_map (λ s. s.start) result) }
         ensures end { IfSome result (λ s. IsStart (bytes_of self.now) (k + 1) s.end) }
         ensures told { IfSome result (λ s. option_map told s.found ≡ told_in (bytes_of self.now) k) }
+        ensures places { IfSome result (λ s. IfSome s.found (AreAt (bytes_of self.now))) }
         ensures whole { IsIndex (bytes_of self.now) → k < count_in (bytes_of self.now) → IsSome result }
     {
         let start = self.start(k)?;
@@ -222,7 +236,8 @@ impl<'a> IndexRef<'a> {
     #[inline(always)]
     fn found(&self, k: usize) -> Option<Found<'a>>
         requires { k < count_in (bytes_of self.now) }
-        ensures { option_map told result ≡ told_in (bytes_of self.now) k }
+        ensures told { option_map told result ≡ told_in (bytes_of self.now) k }
+        ensures places { IfSome result (AreAt (bytes_of self.now)) }
     {
         let file = self.parts.files.get(k);
         if file == 0 || file > (self.parts.file_table.len() / 24) as u64 {
@@ -233,6 +248,7 @@ impl<'a> IndexRef<'a> {
         Some(Found {
             unit: long_at(self.parts.file_table, file * 24),
             texts,
+            places: self.places(file),
             line: self.parts.lines.get(k),
             column: self.parts.columns.get(k),
             discriminator: self.parts.discriminators.get(k),
@@ -252,7 +268,8 @@ impl<'a> IndexRef<'a> {
     /// The texts of a file, counted from 0; None where one lies outside.
     fn texts(&self, file: usize) -> Option<PathTexts<'a>>
         requires { file < files_in (bytes_of self.now) }
-        ensures { option_map texts_told result ≡ texts_of (bytes_of self.now) file }
+        ensures told { option_map texts_told result ≡ texts_of (bytes_of self.now) file }
+        ensures each { IfSome result (AreTextsOf (bytes_of self.now) file) }
     {
         let first = self.text(number_at(self.parts.file_table, file * 24 + 8))?;
         let second = self.text(number_at(self.parts.file_table, file * 24 + 12))?;
@@ -284,5 +301,32 @@ impl<'a> IndexRef<'a> {
         }
         let rest = &texts[place as usize..];
         Some(Some(&rest[..len as usize]))
+    }
+
+    /// Where the texts of a file stand, counted from 0.
+    fn places(&self, file: usize) -> TextPlaces
+        requires { file < files_in (bytes_of self.now) }
+        ensures { ArePlacesOf (bytes_of self.now) file result }
+    {
+        TextPlaces {
+            first: self.place(number_at(self.parts.file_table, file * 24 + 8)),
+            second: self.place(number_at(self.parts.file_table, file * 24 + 12)),
+            third: self.place(number_at(self.parts.file_table, file * 24 + 16)),
+        }
+    }
+
+    /// Where the text of a number stands, counted from 1; 0 where there is none of that number.
+    fn place(&self, number: u32) -> usize
+        ensures { IsPlaceOf (bytes_of self.now) number result }
+    {
+        if number == 0 {
+            return 0;
+        }
+        let index = (number - 1) as usize;
+        if index >= self.parts.text_table.len() / 16 {
+            return 0;
+        }
+        let place = long_at(self.parts.text_table, index * 16);
+        self.parts.texts_at.saturating_add(place as usize)
     }
 }

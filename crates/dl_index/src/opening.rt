@@ -1,9 +1,9 @@
 //! Opening an index: the checks of its header, and of what stands after it.
 
-ghost use Rattle.std.specs.Prelude.{◌≡◌, ℕ, ◌≤◌, List, length, take, MatchBool, IfOk, IfErr, OnOk, IsOk};
+ghost use Rattle.std.specs.Prelude.{◌≡◌, ℕ, ◌≤◌, List, length, take, MatchBool, IfOk, IfErr, OnOk, IsOk, IfSome, OnSome, IsSome};
 ghost use Rattle.dl_index.specs.Layout.{length_in};
-ghost use Rattle.dl_index.specs.IsIndex.{HasMagic, IsHeaded, HeaderAgrees, IsIndex, HasFault};
-ghost use Rattle.dl_index.specs.HeaderIs.{LengthIs, HeaderIs};
+ghost use Rattle.dl_index.specs.IsIndex.{HasMagic, IsHeaded, IsLaidOut, HeaderAgrees, IsIndex, HasFault};
+ghost use Rattle.dl_index.specs.HeaderIs.{LengthIs, HeaderIs, LayoutIs};
 ghost use Rattle.dl_index.specs.Parts.{Fits};
 ghost use Rattle.dl_index.specs.Shown.{bytes_of};
 
@@ -46,10 +46,42 @@ pub fn open_unchecked(bytes: &[u8]) -> Result<IndexRef<'_>, IndexFault>
     })
 }
 
+/// The same of bytes that were opened before: the sum of the header isn't compared either. None where the bytes aren't laid
+/// out as an index is, which is so of none that was opened.
+#[inline(always)]
+pub fn reopen(bytes: &[u8]) -> Option<IndexRef<'_>>
+    ensures bytes { IfSome result (λ index. bytes_of index ≡ bytes.entry.now) }
+    ensures laid_out { OnSome result (IsLaidOut bytes.entry.now) }
+    ensures some { IsLaidOut bytes.entry.now → IsSome result }
+{
+    let front = &bytes[..bytes.len().min(HEADER_LEN)];
+    let Ok(header) = layout_of(front, bytes.len() as u64) else {
+        return None;
+    };
+    Some(IndexRef {
+        bytes,
+        base: header.base,
+        parts: cut(bytes, &header),
+    })
+}
+
 /// The header of an index of `len` bytes, of which `front` are the first 128, or all where there are fewer: all that
 /// can be checked without the others. The fault is that of the first check that fails.
 pub fn header_of(front: &[u8], len: u64) -> Result<Header, IndexFault>
     ensures header { (b : List ℕ) → front.now ≡ take 128 b → len ≡ length b → HeaderIs b result }
+    ensures fits { IfOk result (λ header. Fits header front.now len) }
+{
+    match layout_of(front, len) {
+        Ok(header) if header_agrees(front) => Ok(header),
+        Ok(_) => Err(IndexFault::Damaged(IndexPart::Sum)),
+        Err(fault) => Err(fault),
+    }
+}
+
+/// The same without the sum of the header.
+#[inline(always)]
+fn layout_of(front: &[u8], len: u64) -> Result<Header, IndexFault>
+    ensures header { (b : List ℕ) → front.now ≡ take 128 b → len ≡ length b → LayoutIs b result }
     ensures fits { IfOk result (λ header. Fits header front.now len) }
 {
     if length_told(front)? != len {
@@ -60,9 +92,6 @@ pub fn header_of(front: &[u8], len: u64) -> Result<Header, IndexFault>
     };
     if front[80] > 32 || whole_len(&header) != u128::from(len) {
         return Err(IndexFault::Damaged(IndexPart::Place));
-    }
-    if !header_agrees(front) {
-        return Err(IndexFault::Damaged(IndexPart::Sum));
     }
     Ok(header)
 }

@@ -22,6 +22,8 @@ pub struct Parts<'a> {
     pub file_table: &'a [u8],
     pub text_table: &'a [u8],
     pub texts: &'a [u8],
+    /// Where the bytes of texts begin.
+    pub texts_at: usize,
 }
 
 /// The next multiple of 8.
@@ -114,6 +116,7 @@ pub fn cut<'a>(bytes: &'a [u8], header: &Header) -> Parts<'a>
     let (statements, rest) = part_at_front(rest, count.div_ceil(8));
     let (file_table, rest) = part_at_front(rest, header.files as usize * 24);
     let (text_table, rest) = part_at_front(rest, header.texts as usize * 16);
+    let texts_at = bytes.len() - rest.len();
     let (texts, _rest) = part_at_front(rest, header.text_bytes as usize);
     Parts {
         starts,
@@ -125,5 +128,6 @@ pub fn cut<'a>(bytes: &'a [u8], header: &Header) -> Parts<'a>
         file_table,
         text_table,
         texts,
+        texts_at,
     }
 }

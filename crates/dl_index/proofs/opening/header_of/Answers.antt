@@ -1,48 +1,25 @@
-use Rattle.std.proofs.Common.{sym, ap, ◌∙◌, arith, inl, inr}
-use Rattle.dl_index.specs.IsIndex.{IsWhole, IsPlaced, HeaderAgrees}
-use Rattle.dl_index.proofs.HeaderLemmas.{no_widths, reads_all, agrees_all, agrees_front, placed_all, too_long_build_id, other_end}
+use Rattle.dl_index.specs.IsIndex.{HeaderAgrees}
+use Rattle.dl_index.proofs.HeaderLemmas.{agrees_all, agrees_front}
 use Rattle.dl_index.proofs.opening.header_of.Goals as goal
-use Rattle.dl_index.proofs.opening.header_of.Goals.{then-front-gt32-via-then-front-gt32, then-front-gt32-via-else-front-gt32+then-whole_len-from}
 
-pub returns-in_default-clause-header : goal.returns-in_default-clause-header
-returns-in_default-clause-header c b same len =
-    let header = c.in_ok-length_told.ensures.length b same in
-    let whole : IsWhole b = record { header = header.0; len = sym header.1 ∙ c.if-branch-len.false ∙ len } in
-    let not = no_widths c.args.front.now b same c.in_default.ensures in
-    ((whole, not), λ is. not is.placed)
-
-pub returns-then-front-gt32-clause-header : goal.returns-then-front-gt32-clause-header
-returns-then-front-gt32-clause-header c b same len =
-    let f = c.args.front.now in
-    let header = c.in_ok-length_told.ensures.length b same in
-    let whole : IsWhole b = record { header = header.0; len = sym header.1 ∙ c.if-branch-len.false ∙ len } in
-    let not : ¬ (IsPlaced b) = elim c.then-front-gt32.branch [
-      | then-front-gt32-via-then-front-gt32 w ↦ too_long_build_id f b same w.if-front-gt32.true
-      | then-front-gt32-via-else-front-gt32+then-whole_len-from w ↦
-          other_end f b same c.args.len c.in-Some.ensures len (λ e. w.if-whole_len-from.true (w.whole_len.ensures ∙ e ∙ sym w.from.ensures))
-    ] in
-    ((whole, not), λ is. not is.placed)
-
-pub returns-then-not-header_agrees-clause-header : goal.returns-then-not-header_agrees-clause-header
-returns-then-not-header_agrees-clause-header c b same len =
-    let f = c.args.front.now in
-    let header = c.in_ok-length_told.ensures.length b same in
-    let whole : IsWhole b = record { header = header.0; len = sym header.1 ∙ c.if-branch-len.false ∙ len } in
-    let small = c.if-front-gt32.false in
-    let placed =
-    placed_all f b same c.in-Some.ensures (omega arith) (sym c.whole_len.ensures ∙ c.if-whole_len-from.false ∙ c.from.ensures ∙ len) in
-    let not : ¬ (HeaderAgrees b) = λ agrees. c.if-not-header_agrees.ensures (agrees_front f b same agrees) in
-    ((whole, placed, λ both. not both.0), λ is. not is.sum)
-
-pub returns-clause-header : goal.returns-clause-header
-returns-clause-header c b same len =
-    let f = c.args.front.now in
-    let header = c.in_ok-length_told.ensures.length b same in
-    let small = c.if-front-gt32.false in (
+pub returns-in-Ok-clause-header : goal.returns-in-Ok-clause-header
+returns-in-Ok-clause-header c b same len =
+    let is = c.in-Ok.ensures.header b same len in (
       record {
-        whole = record { header = header.0; len = sym header.1 ∙ c.if-branch-len.false ∙ len };
-        placed = placed_all f b same c.in-Some.ensures (omega arith) (sym c.whole_len.ensures ∙ c.if-whole_len-from.false ∙ c.from.ensures ∙ len);
-        sum = agrees_all f b same c.if-not-header_agrees.ensures;
+        whole = is.0.whole;
+        placed = is.0.placed;
+        sum = agrees_all c.args.front.now b same c.if-header_agrees.ensures;
       },
-      reads_all f b same c.in-Some.ensures,
+      is.1,
     )
+
+pub returns-in-Ok-2-clause-header : goal.returns-in-Ok-2-clause-header
+returns-in-Ok-2-clause-header c b same len =
+    let is = (c.in-Ok-2.ensures.header b same len).0 in
+    let not : ¬ (HeaderAgrees b) = λ agrees. c.if-header_agrees.ensures (agrees_front c.args.front.now b same agrees) in
+    ((is.whole, is.placed, λ both. not both.0), λ headed. not headed.sum)
+
+pub returns-in-Err-clause-header : goal.returns-in-Err-clause-header
+returns-in-Err-clause-header c b same len =
+    let is = c.in-Err.ensures.header b same len in
+    (is.0, λ headed. is.1 (record { whole = headed.whole; placed = headed.placed }))

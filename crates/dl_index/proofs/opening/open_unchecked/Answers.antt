@@ -1,7 +1,6 @@
-use Rattle.std.proofs.Common.{sym, ap, ◌∙◌, arith, refl, rules}
+use Rattle.std.proofs.Common.{refl, rules}
 use Rattle.dl_index.specs.IsIndex.{HasFault}
 use Rattle.dl_index.proofs.HeaderLemmas.{front_of}
-use Rattle.dl_index.proofs.PartLemmas.{sizes_are}
 use Rattle.dl_index.proofs.opening.open_unchecked.Goals as goal
 
 pub returns-in_err-header-clause-fault : goal.returns-in_err-header-clause-fault
@@ -25,4 +24,9 @@ pub invariant_of-result : goal.invariant_of-result
 invariant_of-result c =
     let b = c.args.bytes.now in
     let is = c.in_ok-header.ensures.header b (front_of b _ c.min.ensures) refl in
-    record { headed = is.0; based = is.1.base; cut = c.cut.ensures }
+    record { laid_out = record { whole = is.0.whole; placed = is.0.placed }; based = is.1.base; cut = c.cut.ensures }
+
+pub returns-clause-headed : goal.returns-clause-headed
+returns-clause-headed c =
+    let b = c.args.bytes.now in
+    (c.in_ok-header.ensures.header b (front_of b _ c.min.ensures) refl).0

@@ -1,7 +1,8 @@
-use Rattle.std.proofs.Common.{◌+◌, ◌*◌, ◌/◌, ◌≡◌, take, drop, ap, ap₂, ◌∙◌, arith}
+use Rattle.std.proofs.Common.{◌+◌, ◌*◌, ◌/◌, ◌≡◌, take, drop, ap, ap₂, ◌∙◌, arith, refl}
 use Rattle.dl_index.specs.Columns.{size_of}
 use Rattle.dl_index.specs.Layout.{rounded}
 use Rattle.dl_index.proofs.PartLemmas.{part_by, div_ceil-eight, drop_whole}
+use Rattle.dl_index.proofs.PlaceLemmas.{texts_stand}
 use Rattle.dl_index.proofs.parts.cut.Goals as goal
 
 pub returns : goal.returns
@@ -35,6 +36,7 @@ returns c =
     let same_count = r.count in
     let same_files = r.files in
     let same_texts = r.texts in
+    let there = texts_stand h c.args.bytes.now c.part_at_front-3.result.1.now _ r c.requires.whole e8 refl in
     record {
       starts = record { bytes = starts.column ∙ ap (take (h.count * size_of h.widths.starts)) e0 ∙ by 0; width = ap size_of starts.width ∙ w.starts; len = starts.len ∙ r.count };
       files = record {
@@ -65,4 +67,6 @@ returns c =
       file_table_len = omega arith;
       text_table_len = omega arith;
       texts_len = texts.len ∙ r.text_bytes;
+      texts_there = there.0;
+      texts_within = there.1;
     }

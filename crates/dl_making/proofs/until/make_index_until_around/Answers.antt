@@ -33,6 +33,6 @@ index_until-requires g c =
     let first = c.new-maker.result in
     let ended = c.read_units_around-ended.result in
     λ some. told_until_around c.args.options.now.dialect first c.args.options.now.limit read.0
-        (g.R.Read.remaining c.read_units_around-ended.new.input) c.read_units_around-ended.new.visitor None None ended
-        (ap is_refused (sym c.err.ensures.value) ∙ some)
-        (read.2 (begins first None maker.runs maker.names (Appends-nil None)) (Appends-nil None))
+    (g.R.Read.remaining c.read_units_around-ended.new.input) c.read_units_around-ended.new.visitor None None ended
+    (ap is_refused (sym c.err.ensures.value) ∙ some)
+    (read.2 (begins first None maker.runs maker.names (Appends-nil None)) (Appends-nil None))

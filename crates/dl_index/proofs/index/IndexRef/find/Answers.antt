@@ -16,7 +16,7 @@ returns-clause-told c is =
     let b = bytes_of c.args.self.now in
     let k = c.in_ok-k.ensures in
     let last = k.last is.ordered.rise (is.ordered.first (let within = k.within.0 in omega arith)) in
-    c.found.ensures ∙ sym (finds b c.args.address c.in_ok-k.k k.within.1 is.ordered.rise last)
+    c.found.ensures.told ∙ sym (finds b c.args.address c.in_ok-k.k k.within.1 is.ordered.rise last)
 
 pub returns-clause-stands : goal.returns-clause-stands
-returns-clause-stands c = found_one (bytes_of c.args.self.now) c.in_ok-k.k c.found.result c.in_ok-k.ensures.within.0 c.found.ensures
+returns-clause-stands c = found_one (bytes_of c.args.self.now) c.in_ok-k.k c.found.result c.in_ok-k.ensures.within.0 c.found.ensures.told

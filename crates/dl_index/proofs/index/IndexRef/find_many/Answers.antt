@@ -33,7 +33,7 @@ loop-i-preserved c =
 pub loop-k-preserved : goal.loop-k-preserved
 loop-k-preserved c =
     let test = c.loop-k-test.true in
-    let one : Finds (bytes_of c.args.self.now) (get_or c.args.addresses.now c.loop-k.k 0) c.find.result = record { exact = c.find.ensures.told; stands = c.find.ensures.stands } in
+    let one : Finds (bytes_of c.args.self.now) (get_or c.args.addresses.now c.loop-k.k 0) c.find.result = record { exact = c.find.ensures.told; stands = c.find.ensures.stands; places = c.find.ensures.places } in
     done_more (bytes_of c.args.self.now) c.args.addresses.now c.loop-k.found c.loop-k.k (c.loop-k.k + 1) c.find.result
     (omega arith) (omega arith) one c.loop-k.invariant
 

@@ -8,7 +8,7 @@ returns-then-address-self c =
     let self = c.args.self.now in
     let based = self.based in
     let below = c.if-address-self.true in
-    record { exact = λ is. sym (finds_nothing (bytes_of self) c.args.address (omega arith)); stands = tt }
+    record { exact = λ is. sym (finds_nothing (bytes_of self) c.args.address (omega arith)); stands = tt; places = tt }
 
 pub returns : goal.returns
 returns c =
@@ -22,7 +22,8 @@ returns c =
       exact = λ is.
           (let first = is.ordered.first (omega arith) in
           let rise = is.ordered.rise in
-          c.found.ensures
+          c.found.ensures.told
           ∙ sym (finds b c.args.address k (omega arith) rise (c.requires.last rise (omega arith))));
-      stands = found_one b k c.found.result within c.found.ensures;
+      stands = found_one b k c.found.result within c.found.ensures.told;
+      places = c.found.ensures.places;
     }

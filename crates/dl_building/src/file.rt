@@ -1,0 +1,92 @@
+//! The call that makes the index of an ELF file.
+
+ghost use Rattle.std.specs.Prelude.{◌≡◌};
+ghost use Rattle.dl_cmd.specs.Job.{index_words_made};
+ghost use Rattle.dl_building.specs.FileBuilding.{BuildsFile, IsFileBuilt, file_words};
+
+use crate::faults::tell_stop;
+use crate::one_file::OneFile;
+use crate::room::put;
+use dl_calls::{FaultRecord, Status};
+use dl_cmd::{IndexWords, UnitWords};
+use dl_run::Survey;
+use dl_work::{Stop, index};
+use std::alloc::Global;
+
+/// The index of a file.
+#[derive(Drop)]
+pub struct Built {
+    pub index: Vec<u8>,
+    /// What the units of its line table come to, and which are damaged.
+    pub survey: Survey,
+}
+
+/// What the program is told for an index of all units of a file that are read.
+fn words(all: bool, keep_going: bool) -> IndexWords<'static>
+    ensures { index_words_made result ≡ file_words all keep_going }
+{
+    IndexWords {
+        file: Some(""),
+        output: None,
+        list: false,
+        all,
+        keep_going,
+        section: None,
+        units: UnitWords {
+            older: None,
+            address_size: None,
+            version_5: false,
+        },
+        comp_dir: None,
+    }
+}
+
+/// Makes the index of the ELF file that bytes are, as the program does.
+fn index_of_file(
+    alloc: Global,
+    file: &[u8],
+    all: bool,
+    keep_going: bool,
+) -> Result<Built, Stop<'static>>
+    ensures { IsFileBuilt file.now all keep_going result }
+{
+    let words = words(all, keep_going);
+    let files = OneFile { bytes: file };
+    let mut made = Vec::new(alloc);
+    match index(alloc, &words, &files, &mut made) {
+        Ok(survey) => Ok(Built {
+            index: made,
+            survey,
+        }),
+        Err(stop) => Err(stop),
+    }
+}
+
+/// Makes the index of an ELF file, as `dwline index` does: of the sequences that begin where the file has code, or of all;
+/// up to a damaged unit, or around such units.
+///
+/// Done: the index stands in the room's first bytes, and how many these are is told. NoRoom: this alone is told. Fault: the
+/// fault is told; and where units are damaged that are gone around, the index too. NoMemory: also where the index would
+/// have 2^32 texts. What isn't told stays as it was.
+pub fn build_file(
+    alloc: Global,
+    file: &[u8],
+    all: bool,
+    keep_going: bool,
+    room: &mut [u8],
+    len: &mut usize,
+    fault: &mut FaultRecord,
+) -> Status
+    ensures { BuildsFile file.now all keep_going room.old room.new len.old len.new fault.old fault.new result }
+{
+    match index_of_file(alloc, file, all, keep_going) {
+        Ok(built) => put(
+            built.index.as_slice(),
+            built.survey.damaged,
+            room,
+            len,
+            fault,
+        ),
+        Err(stop) => tell_stop(&stop, fault),
+    }
+}

@@ -1,0 +1,2 @@
+pub mod TellsLemmas
+pub mod LocatedLemmas

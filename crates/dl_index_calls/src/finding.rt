@@ -1,0 +1,73 @@
+//! The calls that look addresses up.
+
+ghost use Rattle.std.specs.Prelude.{◌≡◌, ℕ, ◌<◌, length, slice_index, slice_index_or};
+ghost use Rattle.dl_index.specs.Shown.{bytes_of};
+ghost use Rattle.dl_index_calls.specs.IndexFindCalls.{FindsMany, FindsOne, Located};
+ghost use Rattle.dl_index_calls.specs.declared.record.LocationRecord.{LocationRecord};
+
+use crate::record::LocationRecord;
+use dl_calls::Status;
+use dl_index::{Four, IndexRef, reopen};
+
+/// What an index tells of an address.
+///
+/// Done: it is told. NoAnswer: nothing is told, in a gap and before the first stretch. Fault: the bytes aren't laid out
+/// as those of an index that was opened. What isn't told stays as it was. Where the bytes were not checked, nothing is told
+/// either where the number of a file or text, or the place of a text, lies outside.
+pub fn find(bytes: &[u8], address: u64, location: &mut LocationRecord) -> Status
+    ensures { FindsOne bytes.now address location.old location.new result }
+{
+    let Some(index) = reopen(bytes) else {
+        return Status::Fault;
+    };
+    match index.find(address) {
+        Some(found) => {
+            *location = LocationRecord::found(&found);
+            Status::Done
+        }
+        None => Status::NoAnswer,
+    }
+}
+
+/// What an index tells of each address, as by `find`, four of them side by side, each at its place in `locations`.
+///
+/// Done: each is told, or that nothing is told of it. NoRoom: there aren't as many locations as addresses. Fault: as of
+/// `find`. What isn't told stays as it was.
+pub fn find_many(bytes: &[u8], addresses: &[u64], locations: &mut [LocationRecord]) -> Status
+    ensures { FindsMany bytes.now addresses.now locations.old locations.new result }
+{
+    if addresses.len() != locations.len() {
+        return Status::NoRoom;
+    }
+    let Some(index) = reopen(bytes) else {
+        return Status::Fault;
+    };
+    locate_all(&index, addresses, locations);
+    Status::Done
+}
+
+/// Tells what an index tells of each address.
+fn locate_all(index: &IndexRef<'_>, addresses: &[u64], locations: &mut [LocationRecord])
+    requires { length addresses.now ≡ length locations.old }
+    ensures len { length locations.new ≡ length addresses.now }
+    ensures located { (i : ℕ) → i < length addresses.now → (d : LocationRecord)
+        → Located (bytes_of index.now) (slice_index addresses.now i) (slice_index_or locations.new i d) }
+{
+    let mut i = 0;
+    while addresses.len() - i >= 4 {
+        let four = index.find_four(Four {
+            first: addresses[i],
+            second: addresses[i + 1],
+            third: addresses[i + 2],
+            fourth: addresses[i + 3],
+        });
+        locations[i] = LocationRecord::of(four.first);
+        locations[i + 1] = LocationRecord::of(four.second);
+        locations[i + 2] = LocationRecord::of(four.third);
+        locations[i + 3] = LocationRecord::of(four.fourth);
+        i += 4;
+    }
+    for k in i..addresses.len() {
+        locations[k] = LocationRecord::of(index.find(addresses[k]));
+    }
+}
