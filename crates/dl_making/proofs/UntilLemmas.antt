@@ -1,5 +1,5 @@
 -- What the making of an index comes to that ends with a fault.
-use Rattle.std.proofs.Common.{◌≡◌, ◌≢◌, inl, inr, ℕ, true, List, [], ◌∷◌, ◌++◌, length, Option, Some, Result, Ok, Err}
+use Rattle.std.proofs.Common.{◌≡◌, ◌≢◌, inl, inr, ℕ, true, List, [], ◌∷◌, ◌++◌, length, Option, Some, Result, Ok, Err, false}
 use Rattle.std.proofs.Common.{IfOk, arith, ap, ◌∙◌, length-append, refl}
 use Rattle.std.specs.Prelude.{is_err}
 use Rattle.std.specs.Result.{result_err}

@@ -116,7 +116,7 @@ pub(crate) fn told_index(
         stretches.as_slice(),
         &maker.names,
         table.all,
-        front(table.build_id),
+        id_front(table.build_id),
     ) {
         Ok(index) => Ok(index),
         Err(PackFault::NoMemory) => Err(NoMemory),
@@ -125,8 +125,8 @@ pub(crate) fn told_index(
     }
 }
 
-/// The first 32 bytes.
-fn front(build_id: &[u8]) -> &[u8]
+/// As much of a build ID as an index keeps: its first 32 bytes.
+pub fn id_front(build_id: &[u8]) -> &[u8]
     ensures { result.now ≡ take 32 build_id.now }
 {
     if build_id.len() <= 32 {

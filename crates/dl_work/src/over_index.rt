@@ -1,5 +1,5 @@
 //! What the program does for `addr` over an index.
-ghost use Rattle.std.specs.Prelude.{◌≡◌, ◌==◌, ℕ, List, Bool, IfOk, IfErr, MatchResult, option_map, take, true};
+ghost use Rattle.std.specs.Prelude.{◌≡◌, ◌==◌, ℕ, List, Bool, IfOk, IfErr, MatchResult, option_map, true};
 ghost use Rattle.std.specs.Option.{option_copied};
 ghost use Rattle.std.specs.Io.KnownBytes.{Consumes};
 ghost use Rattle.std.specs.declared.io.Error.{Error};
@@ -21,6 +21,7 @@ use dl_cmd::AddrWords;
 use dl_dialogue::{AnswerFault, Answered};
 use dl_elf::{BuildId, ReadAt};
 use dl_index_file::open_index;
+use dl_making::id_front;
 use dl_open::{FileFault, FileSource, open_file};
 use std::alloc::Global;
 use std::io::{Read, Write};
@@ -112,14 +113,7 @@ fn has_id(own: Option<&BuildId>, id: &[u8]) -> bool
     ensures { result ≡ has_id (option_map build_id_bytes (option_copied own.entry)) id.now }
 {
     match own {
-        Some(own) => front(own.as_bytes()) == id,
+        Some(own) => id_front(own.as_bytes()) == id,
         None => false,
     }
-}
-
-/// As much of a build ID as an index keeps.
-fn front(id: &[u8]) -> &[u8]
-    ensures { result.now ≡ take 32 id.now }
-{
-    if id.len() <= 32 { id } else { &id[..32] }
 }

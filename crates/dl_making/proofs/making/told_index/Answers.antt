@@ -32,8 +32,8 @@ returns-in-Ok c first start held visits m =
     (made.tells (subst StretchesRise (sym here) (rise stretches are.apart))
     ∙ ap (map (Rattle.dl_pack.specs.Telling.named_stretch (named_files names))) here)
     (made.made
-    ∙ ap (λ l. index_of c.args.table.now.all c.front.result.now l (files_of names) (texts_of names)) here
-    ∙ ap (λ id. index_of c.args.table.now.all id stretches (files_of names) (texts_of names)) c.front.ensures)
+    ∙ ap (λ l. index_of c.args.table.now.all c.id_front.result.now l (files_of names) (texts_of names)) here
+    ∙ ap (λ id. index_of c.args.table.now.all id stretches (files_of names) (texts_of names)) c.id_front.ensures)
 
 pub unreachable-requires : goal.unreachable-requires
 unreachable-requires c =
@@ -52,5 +52,5 @@ unreachable-requires c =
 pub unreachable-requires-in-Err-BuildId : goal.unreachable-requires-in-Err-BuildId
 unreachable-requires-in-Err-BuildId c =
     let fails = rw c.in-Err-BuildId.field-0-is at c.in-Err-BuildId.ensures.fails in
-    let short = ap length c.front.ensures in
+    let short = ap length c.id_front.ensures in
     omega (arith, fails, short, length-take 32 c.args.table.now.build_id.now)
