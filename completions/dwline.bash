@@ -9,7 +9,7 @@ _dwline() {
         return
     fi
     case $before in
-        --line-str | --str | -e | --exe | --comp-dir | -o | --output)
+        --line-str | --str | -e | --exe | --comp-dir | --for | -o | --output)
             mapfile -t COMPREPLY < <(compgen -f -- "$current")
             return
             ;;
@@ -23,7 +23,7 @@ _dwline() {
     esac
     local options
     case ${COMP_WORDS[1]} in
-        addr) options="-a --addresses -s --basenames --json --hex --base --all --stop -j --section -e --exe --older --address-size --version-5 --comp-dir --big --line-str --str -h --help" ;;
+        addr) options="-a --addresses -s --basenames --json --hex --base --all --stop -j --section -e --exe --older --address-size --version-5 --comp-dir --for --big --line-str --str -h --help" ;;
         index) options="--all --keep-going -j --section --address-size --version-5 --comp-dir --list -o --output -h --help" ;;
         dump) options="--keep-going --older --address-size --version-5 --big --line-str --str -h --help" ;;
         check) options="--keep-going --older --address-size --version-5 --big -h --help" ;;

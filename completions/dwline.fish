@@ -24,6 +24,7 @@ complete -c dwline -n "__fish_seen_subcommand_from addr dump check find copy" -l
 complete -c dwline -n "__fish_seen_subcommand_from addr index dump check find copy" -l address-size -x -a "1 2 4 8" -d "Size of an address in units of versions 2 to 4 of FILE"
 complete -c dwline -n "__fish_seen_subcommand_from addr index dump check find" -l version-5 -d "Read units of version 5 alone of FILE"
 complete -c dwline -n "__fish_seen_subcommand_from addr index copy" -l comp-dir -r -F -d "Compilation directory of all units"
+complete -c dwline -n "__fish_seen_subcommand_from addr" -l for -r -F -d "ELF file whose build ID the index must have"
 complete -c dwline -n "__fish_seen_subcommand_from copy" -l to-5 -d "Copy units of versions 2 to 4 too, as units of version 5"
 complete -c dwline -n "__fish_seen_subcommand_from addr dump check find copy" -l big -d "Read the section on standard input as big-endian"
 complete -c dwline -n "__fish_seen_subcommand_from addr dump find" -l line-str -r -F -d "File with the bytes of .debug_line_str"
