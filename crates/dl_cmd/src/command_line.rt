@@ -6,7 +6,12 @@ ghost use Rattle.dl_cmd.specs.CommandLine.{index_app, top_app, with_addresses, w
 ghost use Rattle.dl_cmd.specs.CommandLine.{with_printing, with_settings, with_strings, with_to_5, with_units};
 ghost use Rattle.dl_cmd.specs.CommandLine.{with_units_of_addr, with_units_of_file};
 
-use crate::arguments::{addr_file, address, address_size, address_size_of_file, addresses, all, base, big, comp_dir, exe, file, file_with_strings, index_file, json, letter, line_str, list, made_of, older, op, output, section, section_of_file, size_of_copied, strings, switch, version_5, version_5_of_file, wanting};
+use crate::arguments::{
+    addr_file, address, address_size, address_size_of_file, addresses, all, base, big, comp_dir,
+    exe, file, file_with_strings, index_file, json, letter, line_str, list, made_of, older, op,
+    output, section, section_of_file, size_of_copied, strings, switch, version_5,
+    version_5_of_file, wanting,
+};
 use clap::{Arg, Command};
 use std::alloc::{AllocError, Global};
 

@@ -194,6 +194,7 @@ fn words(alloc: Global, stop: bool) -> Result<AddrWords<'static>, AllocError> {
         big: false,
         units: NOTHING_OF_UNITS,
         comp_dir: None,
+        made_of: None,
         line_str: None,
         strings: None,
     })

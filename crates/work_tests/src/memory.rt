@@ -69,6 +69,7 @@ fn words(alloc: Global, addresses: &[&'static str]) -> Result<AddrWords<'static>
         big: false,
         units: NOTHING_OF_UNITS,
         comp_dir: None,
+        made_of: None,
         line_str: None,
         strings: None,
     })
