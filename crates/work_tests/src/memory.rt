@@ -75,6 +75,14 @@ fn words(alloc: Global, addresses: &[&'static str]) -> Result<AddrWords<'static>
     })
 }
 
+/// Does the same while there is memory: the stack has the room then that it takes, which can't grow once all memory is taken.
+fn grow_stack(alloc: Global, words: &AddrWords<'_>) {
+    let mut output = [0; 512];
+    let mut room = output.as_mut_slice();
+    let mut input: &[u8] = b"0x401000\n";
+    let _ = locate(alloc, words, &SHELF, &mut input, &mut room);
+}
+
 /// What the words come to for which there is no memory.
 fn located_without(
     alloc: Global,
@@ -82,6 +90,7 @@ fn located_without(
     output: &mut [u8],
     errors: &mut [u8],
 ) -> Result<(u8, usize, usize), AllocError> {
+    grow_stack(alloc, words);
     let _blocks = hoard(alloc)?;
     let mut room = output;
     let mut input: &[u8] = b"0x401000\n";
@@ -97,17 +106,18 @@ fn assert_not_located(
     rt: &impl Abort,
     alloc: Global,
     addresses: &[&'static str],
+    line: &str,
 ) -> Result<(), Fail> {
     let mut output = [0; 512];
     let mut errors = [0; 128];
     let words = words(alloc, addresses)?;
     let found = located_without(alloc, &words, &mut output, &mut errors)?;
-    assert_stopped(rt, found, &errors, "dwline: out of memory\n");
+    assert_stopped(rt, found, &errors, line);
     Ok(())
 }
 
 #[test]
 fn addresses(rt: HostRuntime) -> Result<(), Fail> {
-    assert_not_located(&rt, rt.alloc(), &["0x401000"])?;
-    assert_not_located(&rt, rt.alloc(), &[])
+    assert_not_located(&rt, rt.alloc(), &["0x401000"], "dwline: out of memory\n")?;
+    assert_not_located(&rt, rt.alloc(), &[], "dwline: elf: out of memory\n")
 }
