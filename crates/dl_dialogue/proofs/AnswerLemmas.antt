@@ -3,7 +3,7 @@ use Rattle.std.proofs.Common.{◌≡◌, ℕ, Bool, true, false, if◌then◌els
 use Rattle.std.proofs.Common.{ap₂, ◌∙◌, append-nil, append_assoc, subst, Result, Ok, Err, MatchResult, ◌+◌, ◌<◌, ◌≤◌}
 use Rattle.std.proofs.Common.{length, take, drop, get_or, take-append-drop}
 use Rattle.std.proofs.lemmas.List.{take_all, take_more}
-use Rattle.std.specs.Prelude.{◌&&◌, flat_map, is_some, option_map, OnOk}
+use Rattle.std.specs.Prelude.{◌&&◌, is_some, option_map, OnOk}
 use Rattle.std.specs.Io.KnownBytes.{Appends}
 use Rattle.std.specs.List.{list_all}
 use Rattle.std.specs.declared.io.Error.{Error}
@@ -18,9 +18,7 @@ use Rattle.dl_look.specs.declared.asked.Asked.{Asked}
 use Rattle.dl_addr.specs.Commands.{is_answered}
 use Rattle.dl_addr.specs.Location.{Location}
 use Rattle.dl_addr.specs.Locations.{location_line}
-use Rattle.dl_addr.specs.declared.question.Found.{Found}
 use Rattle.dl_addr.specs.declared.question.Found.TheVariants.{All, NotAll}
-use Rattle.dl_addr.specs.declared.style.Style.{Style}
 use Rattle.dl_dialogue.specs.Answers.{Manner, StopsBy, answer_by, found_by, lines_by}
 use Rattle.dl_dialogue.specs.Faults.{TellFails}
 use Rattle.dl_dialogue.specs.Standing.{Stands, stopped, written}
@@ -57,24 +55,24 @@ module _ (m : Manner) (before : List Asked) (a : Asked) where
       found_both (list_all has before) (has a)
       ∙ ap (λ (b : Bool). if b then All else NotAll) (sym (list_all-append has before (a ∷ [])))
 
-  module _ (start now later : Option (List ℕ)) (s : Answers) (stands : Stands m start now before s) where
+  module _ (start now later : Option (List ℕ)) (held : Printed) (s : Answers) (stands : Stands m start now before held s) where
     -- a line is printed, or a write fails
     pub answers_one : (Fails : Error → Type 0) (told : Option Location) (is : Bool)
-        (r : Result (Unit {0}) WriteFault) (new : Answers) → told ≡ answer_by m a → is ≡ is_answered a (is_some told)
+        (r : Result (Unit {0}) WriteFault) (p : Printed) (new : Answers) → told ≡ answer_by m a → is ≡ is_answered a (is_some told)
         → new.style ≡ s.style → new.base ≡ s.base → new.found ≡ (if is then s.found else NotAll)
-        → Prints now later s.printer new.printer (location_line s.style a told) r
-        → MatchResult (written r) (λ _. Stands m start later (before ++ a ∷ []) new)
+        → Prints now later held p (location_line s.style a told) r
+        → MatchResult (written r) (λ _. Stands m start later (before ++ a ∷ []) p new)
         (StopsBy m Fails start later (before ++ a ∷ []))
-    answers_one Fails told is r new e is_e style base found prints =
+    answers_one Fails told is r p new e is_e style base found prints =
         let line : location_line s.style a told ≡ one = ap₂ (λ x y. location_line x a y) stands.style e in
         let all : lines_by m before ++ location_line s.style a told ≡ lines_by m (before ++ a ∷ []) =
         ap (λ l. lines_by m before ++ l) line ∙ sym lines_more in
-        by r (subst (λ t. MatchResult r (λ _. HasPrinted start later t new.printer) (λ f. TellsOut start later t f)) all
+        by r (subst (λ t. MatchResult r (λ _. HasPrinted start later t p) (λ f. TellsOut start later t f)) all
         (prints start (lines_by m before) stands.printed)) where
           by : (r : Result (Unit {0}) WriteFault)
-              → MatchResult r (λ _. HasPrinted start later (lines_by m (before ++ a ∷ [])) new.printer)
+              → MatchResult r (λ _. HasPrinted start later (lines_by m (before ++ a ∷ [])) p)
               (λ f. TellsOut start later (lines_by m (before ++ a ∷ [])) f)
-              → MatchResult (written r) (λ _. Stands m start later (before ++ a ∷ []) new)
+              → MatchResult (written r) (λ _. Stands m start later (before ++ a ∷ []) p new)
               (StopsBy m Fails start later (before ++ a ∷ []))
           by (Ok x) printed = record {
             style = style ∙ stands.style;
@@ -87,53 +85,50 @@ module _ (m : Manner) (before : List Asked) (a : Asked) where
 
     -- nothing can be told: the lines before it are written, or a write fails
     pub stops_before : (Fails : Error → Type 0) (fault : TellFault) (printer : Printed) (r : Result (Unit {0}) WriteFault)
-        (new : Answers) → TellFails Fails fault → Flushes now later s.printer printer r → OnOk r (printer.pending ≡ [])
-        → MatchResult (stopped r fault) (λ _. Stands m start later (before ++ a ∷ []) new)
+        (new : Answers) → TellFails Fails fault → Flushes now later held printer r → OnOk r (printer.pending ≡ [])
+        → MatchResult (stopped r fault) (λ _. Stands m start later (before ++ a ∷ []) printer new)
         (StopsBy m Fails start later (before ++ a ∷ []))
     stops_before Fails fault printer r new fails flushes empty = by r (flushes start (lines_by m before) stands.printed) empty where
       by : (r : Result (Unit {0}) WriteFault)
           → MatchResult r (λ _. HasPrinted start later (lines_by m before) printer)
           (λ f. TellsOut start later (lines_by m before) f) → OnOk r (printer.pending ≡ [])
-          → MatchResult (stopped r fault) (λ _. Stands m start later (before ++ a ∷ []) new)
+          → MatchResult (stopped r fault) (λ _. Stands m start later (before ++ a ∷ []) printer new)
           (StopsBy m Fails start later (before ++ a ∷ []))
       by (Ok x) printed empty =
           (before, a ∷ [], refl, (fails, HasPrinted-out start later (lines_by m before) printer printed empty))
       by (Err lost) out empty = (before, a ∷ [], refl, out)
 
 -- what was held back is written
-pub flushes_all : (m : Manner) (start now later : Option (List ℕ)) (asked : List Asked) (s new : Answers)
-    (r : Result (Unit {0}) WriteFault) → Stands m start now asked s → new.style ≡ s.style → new.base ≡ s.base
-    → new.found ≡ s.found → Flushes now later s.printer new.printer r → OnOk r (new.printer.pending ≡ [])
-    → MatchResult (written r)
-    (λ _. Stands m start later asked new × Appends start later (lines_by m asked))
+pub flushes_all : (m : Manner) (start now later : Option (List ℕ)) (asked : List Asked) (p q : Printed) (s : Answers)
+    (r : Result (Unit {0}) WriteFault) → Stands m start now asked p s → Flushes now later p q r → OnOk r (q.pending ≡ [])
+    → MatchResult (written r) (λ _. Stands m start later asked q s × Appends start later (lines_by m asked))
     (StopsBy m (λ _. ⊥) start later asked)
-flushes_all m start now later asked s new r stands style base found flushes empty =
+flushes_all m start now later asked p q s r stands flushes empty =
     by r (flushes start (lines_by m asked) stands.printed) empty where
       by : (r : Result (Unit {0}) WriteFault)
-          → MatchResult r (λ _. HasPrinted start later (lines_by m asked) new.printer)
-          (λ f. TellsOut start later (lines_by m asked) f) → OnOk r (new.printer.pending ≡ [])
-          → MatchResult (written r)
-          (λ _. Stands m start later asked new × Appends start later (lines_by m asked))
+          → MatchResult r (λ _. HasPrinted start later (lines_by m asked) q)
+          (λ f. TellsOut start later (lines_by m asked) f) → OnOk r (q.pending ≡ [])
+          → MatchResult (written r) (λ _. Stands m start later asked q s × Appends start later (lines_by m asked))
           (StopsBy m (λ _. ⊥) start later asked)
       by (Ok x) printed empty = (
         record {
-          style = style ∙ stands.style;
-          base = base ∙ stands.base;
-          found = found ∙ stands.found;
+          style = stands.style;
+          base = stands.base;
+          found = stands.found;
           printed = printed;
         },
-        HasPrinted-out start later (lines_by m asked) new.printer printed empty,
+        HasPrinted-out start later (lines_by m asked) q printed empty,
       )
       by (Err lost) out empty = (asked, [], sym (append-nil asked), out)
 
 -- nothing was asked yet
-pub nothing_asked : (m : Manner) (start : Option (List ℕ)) (s : Answers) → s.style ≡ m.style → s.base ≡ m.base
-    → s.found ≡ All → s.printer.pending ≡ [] → s.printer.out ≡ 0 → Stands m start start [] s
-nothing_asked m start s style base found pending out = record {
+pub nothing_asked : (m : Manner) (start : Option (List ℕ)) (p : Printed) (s : Answers) → s.style ≡ m.style
+    → s.base ≡ m.base → s.found ≡ All → p.pending ≡ [] → p.out ≡ 0 → Stands m start start [] p s
+nothing_asked m start p s style base found pending out = record {
   style = style;
   base = base;
   found = found;
-  printed = HasPrinted-nothing start start s.printer (Appends-nil start) pending out;
+  printed = HasPrinted-nothing start start p (Appends-nil start) pending out;
 }
 
 -- more is asked than what was answered
@@ -152,11 +147,11 @@ stops_weaker m Fails start now asked (Tell NoMemory) stops = stops
 
 -- ---- of a list that is answered in order
 
-pub each_answered : (m : Manner) (start now : Option (List ℕ)) (asked : List Asked) (i : ℕ) (d : Asked) (s : Answers)
-    → i < length asked → Stands m start now (take i asked ++ get_or asked i d ∷ []) s
-    → Stands m start now (take (i + 1) asked) s
-each_answered m start now asked i d s lt stands =
-    subst (λ a. Stands m start now a s) (sym (take_more asked i d lt)) stands
+pub each_answered : (m : Manner) (start now : Option (List ℕ)) (asked : List Asked) (i : ℕ) (d : Asked) (p : Printed)
+    (s : Answers) → i < length asked → Stands m start now (take i asked ++ get_or asked i d ∷ []) p s
+    → Stands m start now (take (i + 1) asked) p s
+each_answered m start now asked i d p s lt stands =
+    subst (λ a. Stands m start now a p s) (sym (take_more asked i d lt)) stands
 
 pub answered_within : (m : Manner) (Fails : Error → Type 0) (start now : Option (List ℕ)) (asked : List Asked) (i : ℕ)
     (d : Asked) (fault : AnswerFault) → i < length asked
@@ -167,6 +162,6 @@ answered_within m Fails start now asked i d fault lt stops =
     (stops_more m Fails start now (take (i + 1) asked) (drop (i + 1) asked) fault
     (subst (λ a. StopsBy m Fails start now a fault) (sym (take_more asked i d lt)) stops))
 
-pub all_answered : (m : Manner) (start now : Option (List ℕ)) (asked : List Asked) (i : ℕ) (s : Answers)
-    → length asked ≤ i → Stands m start now (take i asked) s → Stands m start now asked s
-all_answered m start now asked i s past stands = subst (λ a. Stands m start now a s) (take_all i asked past) stands
+pub all_answered : (m : Manner) (start now : Option (List ℕ)) (asked : List Asked) (i : ℕ) (p : Printed)
+    (s : Answers) → length asked ≤ i → Stands m start now (take i asked) p s → Stands m start now asked p s
+all_answered m start now asked i p s past stands = subst (λ a. Stands m start now a p s) (take_all i asked past) stands

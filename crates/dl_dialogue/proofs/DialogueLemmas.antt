@@ -6,6 +6,7 @@ use Rattle.std.specs.declared.io.Error.{Error}
 use Rattle.std.proofs.KnownBytes.{Appends-nil}
 use Rattle.std.proofs.lemmas.Bool.Decides.{nat_tests}
 use Rattle.std.proofs.lemmas.List.{take_all, take_more}
+use Rattle.dl_print.specs.Printed.{Printed}
 use Rattle.dl_look.specs.declared.asked.Asked.{Asked}
 use Rattle.dl_asked.specs.AskedLines.{and_asked, asked_in, ended}
 use Rattle.dl_asked.specs.LinesRead.{asked_from, base_of}
@@ -35,17 +36,17 @@ stops_later m hex Fails start now done more fault stops rest =
 
 -- a byte is taken, and what it ends is answered
 pub byte_spoken : (m : Manner) (hex : Bool) (Fails : Error → Type 0) (start later : Option (List ℕ)) (done : List ℕ)
-    (byte : ℕ) (asked : Option Asked) (new : Dialogue) (r : Result (Unit {0}) AnswerFault)
+    (byte : ℕ) (asked : Option Asked) (p : Printed) (new : Dialogue) (r : Result (Unit {0}) AnswerFault)
     → HasRead hex (done ++ byte ∷ []) (asked_in hex (ended done) ++ and_asked asked []) new.line
-    → MatchResult r (λ _. Stands m start later (asked_in hex (ended done) ++ and_asked asked []) new.answers)
+    → MatchResult r (λ _. Stands m start later (asked_in hex (ended done) ++ and_asked asked []) p new.answers)
     (StopsBy m Fails start later (asked_in hex (ended done) ++ and_asked asked []))
-    → MatchResult r (λ _. Speaks m hex start later (done ++ byte ∷ []) new)
+    → MatchResult r (λ _. Speaks m hex start later (done ++ byte ∷ []) p new)
     (StopsIn m hex Fails start later (done ++ byte ∷ []))
-byte_spoken m hex Fails start later done byte asked new (Ok x) read stands = record {
-  answers = subst (λ a. Stands m start later a new.answers) read.ended stands;
+byte_spoken m hex Fails start later done byte asked p new (Ok x) read stands = record {
+  answers = subst (λ a. Stands m start later a p new.answers) read.ended stands;
   line = subst (λ a. HasRead hex (done ++ byte ∷ []) a new.line) read.ended read;
 }
-byte_spoken m hex Fails start later done byte asked new (Err fault) read stops =
+byte_spoken m hex Fails start later done byte asked p new (Err fault) read stops =
     stops_in m hex Fails start later (done ++ byte ∷ []) (asked_in hex (ended done) ++ and_asked asked []) new fault read stops
 
 -- a byte of those that are taken in a row
@@ -55,11 +56,12 @@ taken_more done piece i c lt is =
     append_assoc done (take i piece) (c ∷ []) ∙ ap (λ xs. done ++ xs) (ap (λ d. take i piece ++ d ∷ []) is
     ∙ sym (take_more piece i 0 lt))
 
-pub spoken_more : (m : Manner) (hex : Bool) (start now : Option (List ℕ)) (done piece : List ℕ) (i c : ℕ) (d : Dialogue)
-    → i < length piece → c ≡ get_or piece i 0 → Speaks m hex start now ((done ++ take i piece) ++ c ∷ []) d
-    → Speaks m hex start now (done ++ take (i + 1) piece) d
-spoken_more m hex start now done piece i c d lt is speaks =
-    subst (λ b. Speaks m hex start now b d) (taken_more done piece i c lt is) speaks
+pub spoken_more : (m : Manner) (hex : Bool) (start now : Option (List ℕ)) (done piece : List ℕ) (i c : ℕ) (p : Printed)
+    (d : Dialogue) → i < length piece → c ≡ get_or piece i 0
+    → Speaks m hex start now ((done ++ take i piece) ++ c ∷ []) p d
+    → Speaks m hex start now (done ++ take (i + 1) piece) p d
+spoken_more m hex start now done piece i c p d lt is speaks =
+    subst (λ b. Speaks m hex start now b p d) (taken_more done piece i c lt is) speaks
 
 pub stopped_within : (m : Manner) (hex : Bool) (Fails : Error → Type 0) (start now : Option (List ℕ)) (done piece : List ℕ)
     (i c : ℕ) (fault : AnswerFault) → i < length piece → c ≡ get_or piece i 0
@@ -75,36 +77,33 @@ stopped_within m hex Fails start now done piece i c fault lt is stops =
 
 -- all bytes of a piece were taken, and what was held back is written
 pub piece_spoken : (m : Manner) (hex : Bool) (Fails : Error → Type 0) (start now later : Option (List ℕ))
-    (done piece : List ℕ) (i : ℕ) (d new : Dialogue) (r : Result (Unit {0}) AnswerFault) → length piece ≤ i
-    → Speaks m hex start now (done ++ take i piece) d → new.line ≡ d.line
-    → ((asked : List Asked) → Stands m start now asked d.answers → MatchResult r
-    (λ _. Stands m start later asked new.answers × Appends start later (lines_by m asked))
+    (done piece : List ℕ) (i : ℕ) (p q : Printed) (d : Dialogue) (r : Result (Unit {0}) AnswerFault) → length piece ≤ i
+    → Speaks m hex start now (done ++ take i piece) p d
+    → ((asked : List Asked) → Stands m start now asked p d.answers → MatchResult r
+    (λ _. Stands m start later asked q d.answers × Appends start later (lines_by m asked))
     (StopsBy m (λ _. ⊥) start later asked))
-    → MatchResult r (λ _. Talks m hex start later (done ++ piece) new)
+    → MatchResult r (λ _. Talks m hex start later (done ++ piece) q d)
     (StopsIn m hex Fails start later (done ++ piece))
-piece_spoken m hex Fails start now later done piece i d new r past speaks line flushes =
+piece_spoken m hex Fails start now later done piece i p q d r past speaks flushes =
     by r (flushes (asked_in hex (ended (done ++ piece))) all.answers) where
-      all : Speaks m hex start now (done ++ piece) d
-      all = subst (λ b. Speaks m hex start now (done ++ b) d) (take_all i piece past) speaks
-
-      read : HasRead hex (done ++ piece) (asked_in hex (ended (done ++ piece))) new.line
-      read = subst (λ l. HasRead hex (done ++ piece) (asked_in hex (ended (done ++ piece))) l) (sym line) all.line
+      all : Speaks m hex start now (done ++ piece) p d
+      all = subst (λ b. Speaks m hex start now (done ++ b) p d) (take_all i piece past) speaks
 
       by : (r : Result (Unit {0}) AnswerFault) → MatchResult r
-          (λ _. Stands m start later (asked_in hex (ended (done ++ piece))) new.answers
+          (λ _. Stands m start later (asked_in hex (ended (done ++ piece))) q d.answers
           × Appends start later (lines_by m (asked_in hex (ended (done ++ piece)))))
           (StopsBy m (λ _. ⊥) start later (asked_in hex (ended (done ++ piece))))
-          → MatchResult r (λ _. Talks m hex start later (done ++ piece) new)
+          → MatchResult r (λ _. Talks m hex start later (done ++ piece) q d)
           (StopsIn m hex Fails start later (done ++ piece))
-      by (Ok x) (stands, out) = record { out = out; speaks = record { answers = stands; line = read } }
+      by (Ok x) (stands, out) = record { out = out; speaks = record { answers = stands; line = all.line } }
       by (Err fault) stops =
-          stops_in m hex Fails start later (done ++ piece) (asked_in hex (ended (done ++ piece))) new fault read
+          stops_in m hex Fails start later (done ++ piece) (asked_in hex (ended (done ++ piece))) d fault all.line
           (stops_weaker m Fails start later (asked_in hex (ended (done ++ piece))) fault stops)
 
 -- nothing was said yet
-pub nothing_said : (m : Manner) (hex : Bool) (start : Option (List ℕ)) (d : Dialogue) → Stands m start start [] d.answers
-    → HasRead hex [] [] d.line → Talks m hex start start [] d
-nothing_said m hex start d stands read = record {
+pub nothing_said : (m : Manner) (hex : Bool) (start : Option (List ℕ)) (p : Printed) (d : Dialogue)
+    → Stands m start start [] p d.answers → HasRead hex [] [] d.line → Talks m hex start start [] p d
+nothing_said m hex start p d stands read = record {
   out = Appends-nil start;
   speaks = record { answers = stands; line = read };
 }

@@ -1,6 +1,6 @@
 -- Paths of what an index tells, and faults of one in a file.
-use Rattle.std.proofs.Common.{◌≡◌, ◌⊎◌, inl, inr, ℕ, Bool, true, false, ◌<◌, ◌≤◌, ◌+◌, List, [], ◌∷◌, ◌++◌, length, Option, Some, None, refl, sym}
-use Rattle.std.proofs.Common.{ap, ◌∙◌, append-nil, append_assoc, arith, Result, Ok, Err, IfErr, IfOk}
+use Rattle.std.proofs.Common.{◌≡◌, inl, inr, ℕ, Bool, ◌+◌, List, [], ◌∷◌, ◌++◌, Option, Some, sym}
+use Rattle.std.proofs.Common.{ap, ◌∙◌, append-nil, arith, Result, Ok, Err, IfErr, IfOk}
 use Rattle.std.specs.Prelude.{is_some}
 use Rattle.std.specs.declared.io.Error.{Error}
 use Rattle.dl_elf.specs.Source.{ForBytes}

@@ -2,7 +2,7 @@
 use Rattle.std.specs.Prelude.{◌≡◌, ℕ, ◌<◌, ◌^◌, Bool, List, ◌++◌, length, option_map, Option, Result, Ok, Err}
 use Rattle.std.specs.Io.KnownBytes.{Appends, IsAtEnd}
 use Rattle.std.specs.declared.io.Error.{Error}
-use Rattle.dl_look.specs.declared.asked.Asked.{Asked}
+use Rattle.dl_print.specs.Printed.{Printed}
 use Rattle.dl_asked.specs.AskedLines.{asked_in, ended, no_address_in, other_line_seen}
 use Rattle.dl_dialogue.specs.Answers.{Manner, StopsBy, found_by, lines_by}
 use Rattle.dl_dialogue.specs.Standing.{Speaks}
@@ -12,9 +12,10 @@ use Rattle.dl_dialogue.specs.declared.fault.AnswerFault.{AnswerFault}
 use Rattle.dl_dialogue.specs.declared.fault.AnswerFault.TheVariants.{Input}
 
 -- these bytes were taken, and each line of them that has ended is answered: all answers are written out
-pub record Talks (m : Manner) (hex : Bool) (start now : Option (List ℕ)) (done : List ℕ) (d : Dialogue) : Type 0 where
+pub record Talks (m : Manner) (hex : Bool) (start now : Option (List ℕ)) (done : List ℕ) (p : Printed) (d : Dialogue)
+    : Type 0 where
   pub out : Appends start now (lines_by m (asked_in hex (ended done)))
-  pub speaks : Speaks m hex start now done d
+  pub speaks : Speaks m hex start now done p d
 
 -- the lines that these bytes begin with were answered, and then came a fault
 abbrev pub StopsIn : Manner → (hex : Bool) (Fails : Error → Type 0) → (start now : Option (List ℕ)) → List ℕ → AnswerFault

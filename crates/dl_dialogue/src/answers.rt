@@ -23,7 +23,6 @@ pub struct Answers<'q> {
     style: Style<'q>,
     /// What is subtracted from each address before it is looked up.
     base: u64,
-    printer: Printer,
     /// Room for the path of an answer.
     path: Vec<u8>,
     /// Whether each address has an answer.
@@ -89,16 +88,17 @@ impl<'q> Answers<'q> {
     ghost use Rattle.dl_dialogue.specs.Answers.{Determines, Manner, StopsBy, lines_by};
     ghost use Rattle.dl_asked.specs.AskedLines.{and_asked};
     ghost use Rattle.dl_dialogue.specs.Standing.{Stands};
+    ghost use Rattle.dl_print.specs.Printed.{Printed};
 
     /// Nothing was asked yet.
     pub fn new(alloc: Global, style: Style<'q>, base: u64) -> Answers<'q>
         ensures { (f : ℕ → Option locations.Location) (start : Option (List ℕ))
-            → Stands (record { style = style.entry; base = base; told = f }) start start [] result }
+            (printer : Printed) → printer.pending ≡ [] → printer.out ≡ 0
+            → Stands (record { style = style.entry; base = base; told = f }) start start [] printer result }
     {
         Answers {
             style,
             base,
-            printer: Printer::new(),
             path: Vec::new(alloc),
             found: Found::All,
         }
@@ -115,21 +115,23 @@ impl<'q> Answers<'q> {
     pub fn answer<T: Tell, W: Write>(
         &mut self,
         teller: &T,
+        printer: &mut Printer,
         output: &mut W,
         asked: Asked,
     ) -> Result<(), AnswerFault>
         ensures { (m : Manner) (start : Option (List ℕ)) (before : List question.Asked)
-            → Determines (T.tells teller.now) m.told → Stands m start (W.contents output.old) before self.old
+            → Determines (T.tells teller.now) m.told
+            → Stands m start (W.contents output.old) before printer.old self.old
             → MatchResult result
-            (λ _. Stands m start (W.contents output.new) (before ++ asked ∷ []) self.new)
+            (λ _. Stands m start (W.contents output.new) (before ++ asked ∷ []) printer.new self.new)
             (StopsBy m (T.fails_with teller.now) start (W.contents output.new) (before ++ asked ∷ [])) }
     {
         match told(teller, self.base, asked, &mut self.path) {
             Ok(location) => {
                 self.found = also(self.found, is_answered(asked, location.is_some()));
-                written(print_location(&mut self.printer, output, self.style, asked, location))
+                written(print_location(printer, output, self.style, asked, location))
             }
-            Err(fault) => stopped(self.printer.flush(output), fault),
+            Err(fault) => stopped(printer.flush(output), fault),
         }
     }
 
@@ -137,17 +139,19 @@ impl<'q> Answers<'q> {
     pub fn answer_if_asked<T: Tell, W: Write>(
         &mut self,
         teller: &T,
+        printer: &mut Printer,
         output: &mut W,
         asked: Option<Asked>,
     ) -> Result<(), AnswerFault>
         ensures { (m : Manner) (start : Option (List ℕ)) (before : List question.Asked)
-            → Determines (T.tells teller.now) m.told → Stands m start (W.contents output.old) before self.old
+            → Determines (T.tells teller.now) m.told
+            → Stands m start (W.contents output.old) before printer.old self.old
             → MatchResult result
-            (λ _. Stands m start (W.contents output.new) (before ++ and_asked asked []) self.new)
+            (λ _. Stands m start (W.contents output.new) (before ++ and_asked asked []) printer.new self.new)
             (StopsBy m (T.fails_with teller.now) start (W.contents output.new) (before ++ and_asked asked [])) }
     {
         match asked {
-            Some(asked) => self.answer(teller, output, asked),
+            Some(asked) => self.answer(teller, printer, output, asked),
             None => Ok(()),
         }
     }
@@ -156,29 +160,31 @@ impl<'q> Answers<'q> {
     pub fn answer_last<T: Tell, W: Write>(
         &mut self,
         teller: &T,
+        printer: &mut Printer,
         output: &mut W,
         asked: Option<Asked>,
     ) -> Result<(), AnswerFault>
         ensures { (m : Manner) (start : Option (List ℕ)) (before : List question.Asked)
-            → Determines (T.tells teller.now) m.told → Stands m start (W.contents output.old) before self.old
+            → Determines (T.tells teller.now) m.told
+            → Stands m start (W.contents output.old) before printer.old self.old
             → MatchResult result
-            (λ _. Stands m start (W.contents output.new) (before ++ and_asked asked []) self.new
+            (λ _. Stands m start (W.contents output.new) (before ++ and_asked asked []) printer.new self.new
             × Appends start (W.contents output.new) (lines_by m (before ++ and_asked asked [])))
             (StopsBy m (T.fails_with teller.now) start (W.contents output.new) (before ++ and_asked asked [])) }
     {
-        self.answer_if_asked(teller, output, asked)?;
-        self.flush(output)
+        self.answer_if_asked(teller, printer, output, asked)?;
+        self.flush(printer, output)
     }
 
     /// Writes the lines that were held back.
-    pub fn flush<W: Write>(&mut self, output: &mut W) -> Result<(), AnswerFault>
+    pub fn flush<W: Write>(&self, printer: &mut Printer, output: &mut W) -> Result<(), AnswerFault>
         ensures { (m : Manner) (start : Option (List ℕ)) (asked : List question.Asked)
-            → Stands m start (W.contents output.old) asked self.old → MatchResult result
-            (λ _. Stands m start (W.contents output.new) asked self.new
+            → Stands m start (W.contents output.old) asked printer.old self.now → MatchResult result
+            (λ _. Stands m start (W.contents output.new) asked printer.new self.now
             × Appends start (W.contents output.new) (lines_by m asked))
             (StopsBy m (λ _. ⊥) start (W.contents output.new) asked) }
     {
-        written(self.printer.flush(output))
+        written(printer.flush(output))
     }
 }
 
@@ -198,10 +204,11 @@ pub fn answer_all<T: Tell, W: Write>(
         → AnswersAll (record { style = style.entry; base = base; told = f }) (T.fails_with teller.now) asked.now
         (W.contents output.old) (W.contents output.new) result }
 {
+    let mut printer = Printer::new();
     let mut answers = Answers::new(alloc, style, base);
     for each in asked {
-        answers.answer(teller, output, *each)?;
+        answers.answer(teller, &mut printer, output, *each)?;
     }
-    answers.flush(output)?;
+    answers.flush(&mut printer, output)?;
     Ok(answers.found())
 }

@@ -3,14 +3,15 @@
 ghost use Rattle.std.specs.Prelude.{◌≡◌, [], ℕ, Bool, List, Option};
 ghost use Rattle.std.specs.Io.KnownBytes.{Consumes};
 ghost use Rattle.dl_addr.specs.Location.{Location};
-ghost use Rattle.dl_dialogue.specs.Answers.{Determines, Manner};
-ghost use Rattle.dl_dialogue.specs.Dialogues.{AnswersLines, Talks};
+ghost use Rattle.dl_dialogue.specs.Answers.{Determines};
+ghost use Rattle.dl_dialogue.specs.Dialogues.{AnswersLines};
 
 use crate::answers::Answers;
 use crate::fault::AnswerFault;
 use crate::telling::Tell;
 use dl_addr::{Found, Style};
 use dl_asked::{CurrentLine, LastLine, OtherLine};
+use dl_print::Printer;
 use dl_run::Input;
 use std::alloc::Global;
 use std::io::{Read, Write};
@@ -38,12 +39,14 @@ impl<'q> Dialogue<'q> {
     ghost use Rattle.dl_dialogue.specs.Answers.{Determines, Manner, StopsBy};
     ghost use Rattle.dl_dialogue.specs.Dialogues.{Talks, StopsIn, Ends};
     ghost use Rattle.dl_dialogue.specs.Standing.{Speaks};
+    ghost use Rattle.dl_print.specs.Printed.{Printed};
 
     /// A dialogue of which nothing was said yet. `base` is subtracted from each address before it is looked up; with `hex`
     /// digits without `0x` are hexadecimal too.
     pub fn new(alloc: Global, style: Style<'q>, base: u64, hex: bool) -> Dialogue<'q>
         ensures { (f : ℕ → Option Location) (start : Option (List ℕ))
-            → Talks (record { style = style.entry; base = base; told = f }) hex start start [] result }
+            (printer : Printed) → printer.pending ≡ [] → printer.out ≡ 0
+            → Talks (record { style = style.entry; base = base; told = f }) hex start start [] printer result }
     {
         Dialogue {
             answers: Answers::new(alloc, style, base),
@@ -56,48 +59,58 @@ impl<'q> Dialogue<'q> {
     pub fn take<T: Tell, W: Write>(
         &mut self,
         teller: &T,
+        printer: &mut Printer,
         output: &mut W,
         piece: &[u8],
     ) -> Result<(), AnswerFault>
         ensures { (m : Manner) (hex : Bool) (start : Option (List ℕ)) (done : List ℕ)
-            → Determines (T.tells teller.now) m.told → Talks m hex start (W.contents output.old) done self.old
+            → Determines (T.tells teller.now) m.told
+            → Talks m hex start (W.contents output.old) done printer.old self.old
             → MatchResult result
-            (λ _. Talks m hex start (W.contents output.new) (done ++ piece.now) self.new)
+            (λ _. Talks m hex start (W.contents output.new) (done ++ piece.now) printer.new self.new)
             (StopsIn m hex (T.fails_with teller.now) start (W.contents output.new) (done ++ piece.now)) }
     {
         for byte in piece {
-            self.take_byte(teller, output, *byte)?;
+            self.take_byte(teller, printer, output, *byte)?;
         }
-        self.answers.flush(output)
+        self.answers.flush(printer, output)
     }
 
     /// Takes a byte. The line that it ends is answered, which may be held back.
     fn take_byte<T: Tell, W: Write>(
         &mut self,
         teller: &T,
+        printer: &mut Printer,
         output: &mut W,
         byte: u8,
     ) -> Result<(), AnswerFault>
         ensures { (m : Manner) (hex : Bool) (start : Option (List ℕ)) (done : List ℕ)
-            → Determines (T.tells teller.now) m.told → Speaks m hex start (W.contents output.old) done self.old
+            → Determines (T.tells teller.now) m.told
+            → Speaks m hex start (W.contents output.old) done printer.old self.old
             → MatchResult result
-            (λ _. Speaks m hex start (W.contents output.new) (done ++ byte ∷ []) self.new)
+            (λ _. Speaks m hex start (W.contents output.new) (done ++ byte ∷ []) printer.new self.new)
             (StopsIn m hex (T.fails_with teller.now) start (W.contents output.new) (done ++ byte ∷ [])) }
     {
         let asked = self.line.take(byte);
-        self.answers.answer_if_asked(teller, output, asked)
+        self.answers.answer_if_asked(teller, printer, output, asked)
     }
 
     /// Takes the end of the input, and answers the last line, where that lacks its 0x0a.
-    pub fn end<T: Tell, W: Write>(self, teller: &T, output: &mut W) -> Result<Answered, AnswerFault>
+    pub fn end<T: Tell, W: Write>(
+        self,
+        teller: &T,
+        printer: &mut Printer,
+        output: &mut W,
+    ) -> Result<Answered, AnswerFault>
         ensures { (m : Manner) (hex : Bool) (start : Option (List ℕ)) (done : List ℕ)
-            → Determines (T.tells teller.now) m.told → Talks m hex start (W.contents output.old) done self.entry
+            → Determines (T.tells teller.now) m.told
+            → Talks m hex start (W.contents output.old) done printer.old self.entry
             → MatchResult result (Ends m hex start (W.contents output.new) done)
             (StopsBy m (T.fails_with teller.now) start (W.contents output.new) (asked_in hex done)) }
     {
         let Dialogue { mut answers, line } = self;
         let LastLine { asked, no_address } = line.end();
-        answers.answer_last(teller, output, asked)?;
+        answers.answer_last(teller, printer, output, asked)?;
         Ok(Answered {
             found: answers.found(),
             no_address,
@@ -109,31 +122,36 @@ impl<'q> Dialogue<'q> {
 /// before more is read, all answers to the lines that were read are written out.
 ///
 /// A line ends with 0x0a, before which one 0x0d is dropped; the last line may lack its 0x0a. Spaces and tabs around an
-/// address are dropped, and so are empty lines. A line that is no address has no answer.
+/// address are dropped, and so are empty lines. A line that is no address has no answer. `base` is subtracted from each
+/// address before it is looked up; with `hex` digits without `0x` are hexadecimal too.
 ///
 /// `Input` where the reader fails: then each line that has ended was answered. Where nothing can be told of an address, the
 /// lines before it were answered. Memory is taken for one path.
 pub fn answer_lines<T: Tell, R: Read, W: Write>(
+    alloc: Global,
     teller: &T,
-    mut dialogue: Dialogue<'_>,
+    style: Style<'_>,
+    base: u64,
+    hex: bool,
     input: &mut R,
     output: &mut W,
 ) -> Result<Answered, AnswerFault>
     ensures { (bs : List ℕ) × Consumes (R.remaining input.old) (R.remaining input.new) bs
-        × ((m : Manner) (hex : Bool) → Determines (T.tells teller.now) m.told
-        → Talks m hex (W.contents output.old) (W.contents output.old) [] dialogue.entry
-        → AnswersLines m hex (T.fails_with teller.now) bs (R.remaining input.new) (W.contents output.old)
-        (W.contents output.new) result) }
+        × ((f : ℕ → Option Location) → Determines (T.tells teller.now) f
+        → AnswersLines (record { style = style.entry; base = base; told = f }) hex (T.fails_with teller.now) bs
+        (R.remaining input.new) (W.contents output.old) (W.contents output.new) result) }
 {
     let mut buffer = Input::new();
+    let mut printer = Printer::new();
+    let mut dialogue = Dialogue::new(alloc, style, base, hex);
     for _ in 0..u64::MAX {
         let Ok(piece) = buffer.next_piece(input) else {
             return Err(AnswerFault::Input);
         };
         if piece.is_empty() {
-            return dialogue.end(teller, output);
+            return dialogue.end(teller, &mut printer, output);
         }
-        dialogue.take(teller, output, piece)?;
+        dialogue.take(teller, &mut printer, output, piece)?;
     }
     Err(AnswerFault::Input)
 }

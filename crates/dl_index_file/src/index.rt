@@ -11,7 +11,11 @@ use crate::search::last_upto;
 use crate::text::read_range;
 use dl_elf::{Range, ReadAt};
 use dl_index::{HEADER_LEN, Header, Numbers, Width};
+use std::alloc::Global;
 use std::io;
+
+/// How many bytes an index may have that is read whole.
+const WHOLE: u64 = 1 << 24;
 
 /// Where the texts of a path stand in the file, in order, at most three; none where the path is unknown.
 #[derive(Clone, Copy)]
@@ -121,6 +125,34 @@ impl<'a, S: ReadAt> IndexFile<'a, S> {
             (text.offset + text.size)) }
     {
         read_range(self.source, text, out)
+    }
+
+    /// All bytes of the index, where there are at most 2^24 of them. None where there are more, where memory for them is refused,
+    /// or where they can't be read. They are read piece by piece, and memory is taken for what was read.
+    pub fn whole(&self, alloc: Global) -> Option<Vec<u8>>
+        ensures { ForBytes (S.all_bytes (source_of self.now)) (λ b. IfSome result (λ bytes. bytes.items ≡ b)) }
+    {
+        let size = self.len();
+        if size > WHOLE {
+            return None;
+        }
+        let mut bytes = Vec::new(alloc);
+        match read_range(self.source, Range { offset: 0, size }, &mut bytes) {
+            Ok(()) => Some(bytes),
+            Err(_) => None,
+        }
+    }
+
+    /// How many bytes the index has.
+    fn len(&self) -> u64
+        ensures { ForBytes (S.all_bytes (source_of self.now)) (λ b. result ≡ length b) }
+    {
+        let numbers = Numbers {
+            bytes: &self.front,
+            width: Width::Eight,
+            len: 16,
+        };
+        numbers.get(2)
     }
 
     /// The number of the last stretch that doesn't begin above an address.

@@ -1,7 +1,7 @@
 -- Addresses that are answered by what is told of them.
-use Rattle.std.proofs.Common.{◌≡◌, ◌==◌, ℕ, ◌≤◌, Bool, true, false, List, [], ◌∷◌, length, Option, Some, None, Result, Ok, Err}
+use Rattle.std.proofs.Common.{◌≡◌, ◌==◌, ℕ, ◌≤◌, true, false, List, [], ◌∷◌, length, Option, Result, Ok, Err}
 use Rattle.std.proofs.Common.{arith, refl, sym, ap, ◌∙◌, subst}
-use Rattle.std.specs.Prelude.{IfErr, OnOk, IsOk}
+use Rattle.std.specs.Prelude.{IfErr}
 use Rattle.std.specs.Option.{option_copied}
 use Rattle.std.specs.declared.io.Error.{Error}
 use Rattle.dl_addr.specs.Location.{Location}
@@ -12,14 +12,14 @@ use Rattle.dl_dialogue.specs.Answers.{AnswersAll, Manner}
 use Rattle.dl_dialogue.specs.Dialogues.{AnswersLines}
 use Rattle.dl_dialogue.specs.declared.dialogue.Answered.{Answered}
 use Rattle.dl_dialogue.specs.declared.fault.AnswerFault.{AnswerFault}
-use Rattle.dl_index.specs.IsIndex.{HasFault, IsHeaded, IsIndex}
+use Rattle.dl_index.specs.IsIndex.{IsHeaded}
 use Rattle.dl_index_file.specs.Opening.{IfRead, Opens}
 use Rattle.dl_index_file.specs.declared.fault.OpenFault.{OpenFault}
 use Rattle.dl_index_file.specs.declared.fault.OpenFault.TheVariants as index
 use Rattle.dl_look.specs.declared.asked.Asked.{Asked}
 use Rattle.dl_work.specs.OverIndex.{IsNotOpened}
 use Rattle.dl_work.specs.Answering.{AnswersAsked, AnswersGiven, IsManner, answered_given}
-use Rattle.dl_work.specs.Locate.{asked_in_words, form_in}
+use Rattle.dl_work.specs.Locate.{form_in}
 use Rattle.dl_work.specs.Understood.{IsUnderstood}
 use Rattle.dl_work.specs.declared.addr_words.AskedWords.{AskedWords}
 

@@ -1,28 +1,20 @@
 -- What the program does for the words of `addr`.
 use Rattle.std.proofs.Common.{◌≡◌, ◌==◌, ◌⊎◌, inl, inr, ℕ, ◌||◌, Bool, true, false, List, [], length, map, Option, Some, None}
-use Rattle.std.proofs.Common.{Result, Ok}
+use Rattle.std.proofs.Common.{Result}
 use Rattle.std.proofs.Common.{Err, refl, sym, ap, ◌∙◌, subst}
 use Rattle.std.specs.Option.{option_copied}
-use Rattle.std.specs.declared.io.Error.{Error}
 use Rattle.std.proofs.KnownBytes.{Keeps-refl}
-use Rattle.dl_elf.specs.Source.{ForBytes}
-use Rattle.dl_file.specs.Code.{IsCode}
 use Rattle.dl_file.specs.declared.code.Code.{Code}
 use Rattle.dl_look.specs.declared.code_ranges.CodeRanges.{CodeRanges}
 use Rattle.dl_cmd.specs.Job.{AddrTexts, Text, addr}
 use Rattle.dl_run.specs.declared.around.Survey.{Survey}
 use Rattle.dl_addr.specs.Code.{is_code}
 use Rattle.dl_dirs.specs.Compilation.{directory_by}
-use Rattle.dl_dirs.specs.Directories.{directory_at}
-use Rattle.dl_dirs.specs.declared.directories.Directories.{Directories}
 use Rattle.dl_dirs.specs.declared.compilation.CompilationDirectories.{CompilationDirectories}
 use Rattle.dl_look.specs.declared.asked.Asked.{Asked}
 use Rattle.dl_asked.specs.AskedLines.{address_by}
 use Rattle.dl_addr.specs.declared.question.Question.{Question}
-use Rattle.dl_open.specs.declared.fault.FileFault.{FileFault}
-use Rattle.dl_open.specs.declared.stop.FileStop.{FileStop}
 use Rattle.dl_open.specs.Code.{AreLive, live_by}
-use Rattle.dl_open.specs.Stops.{IsAt}
 use Rattle.dl_work.specs.declared.command.Command.{Command}
 use Rattle.dl_work.specs.declared.located.Located.{Located}
 use Rattle.dl_work.specs.declared.stop.Stop.{Stop}
@@ -31,13 +23,9 @@ use Rattle.dl_work.specs.Locate.{Asks, IsNoQuestion, LocatesInSection, WordsStop
 use Rattle.dl_work.specs.Asked.{SectionWords, section_of}
 use Rattle.dl_work.specs.Locate.{asking, said_directory, suits_input}
 use Rattle.dl_work.specs.Damages.{unheard}
-use Rattle.dl_work.specs.Compiled.{AreFound, RefusesOpening, compiled_by, wants_directories}
 use Rattle.dl_work.specs.Understood.{IsUnderstood}
 use Rattle.dl_work.specs.declared.addr_words.AskedWords.{AskedWords}
 use Rattle.dl_work.specs.Located.{located}
-use Rattle.dl_work.specs.Stops.{over_file, stop_of}
-use Rattle.dl_work.specs.Tables.{OnFile}
-use Rattle.dl_work.specs.Units.{file_units}
 use Rattle.dl_work.specs.Work.{OnInput}
 
 -- ---- where a file has code

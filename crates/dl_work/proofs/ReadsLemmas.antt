@@ -1,5 +1,5 @@
 -- What is said of an open file, whose reads may give some errors, is said of a file whose reads may give those and others.
-use Rattle.std.proofs.Common.{rules, ◌≡◌, ◌⊎◌, inl, inr, ℕ, Bool, List, [], ◌∷◌, Option, Some, Result, Ok, Err, refl}
+use Rattle.std.proofs.Common.{rules, inl, inr, ℕ, Bool, List, [], ◌∷◌, Option, Some, Result, Ok, Err, refl}
 use Rattle.std.specs.declared.io.Error.{Error}
 use Rattle.dl_cmd.specs.Job.{AddrTexts, Text}
 use Rattle.std.specs.Borrow.{Bor}
@@ -12,7 +12,6 @@ use Rattle.dl_dialogue.specs.declared.fault.TellFault.TheVariants.{NoMemory as N
 use Rattle.dl_addr.specs.Location.{Location}
 use Rattle.dl_addr.specs.declared.question.Found.{Found}
 use Rattle.dl_asked.specs.AskedLines.{asked_in}
-use Rattle.dl_elf.specs.declared.fault.ElfFault.{ElfFault}
 use Rattle.dl_index_file.specs.Reading.{ReadFails}
 use Rattle.dl_index_file.specs.declared.fault.OpenFault.{OpenFault}
 use Rattle.dl_index_file.specs.declared.fault.OpenFault.TheVariants as index
@@ -20,11 +19,10 @@ use Rattle.dl_look.specs.declared.asked.Asked.{Asked}
 use Rattle.dl_open.specs.declared.fault.FileFault.{FileFault}
 use Rattle.dl_work.specs.Answering.{AnswersAsked, AnswersGiven}
 use Rattle.dl_work.specs.Locate.{asked_in_words}
-use Rattle.dl_work.specs.OverElfFile.{LocatesByIndex, LocatesGiven, LocatesInElfFile}
+use Rattle.dl_work.specs.OverElfFile.{LocatesInElfFile}
 use Rattle.dl_work.specs.OverIndex.{IsNotOpened, LocatesInIndex, location_in}
 use Rattle.dl_work.specs.Compiled.{RefusesOpening}
 use Rattle.dl_work.specs.Damages.{unheard}
-use Rattle.dl_work.specs.Units.{file_units}
 use Rattle.dl_work.specs.declared.located.Located.{Located}
 use Rattle.dl_work.specs.declared.stop.Stop.{Stop}
 use Rattle.dl_work.proofs.TableLemmas.{on_file_as}

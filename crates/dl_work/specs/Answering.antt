@@ -15,12 +15,11 @@ use Rattle.dl_dialogue.specs.declared.fault.AnswerFault.TheVariants as answer
 use Rattle.dl_dialogue.specs.declared.fault.TellFault.TheVariants as tell
 use Rattle.dl_index_file.specs.declared.fault.OpenFault.TheVariants as index
 use Rattle.dl_look.specs.declared.asked.Asked.{Asked}
-use Rattle.dl_run.specs.declared.around.Survey.{Survey}
 use Rattle.dl_run.specs.declared.fault.RunFault.TheVariants as fault
 use Rattle.dl_work.specs.Locate.{are_addresses, asked_in_words, base_in, form_in}
 use Rattle.dl_work.specs.declared.located.Located.{Located}
 use Rattle.dl_work.specs.declared.stop.Stop.{Stop}
-use Rattle.dl_work.specs.declared.stop.Stop.TheVariants.{Damaged, Index, Run}
+use Rattle.dl_work.specs.declared.stop.Stop.TheVariants.{Index, Run}
 
 -- the words are understood, and ask for answers in this manner, where f is what is told of an address
 pub record IsManner (w : AddrTexts) (f : ℕ → Option Location) (m : Manner) : Type 0 where

@@ -1,12 +1,11 @@
 -- What the program does for the words of `addr` over an index. b: the bytes of the index. bytes: what was read of the input,
 -- which has `left` left. start, now: what the output held at first, and holds now. held: what the file of a path holds,
 -- where that is known; fails: the errors that opening and reading it may give.
-use Rattle.std.specs.Prelude.{◌≡◌, ◌⊎◌, ℕ, Bool, true, false, not, ◌&&◌, if◌then◌else◌, is_none, List, [], take, nat_eq, Option, Some, None}
+use Rattle.std.specs.Prelude.{◌≡◌, ◌⊎◌, ℕ, Bool, true, false, not, ◌&&◌, if◌then◌else◌, is_none, List, take, nat_eq, Option, Some}
 use Rattle.std.specs.Prelude.{option_map, MatchOption, Result, Ok, Err}
 use Rattle.std.specs.Borrow.{Bor}
 use Rattle.std.specs.Cmp.Lexicographic.{pointwise}
 use Rattle.std.specs.Option.{option_map_or}
-use Rattle.std.specs.Io.KnownBytes.{Keeps}
 use Rattle.std.specs.declared.io.Error.{Error}
 use Rattle.dl_cmd.specs.Job.{AddrTexts, Text}
 use Rattle.dl_dialogue.specs.declared.dialogue.Answered.{Answered}

@@ -5,13 +5,15 @@ ghost use Rattle.dl_addr.specs.Location.{Location};
 ghost use Rattle.dl_cmd.specs.Job.{addr_words_made};
 ghost use Rattle.dl_dialogue.specs.Answers.{Determines};
 ghost use Rattle.dl_work.specs.Answering.{AnswersAsked, answered_given, stop_of_answer};
+ghost use Rattle.dl_work.specs.OverElfFile.{AnswersMade};
 ghost use Rattle.dl_work.specs.Understood.{IsUnderstood};
 
 use crate::addr_words::{AskedWords, part_name, style};
 use crate::stop::Stop;
 use dl_addr::Found;
 use dl_cmd::AddrWords;
-use dl_dialogue::{AnswerFault, Answered, Dialogue, Tell, TellFault, answer_all, answer_lines};
+use dl_dialogue::{AnswerFault, Answered, Nothing, Tell, TellFault, answer_all, answer_lines};
+use dl_index::open_unchecked;
 use dl_index_file::OpenFault;
 use dl_run::RunFault;
 use std::alloc::Global;
@@ -35,8 +37,8 @@ pub fn answer_asked<T: Tell, R: Read, W: Write>(
 {
     let style = style(words, part_name(words));
     if understood.asked.is_empty() {
-        let dialogue = Dialogue::new(alloc, style, understood.base, words.hex);
-        return answer_lines(teller, dialogue, input, output);
+        let base = understood.base;
+        return answer_lines(alloc, teller, style, base, words.hex, input, output);
     }
     answered_given(answer_all(
         alloc,
@@ -46,6 +48,26 @@ pub fn answer_asked<T: Tell, R: Read, W: Write>(
         understood.asked.as_slice(),
         output,
     ))
+}
+
+/// Answers from the bytes of an index; where there are none, each address has no answer.
+pub fn answer_made<R: Read, W: Write>(
+    alloc: Global,
+    words: &AddrWords<'_>,
+    understood: &AskedWords,
+    index: &[u8],
+    input: &mut R,
+    output: &mut W,
+) -> Result<Answered, AnswerFault>
+    ensures { (bytes : List ℕ) × Consumes (R.remaining input.old) (R.remaining input.new) bytes
+        × (IsUnderstood (addr_words_made words.now) understood.now
+        → AnswersMade (addr_words_made words.now) index.now bytes (R.remaining input.new) (W.contents output.old)
+        (W.contents output.new) result) }
+{
+    match open_unchecked(index) {
+        Ok(index) => answer_asked(alloc, words, understood, &index, input, output),
+        Err(_) => answer_asked(alloc, words, understood, &Nothing, input, output),
+    }
 }
 
 /// What came of addresses that were given among the words.

@@ -5,11 +5,11 @@ ghost use Rattle.dl_cmd.specs.Job.{addr_words_made};
 ghost use Rattle.dl_dirs.specs.Directories.{directory_at};
 ghost use Rattle.dl_elf.specs.Source.{ForBytes};
 ghost use Rattle.std.specs.Option.{option_copied};
-ghost use Rattle.dl_work.specs.OverElfFile.{AnswersMade, IsToldOf, LocatesInElfFile, LocatesByIndex, LocatesGiven, is_refused, located_after};
+ghost use Rattle.dl_work.specs.OverElfFile.{IsToldOf, LocatesInElfFile, LocatesByIndex, LocatesGiven, is_refused, located_after};
 ghost use Rattle.dl_work.specs.Understood.{IsUnderstood};
 
 use crate::addr_words::{AskedWords, asking, making, part_name, question, wants_directories};
-use crate::answering::{answer_asked, stop_of_answer};
+use crate::answering::{answer_asked, answer_made, stop_of_answer};
 use crate::code::live_in;
 use crate::compiled::compiled_in;
 use crate::damages::Unheard;
@@ -22,7 +22,6 @@ use dl_cmd::AddrWords;
 use dl_dialogue::{AnswerFault, Answered, Nothing};
 use dl_dirs::Directories;
 use dl_elf::ReadAt;
-use dl_index::open_unchecked;
 use dl_look::CodeRanges;
 use dl_making::Table;
 use dl_open::{FileFault, FileStop};
@@ -193,26 +192,6 @@ fn is_refused(answer: &Result<Survey, FileStop<'_>>) -> bool
             } | FileStop::Run(RunFault::Write { .. })
         )
     )
-}
-
-/// Answers from an index that was made; where there is none, each address has no answer.
-fn answer_made<R: Read, W: Write>(
-    alloc: Global,
-    words: &AddrWords<'_>,
-    understood: &AskedWords,
-    index: &[u8],
-    input: &mut R,
-    output: &mut W,
-) -> Result<Answered, AnswerFault>
-    ensures { (bytes : List ℕ) × Consumes (R.remaining input.old) (R.remaining input.new) bytes
-        × (IsUnderstood (addr_words_made words.now) understood.now
-        → AnswersMade (addr_words_made words.now) index.now bytes (R.remaining input.new) (W.contents output.old)
-        (W.contents output.new) result) }
-{
-    match open_unchecked(index) {
-        Ok(index) => answer_asked(alloc, words, understood, &index, input, output),
-        Err(_) => answer_asked(alloc, words, understood, &Nothing, input, output),
-    }
 }
 
 /// What came of all: a fault of the answers, or of the table, or how all were answered.

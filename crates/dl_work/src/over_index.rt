@@ -1,5 +1,5 @@
 //! What the program does for `addr` over an index.
-ghost use Rattle.std.specs.Prelude.{◌≡◌, ◌==◌, ℕ, List, Bool, IfOk, IfErr, MatchResult, option_map, true};
+ghost use Rattle.std.specs.Prelude.{◌≡◌, ◌==◌, ℕ, List, Bool, Some, IfOk, IfErr, MatchResult, option_map, true};
 ghost use Rattle.std.specs.Option.{option_copied};
 ghost use Rattle.std.specs.Io.KnownBytes.{Consumes};
 ghost use Rattle.std.specs.declared.io.Error.{Error};
@@ -7,20 +7,23 @@ ghost use Rattle.dl_cmd.specs.Job.{addr_words_made};
 ghost use Rattle.dl_elf.specs.Notes.{build_id_bytes};
 ghost use Rattle.dl_elf.specs.Source.{ForBytes};
 ghost use Rattle.dl_open.specs.BuildIds.{IsBuildId};
-ghost use Rattle.dl_work.specs.Answering.{located_by};
+ghost use Rattle.dl_index.specs.IsIndex.{IsIndex};
+ghost use Rattle.dl_index_file.specs.Opening.{source_of};
+ghost use Rattle.dl_index_file.specs.Reading.{ReadFails};
+ghost use Rattle.dl_work.specs.Answering.{AnswersAsked, located_by};
 ghost use Rattle.dl_work.specs.Indexing.{RefusesNaming};
-ghost use Rattle.dl_work.specs.OverIndex.{LocatesInIndex, MadeOf, OwnIdRefused, has_id};
+ghost use Rattle.dl_work.specs.OverIndex.{LocatesInIndex, MadeOf, OwnIdRefused, has_id, location_in};
 ghost use Rattle.dl_work.specs.Understood.{IsUnderstood};
 
 use crate::addr_words::{AskedWords, suits_index};
-use crate::answering::{answer_asked, stop_of_answer};
+use crate::answering::{answer_asked, answer_made, stop_of_answer};
 use crate::indexing::build_id;
 use crate::located::Located;
 use crate::stop::Stop;
 use dl_cmd::AddrWords;
 use dl_dialogue::{AnswerFault, Answered};
 use dl_elf::{BuildId, ReadAt};
-use dl_index_file::open_index;
+use dl_index_file::{IndexFile, open_index};
 use dl_making::id_front;
 use dl_open::{FileFault, FileSource, open_file};
 use std::alloc::Global;
@@ -52,8 +55,33 @@ pub fn in_index<'a, F: FileSource, S: ReadAt, R: Read, W: Write>(
     check_made_of(words, path, files, index.build_id())?;
     located_by(
         path,
-        answer_asked(alloc, words, understood, &index, input, output),
+        answer_from(alloc, words, understood, &index, input, output),
     )
+}
+
+/// Answers from an index. Where addresses come on the input it is read whole before, unless it is long or memory is refused
+/// for that.
+fn answer_from<S: ReadAt, R: Read, W: Write>(
+    alloc: Global,
+    words: &AddrWords<'_>,
+    understood: &AskedWords,
+    index: &IndexFile<'_, S>,
+    input: &mut R,
+    output: &mut W,
+) -> Result<Answered, AnswerFault>
+    ensures { (bytes : List ℕ) × Consumes (R.remaining input.old) (R.remaining input.new) bytes
+        × (IsUnderstood (addr_words_made words.now) understood.now → ForBytes (S.all_bytes (source_of index.now))
+        (λ b. IsIndex b → AnswersAsked (addr_words_made words.now) (location_in b)
+        (ReadFails (Some b) (S.fails_with (source_of index.now))) bytes (R.remaining input.new) (W.contents output.old)
+        (W.contents output.new) result)) }
+{
+    if !understood.asked.is_empty() {
+        return answer_asked(alloc, words, understood, index, input, output);
+    }
+    match index.whole(alloc) {
+        Some(bytes) => answer_made(alloc, words, understood, bytes.as_slice(), input, output),
+        None => answer_asked(alloc, words, understood, index, input, output),
+    }
 }
 
 /// What came of all.

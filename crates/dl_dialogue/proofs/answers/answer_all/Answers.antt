@@ -5,7 +5,8 @@ use Rattle.dl_dialogue.proofs.AnswerLemmas.{all_answered, answered_within, each_
 use Rattle.dl_dialogue.proofs.answers.answer_all.Goals as goal
 
 pub loop-each-init : goal.loop-each-init
-loop-each-init g c = λ f determines. c.new-answers.ensures f (g.W.Write.contents c.args.output.now)
+loop-each-init g c = λ f determines. c.new-answers.ensures f (g.W.Write.contents c.args.output.now) c.new-printer.result c.new-printer.ensures.nothing_pending
+    c.new-printer.ensures.nothing_out
 
 pub loop-each-preserved : goal.loop-each-preserved
 loop-each-preserved g c = λ f determines.
@@ -13,7 +14,7 @@ loop-each-preserved g c = λ f determines.
     let i = c.loop-each.each-index in
     let asked = c.args.asked.now in
     let start = g.W.Write.contents c.args.output.now in
-    each_answered m start (g.W.Write.contents c.answer.new.output) asked i _ c.answer.new.self c.loop-each-test.true
+    each_answered m start (g.W.Write.contents c.answer.new.output) asked i _ c.answer.new.printer c.answer.new.self c.loop-each-test.true
     (c.in_ok-answer.ensures m start (take i asked) determines (c.loop-each.invariant f determines))
 
 pub returns-in_err-answer : goal.returns-in_err-answer
@@ -36,7 +37,7 @@ returns-in_err-flush g c = λ f determines.
     rw (p.1, p.2) (stops_weaker m (g.T.Tell.fails_with c.args.teller.now) start
     (g.W.Write.contents c.flush.new.output) asked _
     (c.in_err-flush.ensures m start asked (all_answered m start (g.W.Write.contents c.loop-each.output) asked
-    c.loop-each.each-index c.loop-each.answers c.loop-each-test.false (c.loop-each.invariant f determines))))
+    c.loop-each.each-index c.loop-each.printer c.loop-each.answers c.loop-each-test.false (c.loop-each.invariant f determines))))
 
 pub returns : goal.returns
 returns g c = λ f determines.
@@ -44,5 +45,5 @@ returns g c = λ f determines.
     let asked = c.args.asked.now in
     let start = g.W.Write.contents c.args.output.now in
     let said = c.in_ok-flush.ensures m start asked (all_answered m start (g.W.Write.contents c.loop-each.output) asked
-    c.loop-each.each-index c.loop-each.answers c.loop-each-test.false (c.loop-each.invariant f determines)) in
+    c.loop-each.each-index c.loop-each.printer c.loop-each.answers c.loop-each-test.false (c.loop-each.invariant f determines)) in
     (c.found.ensures ∙ said.0.found, said.1)

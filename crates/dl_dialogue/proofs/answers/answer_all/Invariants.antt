@@ -8,4 +8,4 @@ abbrev pub invariant-loop-each : goal.invariant-loop-each
 invariant-loop-each g l =
     (f : ℕ → Option Location) → Determines (g.T.Tell.tells l.teller) f
     → Stands (record { style = l.style; base = l.base; told = f }) (g.W.Write.contents l.initial.output)
-    (g.W.Write.contents l.output) (take l.each-index l.asked) l.answers
+    (g.W.Write.contents l.output) (take l.each-index l.asked) l.printer l.answers

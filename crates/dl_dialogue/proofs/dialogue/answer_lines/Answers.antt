@@ -1,9 +1,17 @@
-use Rattle.std.proofs.Common.{rules, ◌++◌, ap, ◌∙◌, subst, append-nil}
-use Rattle.std.proofs.KnownBytes.{Consumes-trans}
+use Rattle.std.proofs.Common.{rules, [], ◌++◌, ap, ◌∙◌, subst, append-nil}
+use Rattle.std.proofs.KnownBytes.{Consumes-nil, Consumes-trans}
 use Rattle.std.specs.Io.KnownBytes.{Consumes}
 use Rattle.std.proofs.lemmas.Result.{err_from_is_err_and}
 use Rattle.dl_dialogue.proofs.DialogueLemmas.{end_answers, fault_answers, nothing_of}
 use Rattle.dl_dialogue.proofs.dialogue.answer_lines.Goals as goal
+
+pub loop-init : goal.loop-init
+loop-init g c = (
+  [],
+  Consumes-nil _,
+  λ f determines. c.new-dialogue.ensures f (g.W.Write.contents c.args.output.now) c.new-printer.result
+      c.new-printer.ensures.nothing_pending c.new-printer.ensures.nothing_out,
+)
 
 pub loop-preserved : goal.loop-preserved
 loop-preserved g c =
@@ -11,13 +19,13 @@ loop-preserved g c =
     let piece = c.in-Ok.piece.now in (
       i.0 ++ piece,
       Consumes-trans _ _ _ _ _ i.1 c.in-Ok.ensures.ok,
-      λ m hex determines talks. c.in_ok-take.ensures m hex (g.W.Write.contents c.args.output.now) i.0 determines
-          (i.2 m hex determines talks),
+      λ f determines. c.in_ok-take.ensures (record { style = c.args.style; base = c.args.base; told = f }) c.args.hex (g.W.Write.contents c.args.output.now) i.0 determines
+          (i.2 f determines),
     )
 
 pub returns-in_default : goal.returns-in_default
 returns-in_default g c =
-    (c.loop.invariant.0, search rules, λ m hex determines talks. (c.loop.invariant.2 m hex determines talks).out)
+    (c.loop.invariant.0, search rules, λ f determines. (c.loop.invariant.2 f determines).out)
 
 pub returns-then-is_empty : goal.returns-then-is_empty
 returns-then-is_empty g c =
@@ -29,10 +37,10 @@ returns-then-is_empty g c =
     (Consumes-trans _ _ _ _ _ i.1 c.in-Ok.ensures.ok) in (
       i.0,
       all,
-      λ m hex determines talks. end_answers m hex (g.T.Tell.fails_with c.args.teller.now) i.0
+      λ f determines. end_answers (record { style = c.args.style; base = c.args.base; told = f }) c.args.hex (g.T.Tell.fails_with c.args.teller.now) i.0
           (g.R.Read.remaining c.next_piece.new.reader) (g.W.Write.contents c.args.output.now)
           (g.W.Write.contents c.end.new.output) c.end.result (c.in-Ok.ensures.end none)
-          (c.end.ensures m hex (g.W.Write.contents c.args.output.now) i.0 determines (i.2 m hex determines talks)),
+          (c.end.ensures (record { style = c.args.style; base = c.args.base; told = f }) c.args.hex (g.W.Write.contents c.args.output.now) i.0 determines (i.2 f determines)),
     )
 
 pub returns-in_err-take : goal.returns-in_err-take
@@ -42,13 +50,13 @@ returns-in_err-take g c =
     let p = err_from_is_err_and c.from_residual.result c.from_residual.ensures.1 in (
       bytes,
       Consumes-trans _ _ _ _ _ i.1 c.in-Ok.ensures.ok,
-      λ m hex determines talks. rw (p.1, p.2) (fault_answers m hex (g.T.Tell.fails_with c.args.teller.now) bytes
+      λ f determines. rw (p.1, p.2) (fault_answers (record { style = c.args.style; base = c.args.base; told = f }) c.args.hex (g.T.Tell.fails_with c.args.teller.now) bytes
           (g.R.Read.remaining c.next_piece.new.reader) (g.W.Write.contents c.args.output.now)
           (g.W.Write.contents c.take.new.output) _
-          (c.in_err-take.ensures m hex (g.W.Write.contents c.args.output.now) i.0 determines
-          (i.2 m hex determines talks))),
+          (c.in_err-take.ensures (record { style = c.args.style; base = c.args.base; told = f }) c.args.hex (g.W.Write.contents c.args.output.now) i.0 determines
+          (i.2 f determines))),
     )
 
 pub returns : goal.returns
 returns g c =
-    (c.loop.invariant.0, c.loop.invariant.1, λ m hex determines talks. (c.loop.invariant.2 m hex determines talks).out)
+    (c.loop.invariant.0, c.loop.invariant.1, λ f determines. (c.loop.invariant.2 f determines).out)

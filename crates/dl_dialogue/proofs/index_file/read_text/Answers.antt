@@ -1,4 +1,4 @@
-use Rattle.std.proofs.Common.{Some, subst}
+use Rattle.std.proofs.Common.{subst}
 use Rattle.dl_elf.specs.Elf.{bytes_at}
 use Rattle.dl_elf.specs.Source.{ForBytes}
 use Rattle.dl_index_file.specs.Opening.{source_of}

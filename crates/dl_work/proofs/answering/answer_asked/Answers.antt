@@ -1,4 +1,4 @@
-use Rattle.std.proofs.Common.{◌≡◌, ◌==◌, ℕ, rules, arith, length, vec_len, [], sym, ap, ◌∙◌, refl}
+use Rattle.std.proofs.Common.{◌≡◌, ◌==◌, ℕ, rules, arith, length, vec_len, [], sym, ap, ◌∙◌}
 use Rattle.std.specs.Option.{option_copied}
 use Rattle.std.proofs.KnownBytes.{Consumes-nil}
 use Rattle.std.proofs.lemmas.Bool.{eqb-true}
@@ -25,7 +25,7 @@ returns-then-is_empty g c =
           c.answer_lines.result understood
           (manner w u f c.style-style.result understood c.style-style.ensures.form c.style-style.ensures.basenames
           (ap option_copied c.style-style.ensures.section ∙ c.part_name.ensures)) empty
-          (e.2 m w.hex determines (c.new-dialogue.ensures f start)),
+          (e.2 f determines),
     )
 
 pub returns : goal.returns

@@ -3,7 +3,6 @@ use Rattle.std.specs.Option.{option_copied}
 use Rattle.std.proofs.KnownBytes.{Consumes-nil, Keeps-refl}
 use Rattle.std.proofs.lemmas.Bool.{eqb-true}
 use Rattle.std.proofs.lemmas.Grind.{common_steps}
-use Rattle.dl_cmd.specs.Job.{addr_words_made}
 use Rattle.dl_dialogue.proofs.AnswerLemmas.{some_mapped}
 use Rattle.dl_dirs.specs.Directories.{directory_at}
 use Rattle.dl_open.specs.Code.{AreLive}

@@ -2,12 +2,11 @@ use Rattle.std.proofs.Common.{[], Some, Ok, Err, ap, inl, inr, refl, sym, subst,
 use Rattle.std.proofs.KnownBytes.{Consumes-nil, Keeps-refl}
 use Rattle.std.proofs.lemmas.Result.{err_from_is_err_and}
 use Rattle.dl_cmd.specs.Job.{addr_words_made}
-use Rattle.dl_index_file.specs.Opening.{source_of}
 use Rattle.dl_index_file.specs.Reading.{ReadFails}
 use Rattle.std.specs.Prelude.{IfErr}
+use Rattle.dl_work.specs.Answering.{AnswersAsked}
 use Rattle.dl_work.specs.OverIndex.{IsNotOpened, MadeOf, location_in}
 use Rattle.dl_work.proofs.AnsweringLemmas.{not_opened}
-use Rattle.dl_work.proofs.ReadsLemmas.{answers_wider}
 use Rattle.dl_work.proofs.over_index.in_index.Goals as goal
 
 pub returns-then-not-suits_index : goal.returns-then-not-suits_index
@@ -53,7 +52,7 @@ returns-in_err-check_made_of g c =
 pub returns : goal.returns
 returns g c =
     let w = addr_words_made c.args.words.now in
-    let e = c.answer_asked.ensures in (
+    let e = c.answer_from.ensures in (
       e.0,
       e.1,
       λ understood b known short.
@@ -63,12 +62,11 @@ returns g c =
             c.in-Ok.ensures.opens b known short,
             subst (λ id. MadeOf (g.F.FileSource.held c.args.files.now) (g.F.FileSource.fails_with c.args.files.now) w
                 c.args.path id (Ok tt)) (c.build_id.ensures.id b own short) c.in_ok-check_made_of.ensures,
-            c.answer_asked.result,
+            c.answer_from.result,
             c.located_by.ensures,
-            λ whole. answers_wider _ (ReadFails (Some b) (g.S.ReadAt.fails_with c.args.file.now))
-                (λ error fails. subst (λ k. ReadFails k (g.S.ReadAt.fails_with c.args.file.now) error) own
-                (subst (λ s. ReadFails (g.S.ReadAt.all_bytes (source_of c.in-Ok.index)) (g.S.ReadAt.fails_with s) error)
-                c.in-Ok.ensures.source fails)) w (location_in b) e.0 _ _ _ c.answer_asked.result
-                (e.2 (location_in b) (λ address told tells. tells b own short whole) understood),
+            λ whole. subst (λ s. AnswersAsked w (location_in b) (ReadFails (Some b) (g.S.ReadAt.fails_with s)) e.0
+                (g.R.Read.remaining c.answer_from.new.input) (g.W.Write.contents c.args.output.now)
+                (g.W.Write.contents c.answer_from.new.output) c.answer_from.result) c.in-Ok.ensures.source
+                (e.2 understood b own short whole),
           ))),
     )

@@ -8,8 +8,8 @@ use Rattle.dl_dialogue.proofs.answers.Answers.answer.Goals as goal
 pub returns-in-Ok : goal.returns-in-Ok
 returns-in-Ok g c = λ m start before determines stands.
     rw c.written.ensures (answers_one m before c.args.asked start (g.W.Write.contents c.args.output.now)
-    (g.W.Write.contents c.print_location.new.output) c.args.self.now stands (g.T.Tell.fails_with c.args.teller.now)
-    (option_map location_seen c.in-Ok.location) c.is_answered.result c.print_location.result _
+    (g.W.Write.contents c.print_location.new.output) c.args.printer.now c.args.self.now stands (g.T.Tell.fails_with c.args.teller.now)
+    (option_map location_seen c.in-Ok.location) c.is_answered.result c.print_location.result c.print_location.new.printer _
     (c.in-Ok.ensures.told m stands.base determines)
     (c.is_answered.ensures ∙ ap (is_answered c.args.asked) (c.is_some.ensures
     ∙ some_mapped location_seen c.in-Ok.location)) refl refl c.also-self.ensures c.print_location.ensures)
@@ -17,6 +17,6 @@ returns-in-Ok g c = λ m start before determines stands.
 pub returns-in-Err : goal.returns-in-Err
 returns-in-Err g c = λ m start before determines stands.
     rw c.stopped.ensures (stops_before m before c.args.asked start (g.W.Write.contents c.args.output.now)
-    (g.W.Write.contents c.flush.new.output) c.args.self.now stands (g.T.Tell.fails_with c.args.teller.now)
+    (g.W.Write.contents c.flush.new.output) c.args.printer.now c.args.self.now stands (g.T.Tell.fails_with c.args.teller.now)
     c.in-Err.fault c.flush.new.self c.flush.result _ c.in-Err.ensures.fails c.flush.ensures.printed
     c.flush.ensures.empty)

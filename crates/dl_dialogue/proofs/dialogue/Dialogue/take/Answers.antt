@@ -17,7 +17,7 @@ pub loop-byte-preserved : goal.loop-byte-preserved
 loop-byte-preserved g c = λ m hex start done determines talks.
     let i = c.loop-byte.byte-index in
     let piece = c.args.piece.now in
-    spoken_more m hex start (g.W.Write.contents c.take_byte.new.output) done piece i (get_or piece i 0) c.take_byte.new.self
+    spoken_more m hex start (g.W.Write.contents c.take_byte.new.output) done piece i (get_or piece i 0) c.take_byte.new.printer c.take_byte.new.self
     c.loop-byte-test.true refl
     (c.in_ok-take_byte.ensures m hex start (done ++ take i piece) determines
     (c.loop-byte.invariant m hex start done determines talks))
@@ -25,8 +25,6 @@ loop-byte-preserved g c = λ m hex start done determines talks.
 pub returns : goal.returns
 returns g c = λ m hex start done determines talks.
     piece_spoken m hex (g.T.Tell.fails_with c.args.teller.now) start (g.W.Write.contents c.loop-byte.output)
-    (g.W.Write.contents c.flush.new.output) done c.args.piece.now c.loop-byte.byte-index c.loop-byte.self (record {
-      answers = c.flush.new.self;
-      line = c.loop-byte.self.line;
-    }) c.flush.result c.loop-byte-test.false (c.loop-byte.invariant m hex start done determines talks) refl
+    (g.W.Write.contents c.flush.new.output) done c.args.piece.now c.loop-byte.byte-index c.loop-byte.printer c.flush.new.printer c.loop-byte.self
+    c.flush.result c.loop-byte-test.false (c.loop-byte.invariant m hex start done determines talks)
     (λ asked stands. c.flush.ensures m start asked stands)

@@ -7,5 +7,5 @@ use Rattle.dl_dialogue.proofs.dialogue.Dialogue.take.Given as goal
 abbrev pub invariant-loop-byte : goal.invariant-loop-byte
 invariant-loop-byte g l =
     (m : Manner) (hex : Bool) (start : Option (List ℕ)) (done : List ℕ) → Determines (g.T.Tell.tells l.teller) m.told
-    → Talks m hex start (g.W.Write.contents l.initial.output) done l.initial.self
-    → Speaks m hex start (g.W.Write.contents l.output) (done ++ take l.byte-index l.piece) l.self
+    → Talks m hex start (g.W.Write.contents l.initial.output) done l.initial.printer l.initial.self
+    → Speaks m hex start (g.W.Write.contents l.output) (done ++ take l.byte-index l.piece) l.printer l.self

@@ -6,7 +6,7 @@ pub returns : goal.returns
 returns g c = λ m hex start done determines speaks.
     let before = asked_in hex (ended done) in
     byte_spoken m hex (g.T.Tell.fails_with c.args.teller.now) start (g.W.Write.contents c.answer_if_asked.new.output) done
-    c.args.byte c.take-asked.result (record {
+    c.args.byte c.take-asked.result c.answer_if_asked.new.printer (record {
       answers = c.answer_if_asked.new.self;
       line = c.take-asked.new.self;
     }) c.answer_if_asked.result (c.take-asked.ensures hex done before speaks.line)

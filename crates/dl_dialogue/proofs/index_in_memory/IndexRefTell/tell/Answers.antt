@@ -3,7 +3,6 @@ use Rattle.std.specs.Option.{option_map}
 use Rattle.dl_addr.specs.Location.{Location}
 use Rattle.dl_index.specs.Shown.{texts_told}
 use Rattle.dl_making.specs.Telling.{location_told}
-use Rattle.dl_dialogue.specs.Paths.{path_if}
 use Rattle.dl_dialogue.proofs.TellingLemmas.{path_is}
 use Rattle.dl_dialogue.proofs.index_in_memory.IndexRefTell.tell.Goals as goal
 

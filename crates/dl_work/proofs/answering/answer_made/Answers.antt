@@ -2,7 +2,7 @@ use Rattle.std.proofs.Common.{None, ap, subst, sym, ◌∙◌}
 use Rattle.dl_index.specs.IsIndex.{IsIndex}
 use Rattle.dl_work.specs.OverIndex.{location_in}
 use Rattle.dl_work.proofs.AnsweringLemmas.{never_empty}
-use Rattle.dl_work.proofs.over_elf_file.answer_made.Goals as goal
+use Rattle.dl_work.proofs.answering.answer_made.Goals as goal
 
 pub returns-in-Ok : goal.returns-in-Ok
 returns-in-Ok g c =

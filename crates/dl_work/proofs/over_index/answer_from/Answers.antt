@@ -1,0 +1,52 @@
+use Rattle.std.proofs.Common.{Some, subst, sym, ◌∙◌}
+use Rattle.dl_cmd.specs.Job.{addr_words_made}
+use Rattle.dl_index.specs.IsIndex.{IsIndex}
+use Rattle.dl_index_file.specs.Opening.{source_of}
+use Rattle.dl_index_file.specs.Reading.{ReadFails}
+use Rattle.dl_work.specs.Answering.{AnswersAsked}
+use Rattle.dl_work.specs.OverIndex.{location_in}
+use Rattle.dl_work.proofs.ReadsLemmas.{answers_wider}
+use Rattle.dl_work.proofs.over_index.answer_from.Goals as goal
+
+pub returns-then-not-is_empty : goal.returns-then-not-is_empty
+returns-then-not-is_empty g c =
+    let w = addr_words_made c.args.words.now in
+    let e = c.answer_asked.ensures in (
+      e.0,
+      e.1,
+      λ understood b known short whole.
+          answers_wider _ (ReadFails (Some b) (g.S.ReadAt.fails_with (source_of c.args.index.now)))
+          (λ error fails. subst (λ k. ReadFails k (g.S.ReadAt.fails_with (source_of c.args.index.now)) error) known fails)
+          w (location_in b) e.0 _ _ _ c.answer_asked.result
+          (e.2 (location_in b) (λ address told tells. tells b known short whole) understood),
+    )
+
+pub returns-in-Some : goal.returns-in-Some
+returns-in-Some g c =
+    let w = addr_words_made c.args.words.now in
+    let e = c.answer_made.ensures in
+    let start = g.W.Write.contents c.args.output.now in (
+      e.0,
+      e.1,
+      λ understood b known short whole.
+          let same = c.as_slice.ensures.value ∙ c.in-Some.ensures b known short in
+          answers_wider (λ _. ⊥) (ReadFails (Some b) (g.S.ReadAt.fails_with (source_of c.args.index.now)))
+          (λ error fails. absurd fails) w (location_in b) e.0 (g.R.Read.remaining c.answer_made.new.input) start
+          (g.W.Write.contents c.answer_made.new.output) c.answer_made.result
+          (subst (λ i. AnswersAsked w (location_in i) (λ _. ⊥) e.0 (g.R.Read.remaining c.answer_made.new.input) start
+          (g.W.Write.contents c.answer_made.new.output) c.answer_made.result) same
+          ((e.2 understood).made (subst IsIndex (sym same) whole))),
+    )
+
+pub returns-in-None : goal.returns-in-None
+returns-in-None g c =
+    let w = addr_words_made c.args.words.now in
+    let e = c.answer_asked-in-None.ensures in (
+      e.0,
+      e.1,
+      λ understood b known short whole.
+          answers_wider _ (ReadFails (Some b) (g.S.ReadAt.fails_with (source_of c.args.index.now)))
+          (λ error fails. subst (λ k. ReadFails k (g.S.ReadAt.fails_with (source_of c.args.index.now)) error) known fails)
+          w (location_in b) e.0 _ _ _ c.answer_asked-in-None.result
+          (e.2 (location_in b) (λ address told tells. tells b known short whole) understood),
+    )
