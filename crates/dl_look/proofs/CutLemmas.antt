@@ -321,9 +321,13 @@ module _ (spans : List Span) (slots : List Slot) (cuts : List Cut) (i : ℕ) (so
         upto = λ k less. (let j = so_far.upto k less in (j.0, (let h = j.1 in omega arith), j.2));
       }
 
-two_ends : (spans : List Span) → length (flat_map ends_of_span spans) ≡ 2 * length spans
+pub two_ends : (spans : List Span) → length (flat_map ends_of_span spans) ≡ 2 * length spans
 two_ends [] = refl
 two_ends (s ∷ spans) = omega (arith, two_ends spans)
+
+-- of the first i
+pub ends_upto : (spans : List Span) (i : ℕ) → i ≤ length spans → length (flat_map ends_of_span (take i spans)) ≡ 2 * i
+ends_upto spans i within = two_ends (take i spans) ∙ ap (λ n. 2 * n) (length-take-le i spans within)
 
 pub are_cuts : (spans : List Span) (places : List Place) (slots : List Slot) (cuts : List Cut) (i : ℕ)
     → places ≡ flat_map ends_of_span spans → IsSlots places slots → SoFar spans slots cuts i → i ≡ length slots

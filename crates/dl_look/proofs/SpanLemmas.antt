@@ -42,6 +42,20 @@ length-spans_from k (s ∷ ss) = ap suc (length-spans_from (k + length s) ss)
 pub length-spans : (rows : List Row) → length (spans rows) ≡ length (sequences rows)
 length-spans rows = length-spans_from 0 (sequences rows)
 
+-- each of them has a row
+few_sequences_after : (begun rows : List Row) → length (sequences_after begun rows) ≤ length rows
+few_sequences_after begun [] = omega arith
+few_sequences_after begun (r ∷ rows) =
+    elim r.end_sequence as (λ (ends : Bool).
+    length (if ends then (begun ++ r ∷ []) ∷ sequences_after [] rows else sequences_after (begun ++ r ∷ []) rows)
+    ≤ length (r ∷ rows)) [
+      | true ↦ let fewer = few_sequences_after [] rows in omega arith
+      | false ↦ let fewer = few_sequences_after (begun ++ r ∷ []) rows in omega arith
+    ]
+
+pub few_spans : (rows : List Row) → length (spans rows) ≤ length rows
+few_spans rows = let few = few_sequences_after [] rows in let same = length-spans rows in omega arith
+
 -- where the sequence i starts
 abbrev pub start_at : List (List Row) → ℕ → ℕ
 start_at ss i = length (joined (take i ss))

@@ -1,11 +1,11 @@
 //! Ranges of addresses of code, and whether an address lies in one of them.
-ghost use Rattle.std.specs.Prelude.{◌≡◌, Bool, ℕ, ◌<◌, ◌≤◌, IfOk, length};
+ghost use Rattle.std.specs.Prelude.{◌≡◌, Bool, ℕ, ◌<◌, ◌≤◌, IfOk, OnErr, length};
+ghost use Rattle.dl_memory.specs.Refusals.{IsRefused};
 ghost use Rattle.std.specs.List.{list_any};
 ghost use Rattle.dl_look.specs.declared.code_ranges.AddressRange as range;
 ghost use Rattle.dl_look.specs.Ranges.{AreReaches, AreRising, StartsRise, reach_start};
 
-use crate::NoMemory;
-use std::alloc::Global;
+use dl_memory::{Memory, NoMemory};
 
 /// Addresses that stand in a row: `size` of them, from `start` on.
 ///
@@ -32,17 +32,19 @@ pub struct CodeRanges {
 }
 
 impl CodeRanges {
-    ghost use Rattle.std.specs.Prelude.{◌≡◌, ℕ, IfOk};
+    ghost use Rattle.std.specs.Prelude.{◌≡◌, ℕ, IfOk, OnErr, length};
+    ghost use Rattle.dl_memory.specs.Refusals.{IsRefused};
     ghost use Rattle.std.specs.List.{list_any};
     ghost use Rattle.dl_look.specs.CodeRanges.{has_code};
     ghost use Rattle.dl_look.specs.Ranges.{is_in};
 
     /// The ranges, in any order; they may overlap. It takes 48 bytes for each.
-    pub fn build(alloc: Global, ranges: &[AddressRange]) -> Result<CodeRanges, NoMemory>
-        ensures { IfOk result (λ code. (a : ℕ) → has_code code a ≡ list_any (is_in a) ranges.now) }
+    pub fn build<M: Memory>(memory: &M, ranges: &[AddressRange]) -> Result<CodeRanges, NoMemory>
+        ensures built { IfOk result (λ code. (a : ℕ) → has_code code a ≡ list_any (is_in a) ranges.now) }
+        ensures refused { OnErr result (IsRefused (M.refuses memory.now) (length ranges.now)) }
     {
-        let sorted = sorted(alloc, ranges)?;
-        let reaches = reaches_of(alloc, sorted.as_slice())?;
+        let sorted = sorted(memory, ranges)?;
+        let reaches = reaches_of(memory, sorted.as_slice())?;
         Ok(CodeRanges { reaches })
     }
 
@@ -56,26 +58,26 @@ impl CodeRanges {
 }
 
 /// The ranges in the order of their starts.
-fn sorted(alloc: Global, ranges: &[AddressRange]) -> Result<Vec<AddressRange>, NoMemory>
+fn sorted<M: Memory>(memory: &M, ranges: &[AddressRange]) -> Result<Vec<AddressRange>, NoMemory>
     ensures rise { IfOk result (λ sorted. StartsRise sorted.items) }
     ensures same { IfOk result (λ sorted. (p : range.AddressRange → Bool)
         → list_any p sorted.items ≡ list_any p ranges.now) }
+    ensures len { IfOk result (λ sorted. length sorted.items ≡ length ranges.now) }
+    ensures refused { OnErr result (IsRefused (M.refuses memory.now) (length ranges.now)) }
 {
-    let Ok(mut sorted) = ranges.to_vec(alloc) else {
-        return Err(NoMemory);
-    };
+    let mut sorted = memory.with_capacity(ranges.len())?;
+    memory.extend_from_slice(&mut sorted, ranges)?;
     sorted.sort_unstable();
     Ok(sorted)
 }
 
 /// How far ranges reach that stand in the order of their starts.
-fn reaches_of(alloc: Global, ranges: &[AddressRange]) -> Result<Vec<Reach>, NoMemory>
+fn reaches_of<M: Memory>(memory: &M, ranges: &[AddressRange]) -> Result<Vec<Reach>, NoMemory>
     requires { StartsRise ranges.now }
-    ensures { IfOk result (λ reaches. AreReaches ranges.now reaches.items) }
+    ensures reaches { IfOk result (λ reaches. AreReaches ranges.now reaches.items) }
+    ensures refused { OnErr result (IsRefused (M.refuses memory.now) (length ranges.now)) }
 {
-    let Ok(mut reaches) = Vec::with_capacity(alloc, ranges.len()) else {
-        return Err(NoMemory);
-    };
+    let mut reaches = memory.with_capacity(ranges.len())?;
     let mut end = 0;
     for range in ranges {
         end = (u128::from(range.start) + u128::from(range.size)).max(end);

@@ -1,21 +1,21 @@
 //! From which places on which sequence of an index is the first rising one that covers.
 
-ghost use Rattle.std.specs.Prelude.{◌≡◌, ℕ, ◌+◌, ◌<◌, ◌≤◌, ◌&&◌, if◌then◌else◌, IfOk, length, true, false, nat_le};
+ghost use Rattle.std.specs.Prelude.{◌≡◌, ℕ, ◌+◌, ◌*◌, ◌<◌, ◌≤◌, ◌&&◌, if◌then◌else◌, IfOk, OnErr, length, true, false, nat_le};
 ghost use Rattle.std.specs.Prelude.{nat_lt, Some, None, is_none, slice_index_or};
 ghost use Rattle.std.specs.List.{flat_map};
 ghost use Rattle.std.specs.Option.{option_or};
+ghost use Rattle.dl_memory.specs.Refusals.{IsRefused};
 ghost use Rattle.dl_look.specs.Answer.{is_at_most};
 ghost use Rattle.dl_look.specs.Cuts.{AreCuts, first_from, ends_of_span, cut_place};
 ghost use Rattle.dl_look.specs.Links.{IsLinked, is_open};
 ghost use Rattle.dl_look.specs.Slots.{IsRising, slot_place};
 
-use crate::NoMemory;
 use crate::ledger::no_entries;
 use crate::links::Links;
 use crate::place::Place;
 use crate::probed::Span;
 use crate::slots::{Slot, first_not_below, sorted};
-use std::alloc::Global;
+use dl_memory::{Memory, NoMemory};
 
 /// From this place on, up to that of the next cut, the sequence of this number is the first rising one that
 /// covers; None where none does.
@@ -26,15 +26,14 @@ pub struct Cut {
 }
 
 /// The cuts of sequences, at most two for each.
-pub fn cuts_of(alloc: Global, spans: &[Span]) -> Result<Vec<Cut>, NoMemory>
-    ensures { IfOk result (λ cuts. AreCuts spans.now cuts.items) }
+pub fn cuts_of<M: Memory>(memory: &M, spans: &[Span]) -> Result<Vec<Cut>, NoMemory>
+    ensures cuts { IfOk result (λ cuts. AreCuts spans.now cuts.items) }
+    ensures refused { OnErr result (IsRefused (M.refuses memory.now) (2 * length spans.now + 1)) }
 {
-    let ends = ends_of(alloc, spans)?;
-    let slots = sorted(alloc, ends.as_slice())?;
-    let sequences = first_sequences(alloc, slots.as_slice(), spans)?;
-    let Ok(mut cuts) = Vec::with_capacity(alloc, slots.len()) else {
-        return Err(NoMemory);
-    };
+    let ends = ends_of(memory, spans)?;
+    let slots = sorted(memory, ends.as_slice())?;
+    let sequences = first_sequences(memory, slots.as_slice(), spans)?;
+    let mut cuts = memory.with_capacity(slots.len())?;
     for i in 0..slots.len() {
         if i == 0 || slots[i - 1].place.is_below(slots[i].place) {
             cuts.push_reserved(Cut {
@@ -47,21 +46,21 @@ pub fn cuts_of(alloc: Global, spans: &[Span]) -> Result<Vec<Cut>, NoMemory>
 }
 
 /// The places where sequences begin and end.
-fn ends_of(alloc: Global, spans: &[Span]) -> Result<Vec<Place>, NoMemory>
-    ensures { IfOk result (λ ends. ends.items ≡ flat_map ends_of_span spans.now) }
+fn ends_of<M: Memory>(memory: &M, spans: &[Span]) -> Result<Vec<Place>, NoMemory>
+    ensures ends { IfOk result (λ ends. ends.items ≡ flat_map ends_of_span spans.now) }
+    ensures refused { OnErr result (IsRefused (M.refuses memory.now) (2 * length spans.now)) }
 {
-    let mut ends = Vec::new(alloc);
+    let mut ends = Vec::new(memory.alloc());
     for span in spans {
-        if ends.push(span.first).is_err() || ends.push(span.last).is_err() {
-            return Err(NoMemory);
-        }
+        memory.push(&mut ends, span.first)?;
+        memory.push(&mut ends, span.last)?;
     }
     Ok(ends)
 }
 
 /// The first rising sequence that covers each slot's place.
-fn first_sequences(
-    alloc: Global,
+fn first_sequences<M: Memory>(
+    memory: &M,
     slots: &[Slot],
     spans: &[Span],
 ) -> Result<Vec<Option<usize>>, NoMemory>
@@ -69,9 +68,10 @@ fn first_sequences(
     ensures count { IfOk result (λ sequences. length sequences.items ≡ length slots.now) }
     ensures first { IfOk result (λ sequences. (j : ℕ) → j < length slots.now
         → slice_index_or sequences.items j None ≡ first_from 0 spans.now (slot_place slots.now j)) }
+    ensures refused { OnErr result (IsRefused (M.refuses memory.now) (length slots.now + 1)) }
 {
-    let mut links = Links::build(alloc, slots)?;
-    let mut sequences = no_entries(alloc, slots.len())?;
+    let mut links = Links::build(memory, slots)?;
+    let mut sequences = no_entries(memory, slots.len())?;
     for (i, span) in spans.iter().enumerate() {
         if span.rising {
             let low = first_not_below(slots, span.first);

@@ -8,12 +8,12 @@ ghost use Rattle.dl_look.specs.SequenceState.{last_of, end_of, most_stretches};
 ghost use Rattle.dl_look.specs.Slots.{slot_place, IsNumbered, IsRising};
 ghost use Rattle.dl_look.specs.Trails.{StartsWithin};
 
-use crate::NoMemory;
 use crate::finder::kept;
 use crate::ledger::{Answered, Ledger};
 use crate::place::Place;
 use crate::slots::{Slot, first_not_below, sorted};
 use crate::trail::{Stretch, pass, settle};
+use dl_memory::{Memory, NoMemory, System};
 use dl_rows::Row;
 use std::alloc::Global;
 
@@ -69,7 +69,8 @@ enum State {
 }
 
 impl Finders {
-    ghost use Rattle.std.specs.Prelude.{◌≡◌, ℕ, ◌<◌, ◌≤◌, IfOk, length, true, false, List, [], ◌∷◌, ◌++◌, slice_get};
+    ghost use Rattle.std.specs.Prelude.{◌≡◌, ℕ, ◌+◌, ◌<◌, ◌≤◌, IfOk, OnErr, length, true, false, List, [], ◌∷◌, ◌++◌, slice_get};
+    ghost use Rattle.dl_memory.specs.Refusals.{IsRefused};
     ghost use Rattle.std.specs.Option.{option_and_then};
     ghost use Rattle.dl_rows.specs.declared.row.Row.{Row};
     ghost use Rattle.dl_look.specs.declared.place.Place.{Place};
@@ -80,15 +81,20 @@ impl Finders {
     pub fn build(alloc: Global, places: &[Place]) -> Result<Finders, NoMemory>
         ensures { IfOk result (λ finders. Stand finders places.now [] []) }
     {
-        let slots = sorted(alloc, places)?;
-        let ledger = Ledger::build(alloc, slots.as_slice())?;
-        let Ok(trail) = Vec::with_capacity(alloc, places.len()) else {
-            return Err(NoMemory);
-        };
+        Finders::build_in(&System::new(alloc), places)
+    }
+
+    /// The same, by this memory.
+    pub fn build_in<M: Memory>(memory: &M, places: &[Place]) -> Result<Finders, NoMemory>
+        ensures built { IfOk result (λ finders. Stand finders places.now [] []) }
+        ensures refused { OnErr result (IsRefused (M.refuses memory.now) (length places.now + 1)) }
+    {
+        let slots = sorted(memory, places)?;
+        let ledger = Ledger::build(memory, slots.as_slice())?;
         Ok(Finders {
             slots,
             ledger,
-            trail,
+            trail: memory.with_capacity(places.len())?,
             state: State::Start,
             before: 0,
             whole: 0,

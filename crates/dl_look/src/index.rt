@@ -1,6 +1,7 @@
 //! Rows in memory, for the look-up of many places.
 
-ghost use Rattle.std.specs.Prelude.{◌≡◌, IfOk};
+ghost use Rattle.std.specs.Prelude.{◌≡◌, ◌+◌, ◌*◌, IfOk, OnErr, length};
+ghost use Rattle.dl_memory.specs.Refusals.{IsRefused};
 ghost use Rattle.dl_look.specs.Answer.{answer};
 ghost use Rattle.dl_look.specs.Spans as Spans;
 
@@ -9,13 +10,10 @@ use crate::place::Place;
 use crate::probed::{Probed, Span};
 use crate::searching::search_between;
 use crate::sequence_so_far::SequenceSoFar;
+use dl_memory::{Memory, NoMemory, System};
 use dl_rows::Row;
 use std::alloc::Global;
 use std::marker::Model;
-
-/// A growth was refused.
-#[derive(Debug, Clone, Copy, PartialEq, Eq)]
-pub struct NoMemory;
 
 /// Rows, with what is kept of each of their sequences that has an end row.
 #[derive(Drop)]
@@ -45,12 +43,23 @@ impl Index {
     pub fn build(alloc: Global, rows: &[Row]) -> Result<Index, NoMemory>
         ensures { IfOk result (λ built. built ≡ rows.now) }
     {
-        let spans = spans_of(alloc, rows)?;
-        let cuts = cuts_of(alloc, spans.as_slice())?;
-        match Vec::from_slice(alloc, rows) {
-            Ok(rows) => Ok(Index { rows, spans, cuts }),
-            Err(_) => Err(NoMemory),
-        }
+        Index::build_in(&System::new(alloc), rows)
+    }
+
+    /// The same, by this memory.
+    pub fn build_in<M: Memory>(memory: &M, rows: &[Row]) -> Result<Index, NoMemory>
+        ensures built { IfOk result (λ built. built ≡ rows.now) }
+        ensures refused { OnErr result (IsRefused (M.refuses memory.now) (2 * length rows.now + 1)) }
+    {
+        let spans = spans_of(memory, rows)?;
+        let cuts = cuts_of(memory, spans.as_slice())?;
+        let mut kept = memory.with_capacity(rows.len())?;
+        memory.extend_from_slice(&mut kept, rows)?;
+        Ok(Index {
+            rows: kept,
+            spans,
+            cuts,
+        })
     }
 
     /// The answer of the rows for a place, as `Finder::answer` gives it.
@@ -80,10 +89,11 @@ impl Index {
 }
 
 /// What is kept of the sequences of the rows, by one pass over them.
-fn spans_of(alloc: Global, rows: &[Row]) -> Result<Vec<Span>, NoMemory>
-    ensures { IfOk result (λ spans. spans.items ≡ Spans.spans rows.now) }
+fn spans_of<M: Memory>(memory: &M, rows: &[Row]) -> Result<Vec<Span>, NoMemory>
+    ensures spans { IfOk result (λ spans. spans.items ≡ Spans.spans rows.now) }
+    ensures refused { OnErr result (IsRefused (M.refuses memory.now) (length rows.now)) }
 {
-    let mut spans = Vec::new(alloc);
+    let mut spans = Vec::new(memory.alloc());
     let mut start = 0;
     let mut run = None;
     for (i, row) in rows.iter().enumerate() {
@@ -96,9 +106,7 @@ fn spans_of(alloc: Global, rows: &[Row]) -> Result<Vec<Span>, NoMemory>
                 last: extended.last,
                 rising: extended.rising,
             };
-            if spans.push(span).is_err() {
-                return Err(NoMemory);
-            }
+            memory.push(&mut spans, span)?;
             start = i + 1;
             run = None;
         } else {

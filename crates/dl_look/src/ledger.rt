@@ -1,13 +1,13 @@
 //! The answers of places, in the order in which they come.
 
-ghost use Rattle.std.specs.Prelude.{◌≡◌, ℕ, ◌+◌, ◌<◌, ◌≤◌, IfOk, length, replicate, slice_index_or, Some, None};
+ghost use Rattle.std.specs.Prelude.{◌≡◌, ℕ, ◌+◌, ◌<◌, ◌≤◌, IfOk, OnErr, length, replicate, slice_index_or, Some, None};
+ghost use Rattle.dl_memory.specs.Refusals.{IsRefused};
 ghost use Rattle.dl_look.specs.Ledgers.{no_answer, unanswered};
 
-use crate::NoMemory;
 use crate::links::Links;
 use crate::slots::Slot;
+use dl_memory::{Memory, NoMemory};
 use dl_rows::Row;
-use std::alloc::Global;
 
 /// The answer of a place.
 #[derive(Debug, Clone, Copy, PartialEq, Eq)]
@@ -29,7 +29,8 @@ pub struct Ledger {
 }
 
 impl Ledger {
-    ghost use Rattle.std.specs.Prelude.{◌≡◌, ℕ, ◌+◌, ◌<◌, ◌≤◌, ◌≢◌, ◌&&◌, if◌then◌else◌, IfOk, length, true, false, []};
+    ghost use Rattle.std.specs.Prelude.{◌≡◌, ℕ, ◌+◌, ◌<◌, ◌≤◌, ◌≢◌, ◌&&◌, if◌then◌else◌, IfOk, OnErr, length, true, false, []};
+    ghost use Rattle.dl_memory.specs.Refusals.{IsRefused};
     ghost use Rattle.std.specs.Prelude.{Some, None, nat_le, nat_lt, List, drop};
     ghost use Rattle.std.specs.Option.{option_or};
     ghost use Rattle.dl_look.specs.Links.{IsLinked, AreClosed, is_open, is_sealed};
@@ -38,22 +39,20 @@ impl Ledger {
     ghost use Rattle.dl_look.specs.declared.slots.Slot.{Slot};
 
     /// No answer yet.
-    pub fn build(alloc: Global, slots: &[Slot]) -> Result<Ledger, NoMemory>
+    pub fn build<M: Memory>(memory: &M, slots: &[Slot]) -> Result<Ledger, NoMemory>
         ensures sound { IfOk result (λ ledger. IsSound slots.now ledger) }
         ensures none { IfOk result (λ ledger. (i : ℕ) → entry_at ledger i ≡ None) }
         ensures empty { IfOk result (λ ledger. ledger.log.items ≡ []) }
         ensures unsealed { IfOk result (λ ledger. (j : ℕ) → is_sealed ledger.links.sealed.items j ≡ false) }
+        ensures refused { OnErr result (IsRefused (M.refuses memory.now) (length slots.now + 1)) }
     {
-        let links = Links::build(alloc, slots)?;
-        let Ok(log) = Vec::with_capacity(alloc, slots.len()) else {
-            return Err(NoMemory);
-        };
-        let Ok(log_slots) = Vec::with_capacity(alloc, slots.len()) else {
-            return Err(NoMemory);
-        };
+        let links = Links::build(memory, slots)?;
+        let entries = no_entries(memory, slots.len())?;
+        let log = memory.with_capacity(slots.len())?;
+        let log_slots = memory.with_capacity(slots.len())?;
         Ok(Ledger {
             links,
-            entries: no_entries(alloc, slots.len())?,
+            entries,
             log,
             log_slots,
         })
@@ -169,12 +168,14 @@ impl Ledger {
 }
 
 /// No entry for each of `count` places.
-pub(crate) fn no_entries(alloc: Global, count: usize) -> Result<Vec<Option<usize>>, NoMemory>
-    ensures { IfOk result (λ entries. entries.items ≡ replicate count None) }
+pub(crate) fn no_entries<M: Memory>(
+    memory: &M,
+    count: usize,
+) -> Result<Vec<Option<usize>>, NoMemory>
+    ensures entries { IfOk result (λ entries. entries.items ≡ replicate count None) }
+    ensures refused { OnErr result (IsRefused (M.refuses memory.now) count) }
 {
-    let Ok(mut entries) = Vec::with_capacity(alloc, count) else {
-        return Err(NoMemory);
-    };
+    let mut entries = memory.with_capacity(count)?;
     while entries.len() < count {
         entries.push_reserved(None);
     }

@@ -23,7 +23,7 @@ pub use code_ranges::{AddressRange, CodeRanges};
 pub use cuts::{Cut, cuts_of};
 pub use finder::Finder;
 pub use finders::Finders;
-pub use index::{Index, NoMemory, Probe};
+pub use index::{Index, Probe};
 pub use ledger::Answered;
 pub use live::LiveRows;
 pub use place::Place;

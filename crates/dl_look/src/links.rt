@@ -1,10 +1,10 @@
 //! Which slots are open, with links over those that aren't.
 
-ghost use Rattle.std.specs.Prelude.{◌≡◌, IfOk, replicate, false};
+ghost use Rattle.std.specs.Prelude.{◌≡◌, IfOk, OnErr, replicate, false};
+ghost use Rattle.dl_memory.specs.Refusals.{IsRefused};
 
-use crate::NoMemory;
 use crate::slots::Slot;
-use std::alloc::Global;
+use dl_memory::{Memory, NoMemory};
 
 /// Slots that are open, that are closed, and that are sealed, which is closed for good.
 ///
@@ -18,26 +18,26 @@ pub struct Links {
 }
 
 impl Links {
-    ghost use Rattle.std.specs.Prelude.{◌≡◌, ℕ, ◌+◌, ◌<◌, ◌≤◌, ◌≢◌, IfOk, length, true, false, not};
+    ghost use Rattle.std.specs.Prelude.{◌≡◌, ℕ, ◌+◌, ◌<◌, ◌≤◌, ◌≢◌, IfOk, OnErr, length, true, false, not};
+    ghost use Rattle.dl_memory.specs.Refusals.{IsRefused};
     ghost use Rattle.dl_look.specs.Links.{IsLinked, AreClosed, is_open, is_sealed};
 
     /// All slots are open.
-    pub fn build(alloc: Global, slots: &[Slot]) -> Result<Links, NoMemory>
+    pub fn build<M: Memory>(memory: &M, slots: &[Slot]) -> Result<Links, NoMemory>
         ensures linked { IfOk result (λ links. IsLinked links) }
         ensures count { IfOk result (λ links. length links.next.items ≡ length slots.now + 1) }
         ensures open { IfOk result (λ links. (j : ℕ) → j ≤ length slots.now → is_open links.next.items j ≡ true) }
         ensures unsealed { IfOk result (λ links. (j : ℕ) → is_sealed links.sealed.items j ≡ false) }
+        ensures refused { OnErr result (IsRefused (M.refuses memory.now) (length slots.now + 1)) }
     {
         let count = slots.len() + 1;
-        let Ok(mut next) = Vec::with_capacity(alloc, count) else {
-            return Err(NoMemory);
-        };
+        let mut next = memory.with_capacity(count)?;
         for slot in 0..count {
             next.push_reserved(slot);
         }
         Ok(Links {
             next,
-            sealed: none_sealed(alloc, count)?,
+            sealed: none_sealed(memory, count)?,
         })
     }
 
@@ -118,12 +118,11 @@ impl Links {
 }
 
 /// None of `count` slots is sealed.
-fn none_sealed(alloc: Global, count: usize) -> Result<Vec<bool>, NoMemory>
-    ensures { IfOk result (λ sealed. sealed.items ≡ replicate count false) }
+fn none_sealed<M: Memory>(memory: &M, count: usize) -> Result<Vec<bool>, NoMemory>
+    ensures sealed { IfOk result (λ sealed. sealed.items ≡ replicate count false) }
+    ensures refused { OnErr result (IsRefused (M.refuses memory.now) count) }
 {
-    let Ok(mut sealed) = Vec::with_capacity(alloc, count) else {
-        return Err(NoMemory);
-    };
+    let mut sealed = memory.with_capacity(count)?;
     while sealed.len() < count {
         sealed.push_reserved(false);
     }

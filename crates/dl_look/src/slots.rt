@@ -1,11 +1,11 @@
 //! The places that were given, in order. Section 6.2.2.
-ghost use Rattle.std.specs.Prelude.{◌≡◌, ℕ, ◌<◌, ◌≤◌, IfOk, length, true, false};
+ghost use Rattle.std.specs.Prelude.{◌≡◌, ℕ, ◌<◌, ◌≤◌, IfOk, OnErr, length, true, false};
 ghost use Rattle.dl_look.specs.Answer.{is_below};
+ghost use Rattle.dl_memory.specs.Refusals.{IsRefused};
 ghost use Rattle.dl_look.specs.Slots.{IsSlots, IsRising, slot_place};
 
-use crate::NoMemory;
 use crate::place::Place;
-use std::alloc::Global;
+use dl_memory::{Memory, NoMemory};
 
 /// A place that was given, and its number among these. Slots are ordered by place, then by number.
 #[derive(Clone, Copy, PartialEq, Eq, PartialOrd, Ord)]
@@ -15,12 +15,11 @@ pub struct Slot {
 }
 
 /// A slot for each place, in order.
-pub fn sorted(alloc: Global, places: &[Place]) -> Result<Vec<Slot>, NoMemory>
-    ensures { IfOk result (λ slots. IsSlots places.now slots.items) }
+pub fn sorted<M: Memory>(memory: &M, places: &[Place]) -> Result<Vec<Slot>, NoMemory>
+    ensures slots { IfOk result (λ slots. IsSlots places.now slots.items) }
+    ensures refused { OnErr result (IsRefused (M.refuses memory.now) (length places.now)) }
 {
-    let Ok(mut slots) = Vec::with_capacity(alloc, places.len()) else {
-        return Err(NoMemory);
-    };
+    let mut slots = memory.with_capacity(places.len())?;
     for (number, place) in places.iter().enumerate() {
         slots.push_reserved(Slot {
             place: *place,

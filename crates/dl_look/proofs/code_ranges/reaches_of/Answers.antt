@@ -4,7 +4,7 @@ use Rattle.dl_look.proofs.RangeLemmas.{one_more}
 use Rattle.dl_look.proofs.code_ranges.reaches_of.Goals as goal
 
 pub loop-range-preserved : goal.loop-range-preserved
-loop-range-preserved c =
+loop-range-preserved g c =
     let l = c.loop-range in
     let ranges = c.args.ranges.now in
     let end = c.max-end.ensures ∙ ap₂ (λ a b. max (a + b) l.end) c.from.ensures c.from-in-loop-range.ensures in

@@ -8,7 +8,7 @@ use Rattle.dl_look.proofs.cuts.first_sequences.Goals as goal
 use Rattle.dl_look.proofs.cuts.first_sequences.Goals.{then-span, else-span}
 
 pub loop-i-preserved : goal.loop-i-preserved
-loop-i-preserved c =
+loop-i-preserved g c =
     let l = c.loop-i in
     let i = l.invariant in
     let slots = c.args.slots.now in

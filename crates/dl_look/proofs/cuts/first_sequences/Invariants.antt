@@ -5,7 +5,7 @@ use Rattle.dl_look.specs.Slots.{slot_place}
 use Rattle.dl_look.proofs.cuts.first_sequences.Given as goal
 
 abbrev pub invariant-loop-i : goal.invariant-loop-i
-invariant-loop-i l =
+invariant-loop-i g l =
     record {
       linked : IsLinked l.links;
       links : length l.links.next.items ≡ length l.sequences.items + 1;

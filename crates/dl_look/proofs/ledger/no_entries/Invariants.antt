@@ -2,7 +2,7 @@ use Rattle.std.proofs.Common.{◌-◌, ◌≡◌, ◌≤◌, replicate, vec_len,
 use Rattle.dl_look.proofs.ledger.no_entries.Given as goal
 
 abbrev pub invariant-loop-entries : goal.invariant-loop-entries
-invariant-loop-entries l =
+invariant-loop-entries g l =
     record {
       all : l.entries.items ≡ replicate (vec_len l.entries) None;
       within : vec_len l.entries ≤ l.count;
@@ -10,4 +10,4 @@ invariant-loop-entries l =
     }
 
 abbrev pub decreases-loop-entries : goal.decreases-loop-entries
-decreases-loop-entries l = l.count - vec_len l.entries
+decreases-loop-entries g l = l.count - vec_len l.entries

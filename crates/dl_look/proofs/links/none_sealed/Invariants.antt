@@ -2,7 +2,7 @@ use Rattle.std.proofs.Common.{◌≡◌, ◌≤◌, ◌-◌, replicate, vec_len,
 use Rattle.dl_look.proofs.links.none_sealed.Given as goal
 
 abbrev pub invariant-loop-sealed : goal.invariant-loop-sealed
-invariant-loop-sealed l =
+invariant-loop-sealed g l =
     record {
       all : l.sealed.items ≡ replicate (vec_len l.sealed) false;
       within : vec_len l.sealed ≤ l.count;
@@ -10,4 +10,4 @@ invariant-loop-sealed l =
     }
 
 abbrev pub decreases-loop-sealed : goal.decreases-loop-sealed
-decreases-loop-sealed l = l.count - vec_len l.sealed
+decreases-loop-sealed g l = l.count - vec_len l.sealed

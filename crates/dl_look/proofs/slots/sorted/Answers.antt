@@ -4,8 +4,8 @@ use Rattle.dl_look.specs.Slots.{no_slot}
 use Rattle.std.proofs.lemmas.Bool.Decides.{nat_tests}
 use Rattle.dl_look.proofs.slots.sorted.Goals as goal
 
-pub returns : goal.returns
-returns c =
+pub returns-clause-slots : goal.returns-clause-slots
+returns-clause-slots g c =
     let i = c.loop-number.invariant in
     let n = c.loop-number.auto.number-end in
     let t = c.loop-number-test.false in

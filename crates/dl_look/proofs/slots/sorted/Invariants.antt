@@ -3,7 +3,7 @@ use Rattle.dl_look.specs.Slots.{no_place, slot_place, slot_number}
 use Rattle.dl_look.proofs.slots.sorted.Given as goal
 
 abbrev pub invariant-loop-number : goal.invariant-loop-number
-invariant-loop-number l =
+invariant-loop-number g l =
     record {
       count : length l.slots.items ≡ l.number;
       capacity : length l.places ≤ vec_capacity l.slots;

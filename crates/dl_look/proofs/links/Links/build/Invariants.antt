@@ -2,7 +2,7 @@ use Rattle.std.proofs.Common.{◌≡◌, ℕ, ◌<◌, ◌≤◌, length, get_or
 use Rattle.dl_look.proofs.links.Links.build.Given as goal
 
 abbrev pub invariant-loop-slot : goal.invariant-loop-slot
-invariant-loop-slot l =
+invariant-loop-slot g l =
     record {
       count : length l.next.items ≡ l.slot;
       capacity : l.count ≤ vec_capacity l.next;

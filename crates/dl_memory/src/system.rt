@@ -1,0 +1,48 @@
+//! The memory of the system.
+
+use crate::memory::{Memory, NoMemory};
+use std::alloc::Global;
+
+/// The memory of the system, which may refuse any growth.
+#[derive(Clone, Copy)]
+pub struct System {
+    alloc: Global,
+}
+
+impl System {
+    /// What an allocator gives.
+    pub fn new(alloc: Global) -> System {
+        System { alloc }
+    }
+}
+
+impl Memory for System {
+    ghost use Rattle.std.specs.Prelude.{ℕ};
+
+    ghost refuses = { λ _ count. Unit {0} };
+
+    fn alloc(&self) -> Global {
+        self.alloc
+    }
+
+    fn with_capacity<T>(&self, count: usize) -> Result<Vec<T>, NoMemory> {
+        match Vec::with_capacity(self.alloc, count) {
+            Ok(list) => Ok(list),
+            Err(_) => Err(NoMemory),
+        }
+    }
+
+    fn push<T: Drop>(&self, list: &mut Vec<T>, item: T) -> Result<(), NoMemory> {
+        match list.push(item) {
+            Ok(()) => Ok(()),
+            Err(_) => Err(NoMemory),
+        }
+    }
+
+    fn extend_from_slice<T: Copy>(&self, list: &mut Vec<T>, more: &[T]) -> Result<(), NoMemory> {
+        match list.extend_from_slice(more) {
+            Ok(()) => Ok(()),
+            Err(_) => Err(NoMemory),
+        }
+    }
+}
