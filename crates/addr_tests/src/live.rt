@@ -2,6 +2,7 @@
 use crate::sections::{DEAD, PATHS, assert_addr, at, plain};
 use dl_addr::{Found, Question};
 use dl_look::{AddressRange, CodeRanges};
+use dl_memory::System;
 use std::alloc::Global;
 use std::process::Abort;
 use std::test::Fail;
@@ -13,7 +14,9 @@ fn assert_within(
     range: AddressRange,
     wanted: (&str, Found),
 ) -> Result<(), Fail> {
-    let code = CodeRanges::build(alloc, &[range]).ok().ok_or("memory")?;
+    let code = CodeRanges::build(&System::new(alloc), &[range])
+        .ok()
+        .ok_or("memory")?;
     let asked = [at(0x45), at(0x50), at(0x1010)];
     let question = Question {
         code: Some(&code),

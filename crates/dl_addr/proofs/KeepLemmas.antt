@@ -3,7 +3,7 @@ use Rattle.std.proofs.Common.{◌≡◌, ◌<◌, ℕ, List, length, slice_index
 use Rattle.std.specs.Prelude.{⊤, OnOk, OnErr}
 use Rattle.std.proofs.lemmas.Option.{slice_get_within}
 use Rattle.dl_rows.specs.declared.row.Row.{Row}
-use Rattle.dl_look.specs.declared.index.NoMemory.{NoMemory}
+use Rattle.dl_memory.specs.declared.memory.NoMemory.{NoMemory}
 use Rattle.dl_look.specs.declared.ledger.Answered.{Answered}
 use Rattle.dl_look.specs.declared.place.Place.{Place}
 use Rattle.dl_look.specs.Ledgers.{no_answer}

@@ -13,7 +13,7 @@ use Rattle.dl_look.specs.Answer.{answer}
 use Rattle.dl_look.specs.FindersRows.{Stand}
 use Rattle.dl_look.specs.LiveRows.{live_rows, Tells}
 use Rattle.dl_look.specs.Units.{FirstAnswer, answer_of_units}
-use Rattle.dl_look.specs.declared.index.NoMemory.{NoMemory}
+use Rattle.dl_memory.specs.declared.memory.NoMemory.{NoMemory}
 use Rattle.dl_print.specs.ValueText.{strings_of}
 use Rattle.dl_run.specs.declared.fault.RunFault.TheVariants as fault
 use Rattle.dl_run.specs.Copying.{offset_after}

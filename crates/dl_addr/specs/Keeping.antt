@@ -2,7 +2,7 @@
 use Rattle.std.specs.Prelude.{⊤, ◌≡◌, ℕ, List, length, slice_get, Option, OnOk, OnErr, Result}
 use Rattle.dl_field.specs.HeaderData.{HeaderData}
 use Rattle.dl_rows.specs.declared.row.Row.{Row}
-use Rattle.dl_look.specs.declared.index.NoMemory.{NoMemory}
+use Rattle.dl_memory.specs.declared.memory.NoMemory.{NoMemory}
 use Rattle.dl_look.specs.declared.place.Place.{Place}
 use Rattle.dl_look.specs.FindersRows.{Stand}
 use Rattle.dl_look.specs.Units.{FirstAnswer}

@@ -20,7 +20,8 @@ ghost use Rattle.dl_addr.specs.Printing.{PrintsAll, answer_for, told, told_aroun
 use crate::locating::{Answer, Locator};
 use crate::printing::print_line;
 use crate::question::{Found, FoundAround, Question};
-use dl_look::{Asked, NoMemory, Place};
+use dl_look::{Asked, Place};
+use dl_memory::NoMemory;
 use dl_print::{Printer, StringSections, Summary, WriteFault};
 use dl_run::{Options, RunFault, SECTION_LIMIT, Survey, read_units, read_units_around};
 use std::alloc::Global;

@@ -14,8 +14,9 @@ use crate::faults::tell_run;
 use crate::room::put;
 use dl_calls::{FaultRecord, Status, dialect_of, goes_on};
 use dl_dirs::CompilationDirectories;
-use dl_look::{AddressRange, CodeRanges, NoMemory};
+use dl_look::{AddressRange, CodeRanges};
 use dl_making::{Table, make_index, make_index_around};
+use dl_memory::{NoMemory, System};
 use dl_run::{DamagedUnits, Options, RunFault, SECTION_LIMIT};
 use std::alloc::Global;
 
@@ -59,7 +60,7 @@ fn ranges_of(alloc: Global, ranges: &[CodeRange]) -> Result<CodeRanges, NoMemory
     ensures { IfOk result (λ code. (a : ℕ) → has_code code a ≡ list_any (is_in a) (map address_range ranges.now)) }
 {
     let addresses = address_ranges(alloc, ranges)?;
-    CodeRanges::build(alloc, addresses.as_slice())
+    CodeRanges::build(&System::new(alloc), addresses.as_slice())
 }
 
 /// In which code sequences count: in these ranges, or everywhere where all sequences do, or no range is given.

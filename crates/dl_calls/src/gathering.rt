@@ -13,7 +13,8 @@ use crate::record::{FaultRecord, RowRecord};
 use crate::status::Status;
 use crate::stop::{tell_damage, tell_stop};
 use dl_head::Dialect;
-use dl_look::{Answered, Finders, NoMemory, Place};
+use dl_look::{Answered, Finders, Place};
+use dl_memory::NoMemory;
 use dl_rows::{Flow, Row};
 use dl_run::{
     Damage, DamagedUnits, SectionStop, UnitSink, UnitSinkAround, WholeUnit, read_section,

@@ -3,7 +3,7 @@
 use Rattle.std.specs.Prelude.{◌≡◌, ◌≢◌, ◌⊎◌, ℕ, true, List, [], take, is_err, Option, Result, Err, IfOk, Bool, false, Some}
 use Rattle.std.specs.Global.{Vec}
 use Rattle.dl_head.specs.declared.dialect.Dialect.{Dialect}
-use Rattle.dl_look.specs.declared.index.NoMemory.{NoMemory}
+use Rattle.dl_memory.specs.declared.memory.NoMemory.{NoMemory}
 use Rattle.dl_print.specs.ValueText.{Strings}
 use Rattle.dl_print.specs.declared.summary.Summary.{Summary}
 use Rattle.dl_run.specs.declared.around.Survey.{Survey}

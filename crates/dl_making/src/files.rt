@@ -9,7 +9,7 @@ ghost use Rattle.dl_pack.specs.Shown.{named_files, texts_of};
 ghost use Rattle.dl_making.specs.UnitFile.{file_in};
 
 use dl_head::Header;
-use dl_look::NoMemory;
+use dl_memory::NoMemory;
 use dl_pack::Names;
 use dl_path::{Path, is_whole_path, path_of, slash_after};
 use dl_print::StringSections;

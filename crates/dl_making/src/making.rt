@@ -11,7 +11,8 @@ ghost use Rattle.dl_making.specs.Making.{Making, WasTold, told_after};
 
 use crate::maker::Maker;
 use dl_dirs::CompilationDirectories;
-use dl_look::{CodeRanges, NoMemory};
+use dl_look::CodeRanges;
+use dl_memory::NoMemory;
 use dl_pack::{PackFault, index_bytes};
 use dl_print::{StringSections, Summary};
 use dl_run::{Options, RunFault, SECTION_LIMIT, Survey, read_units, read_units_around};

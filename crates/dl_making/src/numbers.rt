@@ -13,7 +13,7 @@ ghost use Rattle.dl_making.specs.UnitFile.{file_in};
 
 use crate::files::{UnitFiles, file_number};
 use dl_head::Header;
-use dl_look::NoMemory;
+use dl_memory::NoMemory;
 use dl_pack::Names;
 use dl_stretch::Run;
 use std::alloc::Global;

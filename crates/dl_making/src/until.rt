@@ -13,7 +13,7 @@ ghost use Rattle.dl_making.specs.Until.{MakesUntil, MakesUntilAround, is_refused
 
 use crate::maker::Maker;
 use crate::making::{Table, told_index};
-use dl_look::NoMemory;
+use dl_memory::NoMemory;
 use dl_print::{StringSections, Summary};
 use dl_run::{Options, RunFault, SECTION_LIMIT, Survey, read_units, read_units_around};
 use std::alloc::Global;

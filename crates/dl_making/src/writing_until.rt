@@ -8,7 +8,7 @@ ghost use Rattle.dl_making.specs.WritesUntil.{WritesMade, WritesUntil, WritesUnt
 use crate::making::Table;
 use crate::until::{make_index_until, make_index_until_around};
 use crate::writing::put_bytes;
-use dl_look::NoMemory;
+use dl_memory::NoMemory;
 use dl_print::Summary;
 use dl_run::{Options, RunFault, SECTION_LIMIT, Survey};
 use std::alloc::Global;

@@ -13,6 +13,7 @@ use crate::fault::FileFault;
 use dl_elf::ReadAt;
 use dl_file::{Code, CodeFault, ExecutableRange, find_code};
 use dl_look::{AddressRange, CodeRanges};
+use dl_memory::System;
 use std::alloc::Global;
 
 /// The ranges as the look-up takes them.
@@ -39,7 +40,7 @@ fn ranges_of(alloc: Global, ranges: &[ExecutableRange]) -> Result<CodeRanges, Fi
     ensures memory { IfErr result (λ fault. fault ≡ NoMemory) }
 {
     let addresses = address_ranges(alloc, ranges)?;
-    match CodeRanges::build(alloc, addresses.as_slice()) {
+    match CodeRanges::build(&System::new(alloc), addresses.as_slice()) {
         Ok(code) => Ok(code),
         Err(_) => Err(FileFault::NoMemory),
     }

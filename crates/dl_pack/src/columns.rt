@@ -15,7 +15,7 @@ ghost use Rattle.dl_pack.specs.Fits.{NumbersFit};
 
 use crate::mentions::Mentions;
 use dl_index::Width;
-use dl_look::NoMemory;
+use dl_memory::NoMemory;
 use dl_stretch::{Stretch, Told};
 
 /// A column of an index.

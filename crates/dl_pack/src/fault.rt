@@ -1,6 +1,6 @@
 //! Why an index isn't made.
 
-use dl_look::NoMemory;
+use dl_memory::NoMemory;
 use thiserror::Error;
 
 /// Why an index isn't made of stretches. Its Display is one line without a newline.

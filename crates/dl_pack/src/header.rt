@@ -8,7 +8,7 @@ ghost use Rattle.dl_pack.specs.Fits.{SumsFit};
 
 use crate::columns::{put_number, put_slice, put_zeros};
 use dl_crc::crc_32;
-use dl_look::NoMemory;
+use dl_memory::NoMemory;
 use std::alloc::Global;
 
 /// What the header says before its own sum.

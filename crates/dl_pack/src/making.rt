@@ -22,7 +22,7 @@ use crate::header::{Described, fill_header};
 use crate::mentions::Mentions;
 use crate::names::{FileTexts, Names};
 use crate::tables::{put_files, put_text_table, put_texts};
-use dl_look::NoMemory;
+use dl_memory::NoMemory;
 use dl_stretch::Stretch;
 use std::alloc::Global;
 

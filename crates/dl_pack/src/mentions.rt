@@ -4,7 +4,7 @@ ghost use Rattle.std.specs.Prelude.{◌≡◌, ℕ, ◌<◌, ◌^◌, length, sl
 ghost use Rattle.std.specs.List.{All};
 ghost use Rattle.dl_pack.specs.Numbering.{number_in};
 
-use dl_look::NoMemory;
+use dl_memory::NoMemory;
 use std::alloc::Global;
 
 /// Items by their numbers, which are given from 1 in the order in which items are first mentioned.

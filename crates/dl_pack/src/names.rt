@@ -5,7 +5,7 @@ ghost use Rattle.std.specs.List.{All};
 ghost use Rattle.dl_pack.specs.Named.{Once, named, parts_of, text_of, with_text};
 ghost use Rattle.dl_pack.specs.Within.{HasTexts, Packed, texts_in};
 
-use dl_look::NoMemory;
+use dl_memory::NoMemory;
 use indexmap::IndexSet;
 use std::alloc::Global;
 

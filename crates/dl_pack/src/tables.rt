@@ -11,7 +11,7 @@ ghost use Rattle.dl_pack.specs.Mentioned.{order_of};
 use crate::columns::{pad, put_number};
 use crate::mentions::Mentions;
 use crate::names::{FileTexts, Names};
-use dl_look::NoMemory;
+use dl_memory::NoMemory;
 
 /// The number of a text, counted from 1, in the order of first mention; 0 stays.
 fn text_number(texts: &Mentions, text: u32) -> u32

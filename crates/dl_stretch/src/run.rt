@@ -7,7 +7,8 @@ ghost use Rattle.dl_stretch.specs.Runs.{first_address};
 ghost use Rattle.dl_stretch.specs.RowRuns.{AreRunsOf};
 
 use crate::told::Told;
-use dl_look::{NoMemory, Place};
+use dl_look::Place;
+use dl_memory::NoMemory;
 use dl_rows::Row;
 
 /// Addresses of a sequence that tell the same, from `start` on, up to the start of the next run or to the

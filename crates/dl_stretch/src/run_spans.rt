@@ -10,7 +10,8 @@ ghost use Rattle.dl_stretch.specs.Spans.{AreSound};
 use crate::run::Run;
 use crate::stretch::Stretch;
 use crate::stretching::stretches_of;
-use dl_look::{NoMemory, Place, Span};
+use dl_look::{Place, Span};
+use dl_memory::NoMemory;
 use std::alloc::Global;
 
 /// Spans of sequences, with the runs of each.

@@ -6,7 +6,8 @@ use crate::run::Run;
 use crate::run_spans::RunSpans;
 use crate::stretch::Stretch;
 use crate::unit_runs::UnitRuns;
-use dl_look::{LiveRows, NoMemory};
+use dl_look::LiveRows;
+use dl_memory::NoMemory;
 use dl_rows::Row;
 use std::alloc::Global;
 

@@ -5,7 +5,8 @@ ghost use Rattle.dl_look.specs.Answer.{is_at_most};
 ghost use Rattle.dl_stretch.specs.Sequences.{AreKept};
 
 use crate::run::{Run, push_row};
-use dl_look::{NoMemory, Place};
+use dl_look::Place;
+use dl_memory::NoMemory;
 use dl_rows::Row;
 use std::alloc::Global;
 

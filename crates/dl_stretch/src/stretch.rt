@@ -6,7 +6,7 @@ ghost use Rattle.std.specs.Option.{option_eq};
 ghost use Rattle.dl_stretch.specs.Made.{AreMade, is_same, last_told};
 
 use crate::told::Told;
-use dl_look::NoMemory;
+use dl_memory::NoMemory;
 
 /// Addresses from `start` on, up to the start of the next stretch or to the last address of all.
 #[derive(Debug, Clone, Copy, PartialEq, Eq)]

@@ -13,7 +13,8 @@ ghost use Rattle.dl_stretch.specs.Stretches.{AreStretches};
 use crate::reach::{Reach, reach_of};
 use crate::run::Run;
 use crate::stretch::{Stretch, push};
-use dl_look::{NoMemory, Span, cuts_of};
+use dl_look::{Span, cuts_of};
+use dl_memory::{NoMemory, System};
 use std::alloc::Global;
 
 /// The stretches of what the spans answer, each of which has its runs among these.
@@ -22,7 +23,7 @@ pub fn stretches_of(alloc: Global, runs: &[Run], spans: &[Span]) -> Result<Vec<S
     ensures are { IfOk result (λ stretches. AreStretches (answer_of runs.now spans.now) stretches.items) }
     ensures starts { IfOk result (λ stretches. AtAddresses stretches.items) }
 {
-    let cuts = cuts_of(alloc, spans)?;
+    let cuts = cuts_of(&System::new(alloc), spans)?;
     let most = runs.len().saturating_add(cuts.len());
     let Ok(mut stretches) = Vec::with_capacity(alloc, most) else {
         return Err(NoMemory);

@@ -4,7 +4,8 @@ ghost use Rattle.std.specs.Prelude.{◌≡◌};
 
 use crate::run_spans::RunSpans;
 use crate::sequence::SequenceRuns;
-use dl_look::{NoMemory, Place};
+use dl_look::Place;
+use dl_memory::NoMemory;
 use dl_rows::Row;
 use std::alloc::Global;
 

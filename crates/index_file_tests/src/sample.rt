@@ -1,6 +1,6 @@
 //! Indices of many stretches.
 
-use dl_look::NoMemory;
+use dl_memory::NoMemory;
 use dl_pack::{Names, PackFault, index_bytes};
 use dl_stretch::{Stretch, Told};
 use std::alloc::Global;

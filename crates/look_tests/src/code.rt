@@ -1,5 +1,6 @@
 //! Ranges of addresses of code.
-use dl_look::{AddressRange, CodeRanges, NoMemory};
+use dl_look::{AddressRange, CodeRanges};
+use dl_memory::{NoMemory, System};
 use std::test::Fail;
 use test_support::{hoard_but, hoard_most};
 
@@ -29,7 +30,7 @@ const RANGES: [AddressRange; 5] = [
 
 #[test]
 fn addresses_in_ranges(rt: HostRuntime) -> Result<(), Fail> {
-    let code = CodeRanges::build(rt.alloc(), RANGES.as_slice())
+    let code = CodeRanges::build(&System::new(rt.alloc()), RANGES.as_slice())
         .ok()
         .ok_or("memory")?;
     for address in [
@@ -52,7 +53,9 @@ fn addresses_in_ranges(rt: HostRuntime) -> Result<(), Fail> {
 
 #[test]
 fn no_ranges(rt: HostRuntime) -> Result<(), Fail> {
-    let code = CodeRanges::build(rt.alloc(), &[]).ok().ok_or("memory")?;
+    let code = CodeRanges::build(&System::new(rt.alloc()), &[])
+        .ok()
+        .ok_or("memory")?;
     assert!(rt; !code.has(0));
     Ok(())
 }
@@ -64,7 +67,7 @@ fn refused_growths_of_ranges(rt: HostRuntime) -> Result<(), Fail> {
     let _most = hoard_most(rt.alloc())?;
     for step in 0..20usize {
         let blocks = hoard_but(rt.alloc(), 16 + step * 64)?;
-        let built = CodeRanges::build(rt.alloc(), RANGES.as_slice());
+        let built = CodeRanges::build(&System::new(rt.alloc()), RANGES.as_slice());
         drop(blocks);
         match built {
             Ok(code) => {

@@ -1,6 +1,7 @@
 //! Growths that are refused.
 use crate::rows::place;
-use dl_look::{Finders, Index, NoMemory};
+use dl_look::{Finders, Index};
+use dl_memory::NoMemory;
 use std::alloc::{AllocError, Global};
 use std::test::Fail;
 use test_support::{end, hoard_but, hoard_most, row};

@@ -1,6 +1,7 @@
 //! Worked rows with the answers that they must have.
 use crate::rows::{answers, place};
-use dl_look::{Index, NoMemory, Probed};
+use dl_look::{Index, Probed};
+use dl_memory::NoMemory;
 use dl_rows::Row;
 use std::test::Fail;
 use test_support::{end, row};

@@ -1,6 +1,6 @@
 //! Ten stretches with their names, and their index by Python's struct and zlib: base 0x401000, widths 2, 1, 2, 1 and 4.
 
-use dl_look::NoMemory;
+use dl_memory::NoMemory;
 use dl_pack::Names;
 use dl_stretch::{Stretch, Told};
 use std::alloc::Global;

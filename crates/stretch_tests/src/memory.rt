@@ -1,5 +1,5 @@
 //! Growths that are refused.
-use dl_look::NoMemory;
+use dl_memory::NoMemory;
 use dl_stretch::{Runs, Stretch};
 use std::alloc::Global;
 use std::test::Fail;

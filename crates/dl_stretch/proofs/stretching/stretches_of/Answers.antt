@@ -15,12 +15,12 @@ use Rattle.dl_stretch.proofs.stretching.stretches_of.Goals.{in-None+in_ok-push-i
 pub loop-i-init : goal.loop-i-init
 loop-i-init c =
     rw c.in-Ok.ensures.items (none_first c.args.runs.now c.args.spans.now c.in_ok-cuts.cuts.items
-    c.in_ok-cuts.ensures)
+    c.in_ok-cuts.ensures.cuts)
 
 pub loop-i-preserved-in_default-reach_of : goal.loop-i-preserved-in_default-reach_of
 loop-i-preserved-in_default-reach_of c =
     let same = c.as_slice.ensures.value in
-    none_between c.args.runs.now c.args.spans.now c.in_ok-cuts.cuts.items c.in_ok-cuts.ensures
+    none_between c.args.runs.now c.args.spans.now c.in_ok-cuts.cuts.items c.in_ok-cuts.ensures.cuts
     c.loop-i.stretches.items c.loop-i.i (rw same at c.in_default-reach_of.ensures) c.loop-i.invariant
 
 pub runs_of-requires-clause-within : goal.runs_of-requires-clause-within
@@ -28,7 +28,7 @@ runs_of-requires-clause-within c =
     let cuts = c.in_ok-cuts.cuts.items in
     let lt : c.loop-i.i < length cuts = omega (arith, c.in_ok-cuts.cuts.ok.0) in
     let cut = get_or_read cuts c.loop-i.i c.index.result.now lt c.index.ensures no_cut in
-    within_spans c.args.runs.now c.args.spans.now cuts c.in_ok-cuts.ensures c.loop-i.i c.in-Some-sequence.sequence lt
+    within_spans c.args.runs.now c.args.spans.now cuts c.in_ok-cuts.ensures.cuts c.loop-i.i c.in-Some-sequence.sequence lt
     (ap (λ (c : Cut). c.sequence) (sym cut) ∙ c.in-Some-sequence.is)
 
 pub push_runs-requires-clause-rise : goal.push_runs-requires-clause-rise
@@ -38,7 +38,7 @@ push_runs-requires-clause-rise c =
     let cut = get_or_read cuts c.loop-i.i c.index.result.now lt c.index.ensures no_cut in
     rw c.runs_of.ensures (rise_from (runs_in c.args.runs.now (get_or c.args.spans.now c.in-Some-sequence.sequence no_span))
     (c.requires.rise c.in-Some-sequence.sequence no_span
-    (within_spans c.args.runs.now c.args.spans.now cuts c.in_ok-cuts.ensures c.loop-i.i c.in-Some-sequence.sequence lt
+    (within_spans c.args.runs.now c.args.spans.now cuts c.in_ok-cuts.ensures.cuts c.loop-i.i c.in-Some-sequence.sequence lt
     (ap (λ (c : Cut). c.sequence) (sym cut) ∙ c.in-Some-sequence.is))))
 
 pub loop-i-preserved : goal.loop-i-preserved
@@ -61,13 +61,13 @@ loop-i-preserved c =
           let is = ap (λ (c : Cut). c.sequence) (sym cut) ∙ w.in-Some-sequence.is in
           rw w.stretches-is (made_same f w.push_runs.new.stretches.items (c.in-Some.reach.last + 1)
           (cut_start cuts (i + 1)) (w.in_ok-push_runs-in-Some-sequence.ensures f made (λ a le under.
-          told_between runs spans cuts c.in_ok-cuts.ensures i w.in-Some-sequence.sequence a lt is
+          told_between runs spans cuts c.in_ok-cuts.ensures.cuts i w.in-Some-sequence.sequence a lt is
           (omega (arith, from, le)) (omega (arith, to, under)) ∙ ap (λ l. run_told_at l a) (sym w.runs_of.ensures))) to))
       | in-None+in_ok-push-in-None w ↦ (
           let is = ap (λ (c : Cut). c.sequence) (sym cut) ∙ w.in-None.is in
           rw w.stretches-is (w.in_ok-push-in-None.ensures f (cut_start cuts (i + 1)) made
           (let some = reach.2 in omega (arith, some, to)) (λ a le under.
-          gap_between runs spans cuts c.in_ok-cuts.ensures i a lt is (omega (arith, from, le)) under)))
+          gap_between runs spans cuts c.in_ok-cuts.ensures.cuts i a lt is (omega (arith, from, le)) under)))
     ]
 
 pub returns-clause-are : goal.returns-clause-are
@@ -75,12 +75,12 @@ returns-clause-are c =
     all_made (answer_of c.args.runs.now c.args.spans.now) c.loop-i.stretches.items
     (made_same (answer_of c.args.runs.now c.args.spans.now) c.loop-i.stretches.items
     (cut_start c.in_ok-cuts.cuts.items c.loop-i.i) (2 ^ 64) c.loop-i.invariant
-    (start_past c.args.runs.now c.args.spans.now c.in_ok-cuts.cuts.items c.in_ok-cuts.ensures c.loop-i.i
+    (start_past c.args.runs.now c.args.spans.now c.in_ok-cuts.cuts.items c.in_ok-cuts.ensures.cuts c.loop-i.i
     (omega (arith, c.in_ok-cuts.cuts.ok.0))))
 
 pub returns-clause-starts : goal.returns-clause-starts
 returns-clause-starts c =
     (made_same (answer_of c.args.runs.now c.args.spans.now) c.loop-i.stretches.items
     (cut_start c.in_ok-cuts.cuts.items c.loop-i.i) (2 ^ 64) c.loop-i.invariant
-    (start_past c.args.runs.now c.args.spans.now c.in_ok-cuts.cuts.items c.in_ok-cuts.ensures c.loop-i.i
+    (start_past c.args.runs.now c.args.spans.now c.in_ok-cuts.cuts.items c.in_ok-cuts.ensures.cuts c.loop-i.i
     (omega (arith, c.in_ok-cuts.cuts.ok.0)))).below
