@@ -1,6 +1,6 @@
 -- Finders that are given one more row.
 use Rattle.std.proofs.Common.{◌≡◌, ℕ, ◌<◌, ◌≤◌, Bool, true, false, ◌&&◌, List, [], ◌∷◌, ◌++◌, length, Option, Some}
-use Rattle.std.proofs.Common.{None, arith, refl, sym, ap, ap₂, subst, ◌∙◌, ⊎_elim}
+use Rattle.std.proofs.Common.{None, inl, inr, arith, refl, sym, ap, ap₂, subst, ◌∙◌, ⊎_elim}
 use Rattle.std.specs.Prelude.{if◌then◌else◌, is_none, nat_le, nat_lt}
 use Rattle.std.specs.Option.{option_or}
 use Rattle.std.proofs.lemmas.Bool.{cases_lt, le-leb, lt-leb, le-ltb, lt-ltb}
@@ -13,7 +13,7 @@ use Rattle.dl_look.specs.declared.finders.State.{State}
 use Rattle.dl_look.specs.Answer.{place_of, is_below, is_at_most, is_rising, first_place, last_place, covers, last_upto}
 use Rattle.dl_look.specs.Answer.{answer}
 use Rattle.dl_look.specs.FinderRows.{unended}
-use Rattle.dl_look.specs.FindersRows.{row_so_far, IsTrail, Keeps}
+use Rattle.dl_look.specs.FindersRows.{AnswerNone, row_so_far, IsTrail, Keeps}
 use Rattle.dl_look.specs.Slots.{slot_place}
 use Rattle.dl_look.specs.Trails.{row_at}
 use Rattle.dl_look.specs.Units.{answer_of_units}
@@ -191,6 +191,17 @@ module _ (slots seen : List Slot) (same : seen ≡ slots) (rows : List Row) (r l
       (subst (λ q. IsTrail slots trail q end (r ∷ [])) (sym is)
       (subst (λ l. IsTrail slots l r end (r ∷ [])) (sym empty) first))
 
+  pub keeps_above : (end : ℕ) → unended rows ≡ [] → end ≡ length seen
+      → ((j : ℕ) → j < end → is_below (slot_place seen j) place ≡ true) → AnswerNone slots (unended (rows ++ r ∷ []))
+  keeps_above end none all below =
+      subst (AnswerNone slots) (sym (unended-push [] rows r more ∙ ap (λ l. l ++ r ∷ []) none))
+      (inr (
+        omega arith,
+        λ j lt. above-below (slot_place slots j) (place_of r)
+            (ap₂ (λ (l : List Slot) (q : Place). is_below (slot_place l j) q) (sym same) (sym at)
+            ∙ below j (subst (λ n. j < n) (sym all) (subst (λ l. j < length l) (sym same) lt))),
+      ))
+
   pub keeps_on : (trail new : List Stretch) (before : Row) (end end' : ℕ)
       → IsTrail slots trail before end (unended rows) → is_at_most (place_of before) place ≡ true
       → ((j : ℕ) → j < length seen → is_below (slot_place seen j) place ≡ nat_lt j end')
@@ -210,9 +221,17 @@ keeps_fallen slots trail last end rows r place more at a h =
     ap is_rising (unended-push [] rows r more)
     ∙ falls slots trail last end (unended rows) a r (ap (is_at_most (place_of last)) (sym at) ∙ h)
 
-pub keeps_passed : (rows : List Row) (r : Row) → r.end_sequence ≡ false → is_rising (unended rows) ≡ false
-    → is_rising (unended (rows ++ r ∷ [])) ≡ false
-keeps_passed rows r more h = ap is_rising (unended-push [] rows r more) ∙ stays (unended rows) r h
+none_more : (slots : List Slot) (s : List Row) (r : Row) → AnswerNone slots s → AnswerNone slots (s ++ r ∷ [])
+none_more slots s r (inl h) = inl (stays s r h)
+none_more slots s r (inr (some, above)) = inr (
+  omega (arith, length_push s r),
+  λ j lt. ap (λ p. is_at_most p (slot_place slots j)) (first_place-more s r some) ∙ above j lt,
+)
+
+pub keeps_passed : (slots : List Slot) (rows : List Row) (r : Row) → r.end_sequence ≡ false
+    → AnswerNone slots (unended rows) → AnswerNone slots (unended (rows ++ r ∷ []))
+keeps_passed slots rows r more h =
+    subst (AnswerNone slots) (sym (unended-push [] rows r more)) (none_more slots (unended rows) r h)
 
 -- the answer of a place, after that of the units before
 pub same_answer : (units : List (List Row)) (rows : List Row) (r : Row) (x : Place) → r.end_sequence ≡ false
@@ -249,3 +268,13 @@ not_alone s r x none = ap (λ l. answers_for x (l ++ r ∷ [])) none ∙ not_bet
 pub not_fallen : (s : List Row) (r : Row) (x : Place) → is_rising (s ++ r ∷ []) ≡ false
     → answers_for x (s ++ r ∷ []) ≡ false
 not_fallen s r x h = ap (λ b. b && covers x (s ++ r ∷ [])) h
+
+-- nor does one that answers for no slot
+pub none_at_end : (slots : List Slot) (s : List Row) (r : Row) (j : ℕ) → j < length slots → AnswerNone slots s
+    → answers_for (slot_place slots j) (s ++ r ∷ []) ≡ false
+none_at_end slots s r j lt (inl h) = not_fallen s r (slot_place slots j) (stays s r h)
+none_at_end slots s r j lt (inr (some, above)) =
+    let x = slot_place slots j in
+    ap (λ b. is_rising (s ++ r ∷ []) && (b && is_below x (last_place (s ++ r ∷ []))))
+    (ap (λ p. is_at_most p x) (first_place-more s r some) ∙ above j lt)
+    ∙ and-false (is_rising (s ++ r ∷ []))

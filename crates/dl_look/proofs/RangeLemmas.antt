@@ -5,11 +5,11 @@ use Rattle.std.proofs.Common.{subst}
 use Rattle.std.specs.List.{list_any}
 use Rattle.std.proofs.lemmas.Bool.{cases_lt}
 use Rattle.std.proofs.lemmas.Bool.Decides.{nat_tests}
-use Rattle.std.proofs.lemmas.List.{take_all, take_more, length_push, get_or_push, get_or_append_left, get_or_default}
+use Rattle.std.proofs.lemmas.List.{take_more, length_push, get_or_push, get_or_append_left, get_or_default}
 use Rattle.std.proofs.lemmas.List.Folds.{list_any-append, list_any-from_Any, list_any_none}
 use Rattle.dl_look.specs.declared.code_ranges.AddressRange.{AddressRange}
 use Rattle.dl_look.specs.declared.code_ranges.Reach.{Reach}
-use Rattle.dl_look.specs.Ranges.{AreReaches, AreRising, StartsRise, is_in, is_reached, no_range, no_reach, reach_end}
+use Rattle.dl_look.specs.Ranges.{AreRising, StartsRise, is_in, is_reached, no_range, no_reach, reach_end}
 use Rattle.dl_look.specs.Ranges.{reach_start, start_in}
 
 starts_far : (ranges : List AddressRange)

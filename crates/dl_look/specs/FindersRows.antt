@@ -1,5 +1,5 @@
 -- What finders keep of the places and of the rows that they were given. No promise rests on how this is said.
-use Rattle.std.specs.Prelude.{◌≡◌, ℕ, ◌<◌, true, false, if◌then◌else◌, nat_lt, List, [], ◌∷◌, ◌++◌, length, Option}
+use Rattle.std.specs.Prelude.{◌≡◌, ◌⊎◌, ℕ, ◌<◌, true, false, if◌then◌else◌, nat_lt, List, [], ◌∷◌, ◌++◌, length, Option}
 use Rattle.std.specs.Prelude.{Some, None}
 use Rattle.std.specs.Option.{option_or}
 use Rattle.dl_rows.specs.declared.row.Row.{Row}
@@ -31,10 +31,15 @@ pub record IsTrail (slots : List Slot) (trail : List Stretch) (last : Row) (end 
   pub split : (j : ℕ) → j < length slots → is_below (slot_place slots j) (place_of last) ≡ nat_lt j end
   pub rows : (j : ℕ) → j < length slots → row_at trail end j ≡ row_so_far (slot_place slots j) s
 
+-- the rows since the last end row answer for no slot, whatever follows: they don't rise, or the first is above all
+abbrev pub AnswerNone : List Slot → List Row → Type 0
+AnswerNone slots s = (is_rising s ≡ false)
+    ⊎ ((0 < length s) × ((j : ℕ) → j < length slots → is_at_most (first_place s) (slot_place slots j) ≡ false))
+
 -- what is kept of the rows since the last end row
 abbrev pub Keeps : List Slot → List Stretch → State → List Row → Type 0
 Keeps slots trail Start s = s ≡ []
-Keeps slots trail Passed s = is_rising s ≡ false
+Keeps slots trail Passed s = AnswerNone slots s
 Keeps slots trail (Open last end) s = IsTrail slots trail last end s
 
 -- the finders look for the places, and were given these units, which ended, and rows of the current unit

@@ -57,7 +57,7 @@ pub struct Finders {
 enum State {
     /// The next row is the first of a sequence.
     Start,
-    /// The current sequence isn't rising.
+    /// The current sequence answers none: it isn't rising, or its first row is above all places.
     Passed,
     /// The current sequence is rising.
     Open {
@@ -126,10 +126,14 @@ impl Finders {
             State::Start => {
                 let end = first_not_below(self.slots.as_slice(), place);
                 self.trail.clear();
-                self.state = State::Open {
-                    last: kept(row),
-                    end,
-                };
+                if end == self.slots.len() {
+                    self.state = State::Passed;
+                } else {
+                    self.state = State::Open {
+                        last: kept(row),
+                        end,
+                    };
+                }
             }
             State::Open { last, end } if Place::of(last).is_at_most(place) => {
                 *end = pass(&mut self.trail, self.slots.as_slice(), last, *end, place);

@@ -1,8 +1,8 @@
-use Rattle.std.proofs.Common.{◌+◌, ◌-◌, ◌<◌, [], ◌∷◌, ◌++◌, length, take, get_or, arith, ap, ◌∙◌}
+use Rattle.std.proofs.Common.{◌+◌, ◌<◌, length, take, get_or, arith, ap}
 use Rattle.std.proofs.lemmas.List.{take_more, length-take-le}
 use Rattle.dl_look.specs.FinderRows.{unended}
 use Rattle.dl_look.proofs.LastUpto.{no_row}
-use Rattle.dl_look.proofs.SpansSoFar.{span_with, goes_on, ends}
+use Rattle.dl_look.proofs.SpansSoFar.{goes_on, ends}
 use Rattle.dl_memory.proofs.RefusalLemmas.{wants_list}
 use Rattle.dl_look.proofs.SpanLemmas.{few_spans}
 use Rattle.dl_look.proofs.index.spans_of.Goals as goal

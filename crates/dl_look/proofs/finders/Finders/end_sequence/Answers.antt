@@ -7,8 +7,8 @@ use Rattle.dl_look.specs.Ledgers.{answer_upto}
 use Rattle.dl_look.specs.Slots.{slot_number, slot_place}
 use Rattle.dl_look.specs.Trails.{row_at}
 use Rattle.dl_look.proofs.MoreRows.{unended-push_end}
-use Rattle.dl_look.proofs.FindersLemmas.{kept_in, rows_more, rising_more, falls, stays, split_seen, no_answer_at_end}
-use Rattle.dl_look.proofs.FindersLemmas.{answers_at_end, not_alone, not_fallen}
+use Rattle.dl_look.proofs.FindersLemmas.{kept_in, rows_more, rising_more, falls, split_seen, no_answer_at_end}
+use Rattle.dl_look.proofs.FindersLemmas.{answers_at_end, none_at_end, not_alone, not_fallen}
 use Rattle.dl_look.proofs.finders.Finders.end_sequence.Goals as goal
 
 pub returns-then-is_at_most : goal.returns-then-is_at_most
@@ -84,7 +84,7 @@ returns-in-Passed c places units rows st =
       answers =
           λ j lt. st.answers j lt
           ∙ no_answer_at_end units rows r (slot_place slots j) c.requires
-          (not_fallen (unended rows) r (slot_place slots j) (stays (unended rows) r passed));
+          (none_at_end slots (unended rows) r j lt passed);
       ended = st.ended;
       earlier = st.earlier;
       kept = unended-push_end [] rows r c.requires;

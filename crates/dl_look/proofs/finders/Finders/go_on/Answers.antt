@@ -1,13 +1,30 @@
-use Rattle.std.proofs.Common.{[], ◌∷◌, ◌++◌, sym, ap, ◌∙◌}
+use Rattle.std.proofs.Common.{◌≡◌, inl, length, arith, refl, [], ◌∷◌, ◌++◌, sym, ap, ◌∙◌}
 use Rattle.dl_look.specs.FinderRows.{unended}
 use Rattle.dl_look.specs.declared.finders.State.TheVariants.{Start, Passed, Open}
 use Rattle.dl_look.specs.Answer.{is_at_most}
 use Rattle.dl_look.specs.Slots.{slot_place}
-use Rattle.dl_look.proofs.FindersLemmas.{kept_in, keeps_begun, keeps_on, keeps_fallen, keeps_passed, same_answer}
+use Rattle.dl_look.proofs.FindersLemmas.{kept_in, keeps_above, keeps_begun, keeps_on, keeps_fallen, keeps_passed, same_answer}
 use Rattle.dl_look.proofs.finders.Finders.go_on.Goals as goal
 
-pub returns-in-Start : goal.returns-in-Start
-returns-in-Start c places units rows st =
+pub returns-then-end-len : goal.returns-then-end-len
+returns-then-end-len c places units rows st =
+    let f = c.args.self.now in
+    let slots = f.slots.items in
+    let seen = c.as_slice.ensures.value in
+    let none = kept_in slots f.trail.items (unended rows) f.state Start c.in-Start.is st.kept in
+    let all : c.first_not_below-end.result ≡ length c.as_slice.result.now =
+    omega (arith, f.slots.ok.0, ap length seen, c.if-end-len.true, c.len.ensures) in
+    record {
+      slots = st.slots;
+      answers = λ j lt. st.answers j lt ∙ same_answer units rows c.args.row.now (slot_place slots j) c.requires;
+      ended = st.ended;
+      earlier = st.earlier;
+      kept = keeps_above slots c.as_slice.result.now seen rows c.args.row.now c.args.row.now refl c.requires
+          c.of-place.result c.of-place.ensures c.first_not_below-end.result none all c.first_not_below-end.ensures.below;
+    }
+
+pub returns-else-end-len : goal.returns-else-end-len
+returns-else-end-len c places units rows st =
     let f = c.args.self.now in
     let slots = f.slots.items in
     let none = kept_in slots f.trail.items (unended rows) f.state Start c.in-Start.is st.kept in
@@ -51,9 +68,9 @@ returns-in-Open-2 c places units rows st =
       answers = λ j lt. st.answers j lt ∙ same_answer units rows c.args.row.now (slot_place slots j) c.requires;
       ended = st.ended;
       earlier = st.earlier;
-      kept = keeps_fallen slots f.trail.items c.in-Open.last c.in-Open.end rows c.args.row.now c.of-place.result
+      kept = inl (keeps_fallen slots f.trail.items c.in-Open.last c.in-Open.end rows c.args.row.now c.of-place.result
           c.requires c.of-place.ensures a (ap (λ p. is_at_most p c.of-place.result) (sym c.of.ensures)
-          ∙ sym c.if-is_at_most.ensures);
+          ∙ sym c.if-is_at_most.ensures));
     }
 
 pub returns-in-Passed : goal.returns-in-Passed
@@ -67,5 +84,5 @@ returns-in-Passed c places units rows st =
       ended = st.ended;
       earlier = st.earlier;
       kept = kept_in slots f.trail.items (unended (rows ++ c.args.row.now ∷ [])) Passed f.state (sym c.in-Passed.is)
-          (keeps_passed rows c.args.row.now c.requires passed);
+          (keeps_passed slots rows c.args.row.now c.requires passed);
     }

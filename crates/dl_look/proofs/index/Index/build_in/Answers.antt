@@ -1,5 +1,5 @@
 use Rattle.std.proofs.Common.{◌+◌, ◌*◌, length, arith, ap, ◌∙◌}
-use Rattle.dl_memory.proofs.RefusalLemmas.{wants_fewer, wants_list}
+use Rattle.dl_memory.proofs.RefusalLemmas.{wants_fewer}
 use Rattle.dl_look.proofs.SpanLemmas.{few_spans}
 use Rattle.dl_look.proofs.index.Index.build_in.Goals as goal
 
