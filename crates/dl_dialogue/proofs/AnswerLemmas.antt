@@ -6,7 +6,6 @@ use Rattle.std.proofs.lemmas.List.{take_all, take_more}
 use Rattle.std.specs.Prelude.{◌&&◌, is_some, option_map, OnOk}
 use Rattle.std.specs.Io.KnownBytes.{Appends}
 use Rattle.std.specs.List.{list_all}
-use Rattle.std.specs.declared.io.Error.{Error}
 use Rattle.std.proofs.KnownBytes.{Appends-nil}
 use Rattle.std.proofs.lemmas.Grind.{flat_map-append}
 use Rattle.std.proofs.lemmas.List.Folds.{list_all-append}
@@ -20,13 +19,11 @@ use Rattle.dl_addr.specs.Location.{Location}
 use Rattle.dl_addr.specs.Locations.{location_line}
 use Rattle.dl_addr.specs.declared.question.Found.TheVariants.{All, NotAll}
 use Rattle.dl_dialogue.specs.Answers.{Manner, StopsBy, answer_by, found_by, lines_by}
-use Rattle.dl_dialogue.specs.Faults.{TellFails}
 use Rattle.dl_dialogue.specs.Standing.{Stands, stopped, written}
 use Rattle.dl_dialogue.specs.declared.answers.Answers.{Answers}
 use Rattle.dl_dialogue.specs.declared.fault.AnswerFault.{AnswerFault}
 use Rattle.dl_dialogue.specs.declared.fault.AnswerFault.TheVariants.{Input, Tell, Write}
 use Rattle.dl_dialogue.specs.declared.fault.TellFault.{TellFault}
-use Rattle.dl_dialogue.specs.declared.fault.TellFault.TheVariants.{NoMemory, Read}
 
 pub some_mapped : {A B : Type 0} (f : A → B) (o : Option A) → is_some o ≡ is_some (option_map f o)
 some_mapped f None = refl
@@ -57,7 +54,7 @@ module _ (m : Manner) (before : List Asked) (a : Asked) where
 
   module _ (start now later : Option (List ℕ)) (held : Printed) (s : Answers) (stands : Stands m start now before held s) where
     -- a line is printed, or a write fails
-    pub answers_one : (Fails : Error → Type 0) (told : Option Location) (is : Bool)
+    pub answers_one : (Fails : TellFault → Type 0) (told : Option Location) (is : Bool)
         (r : Result (Unit {0}) WriteFault) (p : Printed) (new : Answers) → told ≡ answer_by m a → is ≡ is_answered a (is_some told)
         → new.style ≡ s.style → new.base ≡ s.base → new.found ≡ (if is then s.found else NotAll)
         → Prints now later held p (location_line s.style a told) r
@@ -84,8 +81,8 @@ module _ (m : Manner) (before : List Asked) (a : Asked) where
           by (Err lost) out = (before ++ a ∷ [], [], sym (append-nil (before ++ a ∷ [])), out)
 
     -- nothing can be told: the lines before it are written, or a write fails
-    pub stops_before : (Fails : Error → Type 0) (fault : TellFault) (printer : Printed) (r : Result (Unit {0}) WriteFault)
-        (new : Answers) → TellFails Fails fault → Flushes now later held printer r → OnOk r (printer.pending ≡ [])
+    pub stops_before : (Fails : TellFault → Type 0) (fault : TellFault) (printer : Printed) (r : Result (Unit {0}) WriteFault)
+        (new : Answers) → Fails fault → Flushes now later held printer r → OnOk r (printer.pending ≡ [])
         → MatchResult (stopped r fault) (λ _. Stands m start later (before ++ a ∷ []) printer new)
         (StopsBy m Fails start later (before ++ a ∷ []))
     stops_before Fails fault printer r new fails flushes empty = by r (flushes start (lines_by m before) stands.printed) empty where
@@ -132,18 +129,17 @@ nothing_asked m start p s style base found pending out = record {
 }
 
 -- more is asked than what was answered
-pub stops_more : (m : Manner) (Fails : Error → Type 0) (start now : Option (List ℕ)) (asked more : List Asked)
+pub stops_more : (m : Manner) (Fails : TellFault → Type 0) (start now : Option (List ℕ)) (asked more : List Asked)
     (fault : AnswerFault) → StopsBy m Fails start now asked fault → StopsBy m Fails start now (asked ++ more) fault
 stops_more m Fails start now asked more fault (answered, others, is, stops) =
     (answered, others ++ more, ap (λ l. l ++ more) is ∙ append_assoc answered others more, stops)
 
 -- what doesn't fail at all
-pub stops_weaker : (m : Manner) (Fails : Error → Type 0) (start now : Option (List ℕ)) (asked : List Asked)
+pub stops_weaker : (m : Manner) (Fails : TellFault → Type 0) (start now : Option (List ℕ)) (asked : List Asked)
     (fault : AnswerFault) → StopsBy m (λ _. ⊥) start now asked fault → StopsBy m Fails start now asked fault
 stops_weaker m Fails start now asked (Write lost) stops = stops
 stops_weaker m Fails start now asked Input stops = stops
-stops_weaker m Fails start now asked (Tell (Read error)) (answered, others, is, (fails, out)) = absurd fails
-stops_weaker m Fails start now asked (Tell NoMemory) stops = stops
+stops_weaker m Fails start now asked (Tell fault) (answered, others, is, (fails, out)) = absurd fails
 
 -- ---- of a list that is answered in order
 
@@ -153,7 +149,7 @@ pub each_answered : (m : Manner) (start now : Option (List ℕ)) (asked : List A
 each_answered m start now asked i d p s lt stands =
     subst (λ a. Stands m start now a p s) (sym (take_more asked i d lt)) stands
 
-pub answered_within : (m : Manner) (Fails : Error → Type 0) (start now : Option (List ℕ)) (asked : List Asked) (i : ℕ)
+pub answered_within : (m : Manner) (Fails : TellFault → Type 0) (start now : Option (List ℕ)) (asked : List Asked) (i : ℕ)
     (d : Asked) (fault : AnswerFault) → i < length asked
     → StopsBy m Fails start now (take i asked ++ get_or asked i d ∷ []) fault
     → StopsBy m Fails start now asked fault

@@ -2,7 +2,6 @@
 use Rattle.std.proofs.Common.{◌≡◌, ℕ, ◌+◌, ◌<◌, ◌≤◌, ◌==◌, Bool, true, List, [], ◌∷◌, ◌++◌, length, take, drop, get_or, Option, refl, sym, ap}
 use Rattle.std.proofs.Common.{arith, ◌∙◌, append-nil, append_assoc, subst, Result, Ok, Err, MatchResult, take-append-drop}
 use Rattle.std.specs.Io.KnownBytes.{Appends, IsAtEnd}
-use Rattle.std.specs.declared.io.Error.{Error}
 use Rattle.std.proofs.KnownBytes.{Appends-nil}
 use Rattle.std.proofs.lemmas.Bool.Decides.{nat_tests}
 use Rattle.std.proofs.lemmas.List.{take_all, take_more}
@@ -18,24 +17,25 @@ use Rattle.dl_dialogue.specs.Standing.{Speaks, Stands}
 use Rattle.dl_dialogue.specs.declared.dialogue.Answered.{Answered}
 use Rattle.dl_dialogue.specs.declared.dialogue.Dialogue.{Dialogue}
 use Rattle.dl_dialogue.specs.declared.fault.AnswerFault.{AnswerFault}
+use Rattle.dl_dialogue.specs.declared.fault.TellFault.{TellFault}
 use Rattle.dl_dialogue.specs.declared.fault.AnswerFault.TheVariants.{Input, Tell, Write}
 use Rattle.dl_dialogue.proofs.AnswerLemmas.{stops_more, stops_weaker}
 
 -- what stops the answers to the lines that have ended stops those to all that follows
-pub stops_in : (m : Manner) (hex : Bool) (Fails : Error → Type 0) (start now : Option (List ℕ)) (done : List ℕ)
+pub stops_in : (m : Manner) (hex : Bool) (Fails : TellFault → Type 0) (start now : Option (List ℕ)) (done : List ℕ)
     (asked : List Asked) (d : Dialogue) (fault : AnswerFault) → HasRead hex done asked d.line
     → StopsBy m Fails start now asked fault → StopsIn m hex Fails start now done fault
 stops_in m hex Fails start now done asked d fault read stops rest =
     subst (λ a. StopsBy m Fails start now a fault) (sym (asked_so_far hex done asked d.line read rest))
     (stops_more m Fails start now asked (asked_from (base_of hex) d.line.line rest) fault stops)
 
-pub stops_later : (m : Manner) (hex : Bool) (Fails : Error → Type 0) (start now : Option (List ℕ)) (done more : List ℕ)
+pub stops_later : (m : Manner) (hex : Bool) (Fails : TellFault → Type 0) (start now : Option (List ℕ)) (done more : List ℕ)
     (fault : AnswerFault) → StopsIn m hex Fails start now done fault → StopsIn m hex Fails start now (done ++ more) fault
 stops_later m hex Fails start now done more fault stops rest =
     subst (λ b. StopsBy m Fails start now (asked_in hex b) fault) (sym (append_assoc done more rest)) (stops (more ++ rest))
 
 -- a byte is taken, and what it ends is answered
-pub byte_spoken : (m : Manner) (hex : Bool) (Fails : Error → Type 0) (start later : Option (List ℕ)) (done : List ℕ)
+pub byte_spoken : (m : Manner) (hex : Bool) (Fails : TellFault → Type 0) (start later : Option (List ℕ)) (done : List ℕ)
     (byte : ℕ) (asked : Option Asked) (p : Printed) (new : Dialogue) (r : Result (Unit {0}) AnswerFault)
     → HasRead hex (done ++ byte ∷ []) (asked_in hex (ended done) ++ and_asked asked []) new.line
     → MatchResult r (λ _. Stands m start later (asked_in hex (ended done) ++ and_asked asked []) p new.answers)
@@ -63,7 +63,7 @@ pub spoken_more : (m : Manner) (hex : Bool) (start now : Option (List ℕ)) (don
 spoken_more m hex start now done piece i c p d lt is speaks =
     subst (λ b. Speaks m hex start now b p d) (taken_more done piece i c lt is) speaks
 
-pub stopped_within : (m : Manner) (hex : Bool) (Fails : Error → Type 0) (start now : Option (List ℕ)) (done piece : List ℕ)
+pub stopped_within : (m : Manner) (hex : Bool) (Fails : TellFault → Type 0) (start now : Option (List ℕ)) (done piece : List ℕ)
     (i c : ℕ) (fault : AnswerFault) → i < length piece → c ≡ get_or piece i 0
     → StopsIn m hex Fails start now ((done ++ take i piece) ++ c ∷ []) fault
     → StopsIn m hex Fails start now (done ++ piece) fault
@@ -76,7 +76,7 @@ stopped_within m hex Fails start now done piece i c fault lt is stops =
     (stops_later m hex Fails start now ((done ++ take i piece) ++ c ∷ []) (drop (i + 1) piece) fault stops)
 
 -- all bytes of a piece were taken, and what was held back is written
-pub piece_spoken : (m : Manner) (hex : Bool) (Fails : Error → Type 0) (start now later : Option (List ℕ))
+pub piece_spoken : (m : Manner) (hex : Bool) (Fails : TellFault → Type 0) (start now later : Option (List ℕ))
     (done piece : List ℕ) (i : ℕ) (p q : Printed) (d : Dialogue) (r : Result (Unit {0}) AnswerFault) → length piece ≤ i
     → Speaks m hex start now (done ++ take i piece) p d
     → ((asked : List Asked) → Stands m start now asked p d.answers → MatchResult r
@@ -114,14 +114,14 @@ nothing_of [] is = refl
 nothing_of (c ∷ piece) is = absurd (grind (arith, nat_tests, is))
 
 -- the input is at its end, and all was answered or a fault came
-stopped_answers : (m : Manner) (hex : Bool) (Fails : Error → Type 0) (bytes : List ℕ) (left start now : Option (List ℕ))
+stopped_answers : (m : Manner) (hex : Bool) (Fails : TellFault → Type 0) (bytes : List ℕ) (left start now : Option (List ℕ))
     (fault : AnswerFault) → StopsBy m Fails start now (asked_in hex bytes) fault
     → AnswersLines m hex Fails bytes left start now (Err fault)
 stopped_answers m hex Fails bytes left start now (Write lost) stops = stops
 stopped_answers m hex Fails bytes left start now (Tell fault) stops = stops
 stopped_answers m hex Fails bytes left start now Input (answered, others, is, never) = absurd never
 
-pub end_answers : (m : Manner) (hex : Bool) (Fails : Error → Type 0) (bytes : List ℕ) (left start now : Option (List ℕ))
+pub end_answers : (m : Manner) (hex : Bool) (Fails : TellFault → Type 0) (bytes : List ℕ) (left start now : Option (List ℕ))
     (r : Result Answered AnswerFault) → IsAtEnd left
     → MatchResult r (Ends m hex start now bytes) (StopsBy m Fails start now (asked_in hex bytes))
     → AnswersLines m hex Fails bytes left start now r
@@ -129,7 +129,7 @@ end_answers m hex Fails bytes left start now (Ok answered) end ends = (end, ends
 end_answers m hex Fails bytes left start now (Err fault) end stops =
     stopped_answers m hex Fails bytes left start now fault stops
 
-pub fault_answers : (m : Manner) (hex : Bool) (Fails : Error → Type 0) (bytes : List ℕ) (left start now : Option (List ℕ))
+pub fault_answers : (m : Manner) (hex : Bool) (Fails : TellFault → Type 0) (bytes : List ℕ) (left start now : Option (List ℕ))
     (fault : AnswerFault) → StopsIn m hex Fails start now bytes fault
     → AnswersLines m hex Fails bytes left start now (Err fault)
 fault_answers m hex Fails bytes left start now fault stops =

@@ -1,9 +1,9 @@
--- The lines that answer addresses. start, now: what the writer held at first, and holds now.
+-- The lines that answer addresses. start, now: what the writer held at first, and holds now. Fails: the faults for which
+-- nothing is told of an address.
 use Rattle.std.specs.Prelude.{◌≡◌, ℕ, if◌then◌else◌, List, ◌++◌, flat_map, is_some, Option, Result, Ok, Err}
 use Rattle.std.specs.Io.KnownBytes.{Appends}
 use Rattle.std.specs.List.{list_all}
 use Rattle.std.specs.Option.{option_and_then}
-use Rattle.std.specs.declared.io.Error.{Error}
 use Rattle.dl_print.specs.Output.{TellsOut}
 use Rattle.dl_look.specs.Asked.{place_of}
 use Rattle.dl_look.specs.declared.asked.Asked.{Asked}
@@ -13,9 +13,9 @@ use Rattle.dl_addr.specs.Locations.{location_line}
 use Rattle.dl_addr.specs.declared.question.Found.{Found}
 use Rattle.dl_addr.specs.declared.question.Found.TheVariants as found
 use Rattle.dl_addr.specs.declared.style.Style.{Style}
-use Rattle.dl_dialogue.specs.Faults.{TellFails}
 use Rattle.dl_dialogue.specs.declared.fault.AnswerFault.{AnswerFault}
 use Rattle.dl_dialogue.specs.declared.fault.AnswerFault.TheVariants.{Input, Tell, Write}
+use Rattle.dl_dialogue.specs.declared.fault.TellFault.{TellFault}
 
 -- how it is answered: the style of the lines, what is subtracted from each address, and what is told of one
 pub record Manner : Type 0 where
@@ -42,21 +42,21 @@ found_by m asked =
 
 -- what ends the answers of those that were answered: the writer failed; nothing can be told of one more; or the input, which
 -- asks, can't be read
-abbrev pub StopsAfter : Manner → (Fails : Error → Type 0) → (start now : Option (List ℕ)) → (answered : List Asked)
+abbrev pub StopsAfter : Manner → (Fails : TellFault → Type 0) → (start now : Option (List ℕ)) → (answered : List Asked)
     → AnswerFault → Type 0
 StopsAfter m Fails start now answered (Write lost) = TellsOut start now (lines_by m answered) lost
 StopsAfter m Fails start now answered (Tell fault) =
-    TellFails Fails fault × Appends start now (lines_by m answered)
+    Fails fault × Appends start now (lines_by m answered)
 StopsAfter m Fails start now answered Input = ⊥
 
 -- of these the first ones were answered
-abbrev pub StopsBy : Manner → (Fails : Error → Type 0) → (start now : Option (List ℕ)) → List Asked → AnswerFault → Type 0
+abbrev pub StopsBy : Manner → (Fails : TellFault → Type 0) → (start now : Option (List ℕ)) → List Asked → AnswerFault → Type 0
 StopsBy m Fails start now asked fault =
     (answered : List Asked) × (others : List Asked) × (asked ≡ answered ++ others)
     × StopsAfter m Fails start now answered fault
 
 -- all that is asked is answered, or the first ones are
-abbrev pub AnswersAll : Manner → (Fails : Error → Type 0) → List Asked → (start now : Option (List ℕ))
+abbrev pub AnswersAll : Manner → (Fails : TellFault → Type 0) → List Asked → (start now : Option (List ℕ))
     → Result Found AnswerFault → Type 0
 AnswersAll m Fails asked start now (Ok all_found) =
     (all_found ≡ found_by m asked) × Appends start now (lines_by m asked)

@@ -1,6 +1,7 @@
 -- Why nothing is told of an address.
 use Rattle.std.specs.Prelude.{ℕ, List, Option, Result, Ok, Err}
 use Rattle.std.specs.declared.io.Error.{Error}
+use Rattle.dl_memory.specs.Refusals.{WasRefused}
 use Rattle.dl_index_file.specs.Reading.{ReadFails}
 use Rattle.dl_index_file.specs.declared.fault.TextFault as text
 use Rattle.dl_index_file.specs.declared.fault.TextFault.TheVariants as of
@@ -8,16 +9,13 @@ use Rattle.dl_dialogue.specs.declared.fault.TellFault.{TellFault}
 use Rattle.dl_dialogue.specs.declared.fault.TellFault.TheVariants.{NoMemory, Read}
 
 -- a read failed with such an error, or memory was refused
-abbrev pub TellFails : (Fails : Error → Type 0) → TellFault → Type 0
-TellFails Fails (Read error) = Fails error
-TellFails Fails NoMemory = Unit {0}
-
-abbrev pub IsNoMemory : TellFault → Type 0
-IsNoMemory fault = TellFails (λ _. ⊥) fault
+abbrev pub TellFails : (Fails : Error → Type 0) (refuses : ℕ → Type 0) → TellFault → Type 0
+TellFails Fails refuses (Read error) = Fails error
+TellFails Fails refuses NoMemory = WasRefused refuses
 
 -- of an index in a file with these bytes, where they are known
-abbrev pub FileFails : Option (List ℕ) → (Fails : Error → Type 0) → TellFault → Type 0
-FileFails known Fails fault = TellFails (ReadFails known Fails) fault
+abbrev pub FileFails : Option (List ℕ) → (Fails : Error → Type 0) (refuses : ℕ → Type 0) → TellFault → Type 0
+FileFails known Fails refuses fault = TellFails (ReadFails known Fails) refuses fault
 
 abbrev pub of_text : text.TextFault → TellFault
 of_text (of.Read error) = Read error

@@ -13,6 +13,7 @@ use crate::fault::{AnswerFault, TellFault};
 use crate::telling::Tell;
 use dl_addr::{Found, Location, Style, print_location};
 use dl_look::Asked;
+use dl_memory::Memory;
 use dl_print::{Printer, WriteFault};
 use std::alloc::Global;
 use std::io::Write;
@@ -64,7 +65,8 @@ fn stopped(printed: Result<(), WriteFault>, fault: TellFault) -> Result<(), Answ
 }
 
 /// What is told of what is asked, less the base: nothing below 0, and of what is no address.
-fn told<'a, T: Tell>(
+fn told<'a, M: Memory, T: Tell>(
+    memory: &M,
     teller: &T,
     base: u64,
     asked: Asked,
@@ -72,10 +74,10 @@ fn told<'a, T: Tell>(
 ) -> Result<Option<Location<'a>>, TellFault>
     ensures told { (m : Manner) → base ≡ m.base → Determines (T.tells teller.now) m.told
         → IfOk result (λ told. option_map location_seen told ≡ answer_by m asked) }
-    ensures fails { IfErr result (TellFails (T.fails_with teller.now)) }
+    ensures fails { IfErr result (TellFails (T.fails_with teller.now) (M.refuses memory.now)) }
 {
     match asked.place(base) {
-        Some(place) => teller.tell(place.address, path),
+        Some(place) => teller.tell(memory, place.address, path),
         None => Ok(None),
     }
 }
@@ -87,6 +89,7 @@ impl<'q> Answers<'q> {
     ghost use Rattle.std.specs.Io.KnownBytes.{Appends};
     ghost use Rattle.dl_dialogue.specs.Answers.{Determines, Manner, StopsBy, lines_by};
     ghost use Rattle.dl_asked.specs.AskedLines.{and_asked};
+    ghost use Rattle.dl_dialogue.specs.Faults.{TellFails};
     ghost use Rattle.dl_dialogue.specs.Standing.{Stands};
     ghost use Rattle.dl_print.specs.Printed.{Printed};
 
@@ -112,8 +115,9 @@ impl<'q> Answers<'q> {
     }
 
     /// Answers what is asked by a line, which may be held back.
-    pub fn answer<T: Tell, W: Write>(
+    pub fn answer<M: Memory, T: Tell, W: Write>(
         &mut self,
+        memory: &M,
         teller: &T,
         printer: &mut Printer,
         output: &mut W,
@@ -124,9 +128,9 @@ impl<'q> Answers<'q> {
             → Stands m start (W.contents output.old) before printer.old self.old
             → MatchResult result
             (λ _. Stands m start (W.contents output.new) (before ++ asked ∷ []) printer.new self.new)
-            (StopsBy m (T.fails_with teller.now) start (W.contents output.new) (before ++ asked ∷ [])) }
+            (StopsBy m (TellFails (T.fails_with teller.now) (M.refuses memory.now)) start (W.contents output.new) (before ++ asked ∷ [])) }
     {
-        match told(teller, self.base, asked, &mut self.path) {
+        match told(memory, teller, self.base, asked, &mut self.path) {
             Ok(location) => {
                 self.found = also(self.found, is_answered(asked, location.is_some()));
                 written(print_location(printer, output, self.style, asked, location))
@@ -136,8 +140,9 @@ impl<'q> Answers<'q> {
     }
 
     /// The same, where something is asked.
-    pub fn answer_if_asked<T: Tell, W: Write>(
+    pub fn answer_if_asked<M: Memory, T: Tell, W: Write>(
         &mut self,
+        memory: &M,
         teller: &T,
         printer: &mut Printer,
         output: &mut W,
@@ -148,17 +153,18 @@ impl<'q> Answers<'q> {
             → Stands m start (W.contents output.old) before printer.old self.old
             → MatchResult result
             (λ _. Stands m start (W.contents output.new) (before ++ and_asked asked []) printer.new self.new)
-            (StopsBy m (T.fails_with teller.now) start (W.contents output.new) (before ++ and_asked asked [])) }
+            (StopsBy m (TellFails (T.fails_with teller.now) (M.refuses memory.now)) start (W.contents output.new) (before ++ and_asked asked [])) }
     {
         match asked {
-            Some(asked) => self.answer(teller, printer, output, asked),
+            Some(asked) => self.answer(memory, teller, printer, output, asked),
             None => Ok(()),
         }
     }
 
     /// The same, and writes all lines that were held back.
-    pub fn answer_last<T: Tell, W: Write>(
+    pub fn answer_last<M: Memory, T: Tell, W: Write>(
         &mut self,
+        memory: &M,
         teller: &T,
         printer: &mut Printer,
         output: &mut W,
@@ -170,9 +176,9 @@ impl<'q> Answers<'q> {
             → MatchResult result
             (λ _. Stands m start (W.contents output.new) (before ++ and_asked asked []) printer.new self.new
             × Appends start (W.contents output.new) (lines_by m (before ++ and_asked asked [])))
-            (StopsBy m (T.fails_with teller.now) start (W.contents output.new) (before ++ and_asked asked [])) }
+            (StopsBy m (TellFails (T.fails_with teller.now) (M.refuses memory.now)) start (W.contents output.new) (before ++ and_asked asked [])) }
     {
-        self.answer_if_asked(teller, printer, output, asked)?;
+        self.answer_if_asked(memory, teller, printer, output, asked)?;
         self.flush(printer, output)
     }
 
@@ -192,8 +198,8 @@ impl<'q> Answers<'q> {
 /// that there is none. All lines are written out.
 ///
 /// Where nothing can be told of an address, the lines of those before it are written out, and its fault is answered.
-pub fn answer_all<T: Tell, W: Write>(
-    alloc: Global,
+pub fn answer_all<M: Memory, T: Tell, W: Write>(
+    memory: &M,
     teller: &T,
     style: Style<'_>,
     base: u64,
@@ -201,13 +207,13 @@ pub fn answer_all<T: Tell, W: Write>(
     output: &mut W,
 ) -> Result<Found, AnswerFault>
     ensures { (f : ℕ → Option locations.Location) → Determines (T.tells teller.now) f
-        → AnswersAll (record { style = style.entry; base = base; told = f }) (T.fails_with teller.now) asked.now
+        → AnswersAll (record { style = style.entry; base = base; told = f }) (TellFails (T.fails_with teller.now) (M.refuses memory.now)) asked.now
         (W.contents output.old) (W.contents output.new) result }
 {
     let mut printer = Printer::new();
-    let mut answers = Answers::new(alloc, style, base);
+    let mut answers = Answers::new(memory.alloc(), style, base);
     for each in asked {
-        answers.answer(teller, &mut printer, output, *each)?;
+        answers.answer(memory, teller, &mut printer, output, *each)?;
     }
     answers.flush(&mut printer, output)?;
     Ok(answers.found())

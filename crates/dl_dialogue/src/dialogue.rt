@@ -5,12 +5,14 @@ ghost use Rattle.std.specs.Io.KnownBytes.{Consumes};
 ghost use Rattle.dl_addr.specs.Location.{Location};
 ghost use Rattle.dl_dialogue.specs.Answers.{Determines};
 ghost use Rattle.dl_dialogue.specs.Dialogues.{AnswersLines};
+ghost use Rattle.dl_dialogue.specs.Faults.{TellFails};
 
 use crate::answers::Answers;
 use crate::fault::AnswerFault;
 use crate::telling::Tell;
 use dl_addr::{Found, Style};
 use dl_asked::{CurrentLine, LastLine, OtherLine};
+use dl_memory::Memory;
 use dl_print::Printer;
 use dl_run::Input;
 use std::alloc::Global;
@@ -38,6 +40,7 @@ impl<'q> Dialogue<'q> {
     ghost use Rattle.dl_asked.specs.AskedLines.{asked_in};
     ghost use Rattle.dl_dialogue.specs.Answers.{Determines, Manner, StopsBy};
     ghost use Rattle.dl_dialogue.specs.Dialogues.{Talks, StopsIn, Ends};
+    ghost use Rattle.dl_dialogue.specs.Faults.{TellFails};
     ghost use Rattle.dl_dialogue.specs.Standing.{Speaks};
     ghost use Rattle.dl_print.specs.Printed.{Printed};
 
@@ -56,8 +59,9 @@ impl<'q> Dialogue<'q> {
 
     /// Takes the next piece of the input, and answers each line of it that has ended. Nothing is held back: when this is
     /// done, all answers are written out.
-    pub fn take<T: Tell, W: Write>(
+    pub fn take<M: Memory, T: Tell, W: Write>(
         &mut self,
+        memory: &M,
         teller: &T,
         printer: &mut Printer,
         output: &mut W,
@@ -68,17 +72,18 @@ impl<'q> Dialogue<'q> {
             → Talks m hex start (W.contents output.old) done printer.old self.old
             → MatchResult result
             (λ _. Talks m hex start (W.contents output.new) (done ++ piece.now) printer.new self.new)
-            (StopsIn m hex (T.fails_with teller.now) start (W.contents output.new) (done ++ piece.now)) }
+            (StopsIn m hex (TellFails (T.fails_with teller.now) (M.refuses memory.now)) start (W.contents output.new) (done ++ piece.now)) }
     {
         for byte in piece {
-            self.take_byte(teller, printer, output, *byte)?;
+            self.take_byte(memory, teller, printer, output, *byte)?;
         }
         self.answers.flush(printer, output)
     }
 
     /// Takes a byte. The line that it ends is answered, which may be held back.
-    fn take_byte<T: Tell, W: Write>(
+    fn take_byte<M: Memory, T: Tell, W: Write>(
         &mut self,
+        memory: &M,
         teller: &T,
         printer: &mut Printer,
         output: &mut W,
@@ -89,15 +94,16 @@ impl<'q> Dialogue<'q> {
             → Speaks m hex start (W.contents output.old) done printer.old self.old
             → MatchResult result
             (λ _. Speaks m hex start (W.contents output.new) (done ++ byte ∷ []) printer.new self.new)
-            (StopsIn m hex (T.fails_with teller.now) start (W.contents output.new) (done ++ byte ∷ [])) }
+            (StopsIn m hex (TellFails (T.fails_with teller.now) (M.refuses memory.now)) start (W.contents output.new) (done ++ byte ∷ [])) }
     {
         let asked = self.line.take(byte);
-        self.answers.answer_if_asked(teller, printer, output, asked)
+        self.answers.answer_if_asked(memory, teller, printer, output, asked)
     }
 
     /// Takes the end of the input, and answers the last line, where that lacks its 0x0a.
-    pub fn end<T: Tell, W: Write>(
+    pub fn end<M: Memory, T: Tell, W: Write>(
         self,
+        memory: &M,
         teller: &T,
         printer: &mut Printer,
         output: &mut W,
@@ -106,11 +112,11 @@ impl<'q> Dialogue<'q> {
             → Determines (T.tells teller.now) m.told
             → Talks m hex start (W.contents output.old) done printer.old self.entry
             → MatchResult result (Ends m hex start (W.contents output.new) done)
-            (StopsBy m (T.fails_with teller.now) start (W.contents output.new) (asked_in hex done)) }
+            (StopsBy m (TellFails (T.fails_with teller.now) (M.refuses memory.now)) start (W.contents output.new) (asked_in hex done)) }
     {
         let Dialogue { mut answers, line } = self;
         let LastLine { asked, no_address } = line.end();
-        answers.answer_last(teller, printer, output, asked)?;
+        answers.answer_last(memory, teller, printer, output, asked)?;
         Ok(Answered {
             found: answers.found(),
             no_address,
@@ -127,8 +133,8 @@ impl<'q> Dialogue<'q> {
 ///
 /// `Input` where the reader fails: then each line that has ended was answered. Where nothing can be told of an address, the
 /// lines before it were answered. Memory is taken for one path.
-pub fn answer_lines<T: Tell, R: Read, W: Write>(
-    alloc: Global,
+pub fn answer_lines<M: Memory, T: Tell, R: Read, W: Write>(
+    memory: &M,
     teller: &T,
     style: Style<'_>,
     base: u64,
@@ -138,20 +144,20 @@ pub fn answer_lines<T: Tell, R: Read, W: Write>(
 ) -> Result<Answered, AnswerFault>
     ensures { (bs : List ℕ) × Consumes (R.remaining input.old) (R.remaining input.new) bs
         × ((f : ℕ → Option Location) → Determines (T.tells teller.now) f
-        → AnswersLines (record { style = style.entry; base = base; told = f }) hex (T.fails_with teller.now) bs
+        → AnswersLines (record { style = style.entry; base = base; told = f }) hex (TellFails (T.fails_with teller.now) (M.refuses memory.now)) bs
         (R.remaining input.new) (W.contents output.old) (W.contents output.new) result) }
 {
     let mut buffer = Input::new();
     let mut printer = Printer::new();
-    let mut dialogue = Dialogue::new(alloc, style, base, hex);
+    let mut dialogue = Dialogue::new(memory.alloc(), style, base, hex);
     for _ in 0..u64::MAX {
         let Ok(piece) = buffer.next_piece(input) else {
             return Err(AnswerFault::Input);
         };
         if piece.is_empty() {
-            return dialogue.end(teller, &mut printer, output);
+            return dialogue.end(memory, teller, &mut printer, output);
         }
-        dialogue.take(teller, &mut printer, output, piece)?;
+        dialogue.take(memory, teller, &mut printer, output, piece)?;
     }
     Err(AnswerFault::Input)
 }

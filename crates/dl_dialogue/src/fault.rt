@@ -1,6 +1,7 @@
 //! Why addresses aren't answered.
 
 use dl_index_file::TextFault;
+use dl_memory::NoMemory;
 use dl_print::WriteFault;
 use std::io;
 use thiserror::Error;
@@ -38,6 +39,17 @@ impl From<TextFault> for TellFault {
             TextFault::Read(error) => TellFault::Read(error),
             TextFault::NoMemory => TellFault::NoMemory,
         }
+    }
+}
+
+impl From<NoMemory> for TellFault {
+    ghost use Rattle.std.specs.Prelude.{◌≡◌};
+    ghost use Rattle.dl_dialogue.specs.declared.fault.TellFault.TheVariants as tell;
+
+    ghost from_gives = { λ refused fault. fault ≡ tell.NoMemory };
+
+    fn from(_refused: NoMemory) -> TellFault {
+        TellFault::NoMemory
     }
 }
 

@@ -13,6 +13,7 @@ use crate::telling::{Tell, path_if};
 use dl_addr::Location;
 use dl_elf::{Range, ReadAt};
 use dl_index_file::{IndexFile, TextFault, TextPlaces};
+use dl_memory::Memory;
 
 impl<S: ReadAt> Tell for IndexFile<'_, S> {
     ghost use Rattle.std.specs.Prelude.{◌≡◌, option_map};
@@ -29,15 +30,16 @@ impl<S: ReadAt> Tell for IndexFile<'_, S> {
     ghost fails_with = { λ index error.
         ReadFails (S.all_bytes (source_of index)) (S.fails_with (source_of index)) error };
 
-    fn tell<'a>(
+    fn tell<'a, M: Memory>(
         &self,
+        memory: &M,
         address: u64,
         path: &'a mut Vec<u8>,
     ) -> Result<Option<Location<'a>>, TellFault> {
         let Some(found) = self.find(address)? else {
             return Ok(None);
         };
-        read_texts(self, found.texts, path)?;
+        read_texts(memory, self, found.texts, path)?;
         Ok(Some(Location {
             unit: found.unit,
             path: path_if(is_known(found.texts), path.as_slice()),
@@ -57,7 +59,8 @@ fn is_known(texts: TextPlaces) -> bool
 }
 
 /// Reads the texts that there are, one after the other, into `path`, in place of what stood there.
-fn read_texts<S: ReadAt>(
+fn read_texts<S: ReadAt, M: Memory>(
+    memory: &M,
     index: &IndexFile<'_, S>,
     texts: TextPlaces,
     path: &mut Vec<u8>,
@@ -65,16 +68,18 @@ fn read_texts<S: ReadAt>(
     ensures texts { ForBytes (S.all_bytes (source_of index.now)) (λ b. IfOk result
         (λ _. path.new.items ≡ concat (texts_shown b texts))) }
     ensures fails { ForBytes (S.all_bytes (source_of index.now)) (λ b. TextsLie b texts)
-        → IfErr result (FileFails (S.all_bytes (source_of index.now)) (S.fails_with (source_of index.now))) }
+        → IfErr result (FileFails (S.all_bytes (source_of index.now)) (S.fails_with (source_of index.now))
+        (M.refuses memory.now)) }
 {
     path.clear();
-    read_text(index, texts.first, path)?;
-    read_text(index, texts.second, path)?;
-    read_text(index, texts.third, path)
+    read_text(memory, index, texts.first, path)?;
+    read_text(memory, index, texts.second, path)?;
+    read_text(memory, index, texts.third, path)
 }
 
 /// Reads a text behind the others, where there is one.
-fn read_text<S: ReadAt>(
+fn read_text<S: ReadAt, M: Memory>(
+    memory: &M,
     index: &IndexFile<'_, S>,
     text: Option<Range>,
     path: &mut Vec<u8>,
@@ -82,10 +87,11 @@ fn read_text<S: ReadAt>(
     ensures text { ForBytes (S.all_bytes (source_of index.now)) (λ b. IfOk result
         (λ _. path.new.items ≡ path.old.items ++ concat (text_shown b text))) }
     ensures fails { ForBytes (S.all_bytes (source_of index.now)) (λ b. Lies b text)
-        → IfErr result (FileFails (S.all_bytes (source_of index.now)) (S.fails_with (source_of index.now))) }
+        → IfErr result (FileFails (S.all_bytes (source_of index.now)) (S.fails_with (source_of index.now))
+        (M.refuses memory.now)) }
 {
     match text {
-        Some(place) => as_told(index.read_text(place, path)),
+        Some(place) => as_told(index.read_text(memory, place, path)),
         None => Ok(()),
     }
 }

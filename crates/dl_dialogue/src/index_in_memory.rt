@@ -2,7 +2,7 @@
 
 ghost use Rattle.std.specs.Prelude.{◌≡◌, ◌++◌, IfOk, IfErr, is_some};
 ghost use Rattle.dl_index.specs.Shown.{text_told, texts_told};
-ghost use Rattle.dl_dialogue.specs.Faults.{IsNoMemory};
+ghost use Rattle.dl_dialogue.specs.Faults.{TellFails};
 ghost use Rattle.std.specs.List.{concat};
 ghost use Rattle.dl_making.specs.Telling.{path_told};
 
@@ -10,6 +10,7 @@ use crate::fault::TellFault;
 use crate::telling::{Tell, path_if};
 use dl_addr::Location;
 use dl_index::{IndexRef, PathTexts};
+use dl_memory::Memory;
 
 impl Tell for IndexRef<'_> {
     ghost use Rattle.std.specs.Prelude.{◌≡◌, option_map};
@@ -23,15 +24,16 @@ impl Tell for IndexRef<'_> {
 
     ghost fails_with = { λ _ error. ⊥ };
 
-    fn tell<'a>(
+    fn tell<'a, M: Memory>(
         &self,
+        memory: &M,
         address: u64,
         path: &'a mut Vec<u8>,
     ) -> Result<Option<Location<'a>>, TellFault> {
         let Some(found) = self.find(address) else {
             return Ok(None);
         };
-        put_texts(found.texts, path)?;
+        put_texts(memory, found.texts, path)?;
         Ok(Some(Location {
             unit: found.unit,
             path: path_if(is_known(found.texts), path.as_slice()),
@@ -51,26 +53,32 @@ fn is_known(texts: PathTexts<'_>) -> bool
 }
 
 /// Puts the texts that there are, one after the other, into `path`, in place of what stood there.
-fn put_texts(texts: PathTexts<'_>, path: &mut Vec<u8>) -> Result<(), TellFault>
+fn put_texts<M: Memory>(
+    memory: &M,
+    texts: PathTexts<'_>,
+    path: &mut Vec<u8>,
+) -> Result<(), TellFault>
     ensures texts { IfOk result (λ _. path.new.items ≡ concat (texts_told texts.entry)) }
-    ensures memory { IfErr result IsNoMemory }
+    ensures fails { IfErr result (TellFails (λ _. ⊥) (M.refuses memory.now)) }
 {
     path.clear();
-    put_text(texts.first, path)?;
-    put_text(texts.second, path)?;
-    put_text(texts.third, path)
+    put_text(memory, texts.first, path)?;
+    put_text(memory, texts.second, path)?;
+    put_text(memory, texts.third, path)
 }
 
 /// Puts a text behind the others, where there is one.
-fn put_text(text: Option<&[u8]>, path: &mut Vec<u8>) -> Result<(), TellFault>
+fn put_text<M: Memory>(
+    memory: &M,
+    text: Option<&[u8]>,
+    path: &mut Vec<u8>,
+) -> Result<(), TellFault>
     ensures text { IfOk result (λ _. path.new.items ≡ path.old.items ++ concat (text_told text.entry)) }
-    ensures memory { IfErr result IsNoMemory }
+    ensures fails { IfErr result (TellFails (λ _. ⊥) (M.refuses memory.now)) }
 {
     let Some(text) = text else {
         return Ok(());
     };
-    match path.extend_from_slice(text) {
-        Ok(()) => Ok(()),
-        Err(_) => Err(TellFault::NoMemory),
-    }
+    memory.extend_from_slice(path, text)?;
+    Ok(())
 }

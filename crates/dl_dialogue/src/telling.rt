@@ -6,6 +6,7 @@ ghost use Rattle.dl_dialogue.specs.Paths.{path_if};
 
 use crate::fault::TellFault;
 use dl_addr::Location;
+use dl_memory::Memory;
 
 /// What tells of an address where it is in the source.
 pub trait Tell {
@@ -22,13 +23,14 @@ pub trait Tell {
     ghost fails_with: { Self → Error → Type 0 };
 
     /// What is told of an address; None where nothing is. The path is put into `path`, in place of what stood there.
-    fn tell<'a>(
+    fn tell<'a, M: Memory>(
         &self,
+        memory: &M,
         address: u64,
         path: &'a mut Vec<u8>,
     ) -> Result<Option<Location<'a>>, TellFault>
         ensures tells { IfOk result (λ told. tells self.now address (option_map location_seen told)) }
-        ensures fails { IfErr result (TellFails (fails_with self.now)) };
+        ensures fails { IfErr result (TellFails (fails_with self.now) (M.refuses memory.now)) };
 }
 
 /// The path, where it is known.
@@ -49,8 +51,9 @@ impl Tell for Nothing {
 
     ghost fails_with = { λ _ error. ⊥ };
 
-    fn tell<'a>(
+    fn tell<'a, M: Memory>(
         &self,
+        _memory: &M,
         _address: u64,
         _path: &'a mut Vec<u8>,
     ) -> Result<Option<Location<'a>>, TellFault> {

@@ -4,6 +4,7 @@ use Rattle.std.specs.IoError.{error_kind}
 use Rattle.std.specs.declared.io.ErrorKind.TheVariants.{UnexpectedEof}
 use Rattle.std.specs.declared.io.Error.{Error}
 use Rattle.dl_elf.specs.Source.{ForBytes}
+use Rattle.dl_memory.specs.Refusals.{WasRefused}
 use Rattle.dl_index_file.specs.declared.fault.TextFault.{TextFault}
 use Rattle.dl_index_file.specs.declared.fault.TextFault.TheVariants.{Read, NoMemory}
 
@@ -14,7 +15,7 @@ ReadFails known Fails error = Fails error ⊎ ((error_kind error ≡ UnexpectedE
 
 -- of bytes up to `end` not all are read: a read failed with an error of the source, or the file ends before, or memory was
 -- refused
-abbrev pub TextFails : Option (List ℕ) → (Error → Type 0) → (end : ℕ) → TextFault → Type 0
-TextFails known Fails end (Read error) =
+abbrev pub TextFails : Option (List ℕ) → (Error → Type 0) → (refuses : ℕ → Type 0) → (end : ℕ) → TextFault → Type 0
+TextFails known Fails refuses end (Read error) =
     Fails error ⊎ ((error_kind error ≡ UnexpectedEof) × ForBytes known (λ b. length b < end))
-TextFails known Fails end NoMemory = Unit {0}
+TextFails known Fails refuses end NoMemory = WasRefused refuses

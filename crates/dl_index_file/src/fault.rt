@@ -1,6 +1,7 @@
 //! Why an index in a file isn't opened, and why a text isn't read.
 
 use dl_index::IndexFault;
+use dl_memory::NoMemory;
 use std::io;
 use thiserror::Error;
 
@@ -56,5 +57,16 @@ impl From<io::Error> for TextFault {
 
     fn from(error: io::Error) -> TextFault {
         TextFault::Read(error)
+    }
+}
+
+impl From<NoMemory> for TextFault {
+    ghost use Rattle.std.specs.Prelude.{◌≡◌};
+    ghost use Rattle.dl_index_file.specs.declared.fault.TextFault.TheVariants as text;
+
+    ghost from_gives = { λ refused fault. fault ≡ text.NoMemory };
+
+    fn from(_refused: NoMemory) -> TextFault {
+        TextFault::NoMemory
     }
 }

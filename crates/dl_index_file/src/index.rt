@@ -11,7 +11,7 @@ use crate::search::last_upto;
 use crate::text::read_range;
 use dl_elf::{Range, ReadAt};
 use dl_index::{HEADER_LEN, Header, Numbers, Width};
-use std::alloc::Global;
+use dl_memory::Memory;
 use std::io;
 
 /// How many bytes an index may have that is read whole.
@@ -116,28 +116,33 @@ impl<'a, S: ReadAt> IndexFile<'a, S> {
     /// Puts the bytes of a text that was told behind those of `out`. They are read piece by piece, and memory is taken
     /// for what was read. The fault is that of a read, of the kind `UnexpectedEof` where the range doesn't lie in the file, or
     /// that memory was refused; some of the bytes may stand in `out` then.
-    pub fn read_text(&self, text: Range, out: &mut Vec<u8>) -> Result<(), TextFault>
+    pub fn read_text<M: Memory>(
+        &self,
+        memory: &M,
+        text: Range,
+        out: &mut Vec<u8>,
+    ) -> Result<(), TextFault>
         ensures bytes { ForBytes (S.all_bytes (source_of self.now)) (λ b. IfOk result (λ _.
             out.new.items ≡ out.old.items ++ bytes_at text.offset text.size b)) }
         ensures within { ForBytes (S.all_bytes (source_of self.now)) (λ b. IfOk result (λ _. range_within text b ≡ true)) }
         ensures keeps { take (length out.old.items) out.new.items ≡ out.old.items }
         ensures fails { IfErr result (TextFails (S.all_bytes (source_of self.now)) (S.fails_with (source_of self.now))
-            (text.offset + text.size)) }
+            (M.refuses memory.now) (text.offset + text.size)) }
     {
-        read_range(self.source, text, out)
+        read_range(memory, self.source, text, out)
     }
 
     /// All bytes of the index, where there are at most 2^24 of them. None where there are more, where memory for them is refused,
     /// or where they can't be read. They are read piece by piece, and memory is taken for what was read.
-    pub fn whole(&self, alloc: Global) -> Option<Vec<u8>>
+    pub fn whole<M: Memory>(&self, memory: &M) -> Option<Vec<u8>>
         ensures { ForBytes (S.all_bytes (source_of self.now)) (λ b. IfSome result (λ bytes. bytes.items ≡ b)) }
     {
         let size = self.len();
         if size > WHOLE {
             return None;
         }
-        let mut bytes = Vec::new(alloc);
-        match read_range(self.source, Range { offset: 0, size }, &mut bytes) {
+        let mut bytes = Vec::new(memory.alloc());
+        match read_range(memory, self.source, Range { offset: 0, size }, &mut bytes) {
             Ok(()) => Some(bytes),
             Err(_) => None,
         }

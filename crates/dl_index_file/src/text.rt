@@ -10,6 +10,7 @@ ghost use Rattle.dl_index_file.specs.Steps.{EndsBefore};
 
 use crate::fault::TextFault;
 use dl_elf::{Range, ReadAt, fill_whole};
+use dl_memory::Memory;
 use std::io;
 use std::io::ErrorKind;
 
@@ -17,13 +18,18 @@ use std::io::ErrorKind;
 const PIECE: usize = 4096;
 
 /// Puts the bytes of a range behind those of `out`, piece by piece: memory is taken for bytes that were read.
-pub fn read_range<S: ReadAt>(source: &S, range: Range, out: &mut Vec<u8>) -> Result<(), TextFault>
+pub fn read_range<S: ReadAt, M: Memory>(
+    memory: &M,
+    source: &S,
+    range: Range,
+    out: &mut Vec<u8>,
+) -> Result<(), TextFault>
     ensures bytes { ForBytes (S.all_bytes source.now) (λ b. IfOk result (λ _.
         out.new.items ≡ out.old.items ++ bytes_at range.offset range.size b)) }
     ensures within { ForBytes (S.all_bytes source.now) (λ b. IfOk result (λ _. range_within range b ≡ true)) }
     ensures keeps { take (length out.old.items) out.new.items ≡ out.old.items }
-    ensures fails { IfErr result
-        (TextFails (S.all_bytes source.now) (S.fails_with source.now) (range.offset + range.size)) }
+    ensures fails { IfErr result (TextFails (S.all_bytes source.now) (S.fails_with source.now) (M.refuses memory.now)
+        (range.offset + range.size)) }
 {
     let mut done = 0;
     while done < range.size {
@@ -31,14 +37,15 @@ pub fn read_range<S: ReadAt>(source: &S, range: Range, out: &mut Vec<u8>) -> Res
             return Err(ended());
         };
         let len = (range.size - done).min(PIECE as u64);
-        push_piece(source, at, len as usize, out)?;
+        push_piece(memory, source, at, len as usize, out)?;
         done += len;
     }
     Ok(())
 }
 
 /// Puts so many bytes from an offset on behind those of `out`.
-fn push_piece<S: ReadAt>(
+fn push_piece<S: ReadAt, M: Memory>(
+    memory: &M,
     source: &S,
     at: u64,
     len: usize,
@@ -50,15 +57,14 @@ fn push_piece<S: ReadAt>(
         out.new.items ≡ out.old.items ++ take len (drop at b))) }
     ensures within { ForBytes (S.all_bytes source.now) (λ b. IfOk result (λ _. at + len ≤ length b)) }
     ensures keeps { take (length out.old.items) out.new.items ≡ out.old.items }
-    ensures fails { IfErr result (TextFails (S.all_bytes source.now) (S.fails_with source.now) (at + len)) }
+    ensures fails { IfErr result (TextFails (S.all_bytes source.now) (S.fails_with source.now) (M.refuses memory.now)
+        (at + len)) }
 {
     let mut buffer = [0; PIECE];
     if !fill_whole(source, at, &mut buffer[..len])? {
         return Err(ended());
     }
-    let Ok(()) = out.extend_from_slice(&buffer[..len]) else {
-        return Err(TextFault::NoMemory);
-    };
+    memory.extend_from_slice(out, &buffer[..len])?;
     Ok(())
 }
 

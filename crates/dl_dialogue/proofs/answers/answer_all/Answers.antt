@@ -2,6 +2,7 @@ use Rattle.std.proofs.Common.{take, ◌∙◌}
 use Rattle.std.proofs.lemmas.Result.{err_from_is_err_and}
 use Rattle.dl_dialogue.specs.Answers.{Manner}
 use Rattle.dl_dialogue.proofs.AnswerLemmas.{all_answered, answered_within, each_answered, stops_weaker}
+use Rattle.dl_dialogue.specs.Faults.{TellFails}
 use Rattle.dl_dialogue.proofs.answers.answer_all.Goals as goal
 
 pub loop-each-init : goal.loop-each-init
@@ -24,7 +25,7 @@ returns-in_err-answer g c = λ f determines.
     let i = c.loop-each.each-index in
     let asked = c.args.asked.now in
     let start = g.W.Write.contents c.args.output.now in
-    rw (p.1, p.2) (answered_within m (g.T.Tell.fails_with c.args.teller.now) start
+    rw (p.1, p.2) (answered_within m (TellFails (g.T.Tell.fails_with c.args.teller.now) (g.M.Memory.refuses c.args.memory.now)) start
     (g.W.Write.contents c.answer.new.output) asked i _ _ c.loop-each-test.true
     (c.in_err-answer.ensures m start (take i asked) determines (c.loop-each.invariant f determines)))
 
@@ -34,7 +35,7 @@ returns-in_err-flush g c = λ f determines.
     let p = err_from_is_err_and c.from_residual-in_err-flush.result c.from_residual-in_err-flush.ensures.1 in
     let asked = c.args.asked.now in
     let start = g.W.Write.contents c.args.output.now in
-    rw (p.1, p.2) (stops_weaker m (g.T.Tell.fails_with c.args.teller.now) start
+    rw (p.1, p.2) (stops_weaker m (TellFails (g.T.Tell.fails_with c.args.teller.now) (g.M.Memory.refuses c.args.memory.now)) start
     (g.W.Write.contents c.flush.new.output) asked _
     (c.in_err-flush.ensures m start asked (all_answered m start (g.W.Write.contents c.loop-each.output) asked
     c.loop-each.each-index c.loop-each.printer c.loop-each.answers c.loop-each-test.false (c.loop-each.invariant f determines))))

@@ -3,6 +3,7 @@ use Rattle.std.proofs.KnownBytes.{Consumes-nil, Consumes-trans}
 use Rattle.std.specs.Io.KnownBytes.{Consumes}
 use Rattle.std.proofs.lemmas.Result.{err_from_is_err_and}
 use Rattle.dl_dialogue.proofs.DialogueLemmas.{end_answers, fault_answers, nothing_of}
+use Rattle.dl_dialogue.specs.Faults.{TellFails}
 use Rattle.dl_dialogue.proofs.dialogue.answer_lines.Goals as goal
 
 pub loop-init : goal.loop-init
@@ -37,7 +38,7 @@ returns-then-is_empty g c =
     (Consumes-trans _ _ _ _ _ i.1 c.in-Ok.ensures.ok) in (
       i.0,
       all,
-      λ f determines. end_answers (record { style = c.args.style; base = c.args.base; told = f }) c.args.hex (g.T.Tell.fails_with c.args.teller.now) i.0
+      λ f determines. end_answers (record { style = c.args.style; base = c.args.base; told = f }) c.args.hex (TellFails (g.T.Tell.fails_with c.args.teller.now) (g.M.Memory.refuses c.args.memory.now)) i.0
           (g.R.Read.remaining c.next_piece.new.reader) (g.W.Write.contents c.args.output.now)
           (g.W.Write.contents c.end.new.output) c.end.result (c.in-Ok.ensures.end none)
           (c.end.ensures (record { style = c.args.style; base = c.args.base; told = f }) c.args.hex (g.W.Write.contents c.args.output.now) i.0 determines (i.2 f determines)),
@@ -50,7 +51,7 @@ returns-in_err-take g c =
     let p = err_from_is_err_and c.from_residual.result c.from_residual.ensures.1 in (
       bytes,
       Consumes-trans _ _ _ _ _ i.1 c.in-Ok.ensures.ok,
-      λ f determines. rw (p.1, p.2) (fault_answers (record { style = c.args.style; base = c.args.base; told = f }) c.args.hex (g.T.Tell.fails_with c.args.teller.now) bytes
+      λ f determines. rw (p.1, p.2) (fault_answers (record { style = c.args.style; base = c.args.base; told = f }) c.args.hex (TellFails (g.T.Tell.fails_with c.args.teller.now) (g.M.Memory.refuses c.args.memory.now)) bytes
           (g.R.Read.remaining c.next_piece.new.reader) (g.W.Write.contents c.args.output.now)
           (g.W.Write.contents c.take.new.output) _
           (c.in_err-take.ensures (record { style = c.args.style; base = c.args.base; told = f }) c.args.hex (g.W.Write.contents c.args.output.now) i.0 determines

@@ -3,12 +3,13 @@ use Rattle.std.specs.Prelude.{option_map}
 use Rattle.dl_addr.specs.Commands.{is_answered}
 use Rattle.dl_addr.specs.Locations.{location_seen}
 use Rattle.dl_dialogue.proofs.AnswerLemmas.{answers_one, some_mapped, stops_before}
+use Rattle.dl_dialogue.specs.Faults.{TellFails}
 use Rattle.dl_dialogue.proofs.answers.Answers.answer.Goals as goal
 
 pub returns-in-Ok : goal.returns-in-Ok
 returns-in-Ok g c = λ m start before determines stands.
     rw c.written.ensures (answers_one m before c.args.asked start (g.W.Write.contents c.args.output.now)
-    (g.W.Write.contents c.print_location.new.output) c.args.printer.now c.args.self.now stands (g.T.Tell.fails_with c.args.teller.now)
+    (g.W.Write.contents c.print_location.new.output) c.args.printer.now c.args.self.now stands (TellFails (g.T.Tell.fails_with c.args.teller.now) (g.M.Memory.refuses c.args.memory.now))
     (option_map location_seen c.in-Ok.location) c.is_answered.result c.print_location.result c.print_location.new.printer _
     (c.in-Ok.ensures.told m stands.base determines)
     (c.is_answered.ensures ∙ ap (is_answered c.args.asked) (c.is_some.ensures
@@ -17,6 +18,6 @@ returns-in-Ok g c = λ m start before determines stands.
 pub returns-in-Err : goal.returns-in-Err
 returns-in-Err g c = λ m start before determines stands.
     rw c.stopped.ensures (stops_before m before c.args.asked start (g.W.Write.contents c.args.output.now)
-    (g.W.Write.contents c.flush.new.output) c.args.printer.now c.args.self.now stands (g.T.Tell.fails_with c.args.teller.now)
+    (g.W.Write.contents c.flush.new.output) c.args.printer.now c.args.self.now stands (TellFails (g.T.Tell.fails_with c.args.teller.now) (g.M.Memory.refuses c.args.memory.now))
     c.in-Err.fault c.flush.new.self c.flush.result _ c.in-Err.ensures.fails c.flush.ensures.printed
     c.flush.ensures.empty)

@@ -1,7 +1,9 @@
 use Rattle.std.proofs.Common.{◌≡◌, subst, ◌∙◌}
 use Rattle.std.specs.Io.KnownBytes.{Appends}
 use Rattle.dl_asked.specs.AskedLines.{asked_in, ended}
-use Rattle.dl_dialogue.specs.Answers.{found_by, lines_by}
+use Rattle.std.proofs.lemmas.Result.{err_from_is_err_and}
+use Rattle.dl_dialogue.specs.Answers.{StopsBy, found_by, lines_by}
+use Rattle.dl_dialogue.specs.Faults.{TellFails}
 use Rattle.dl_dialogue.proofs.dialogue.Dialogue.end.Goals as goal
 
 pub returns : goal.returns
@@ -15,3 +17,13 @@ returns g c = λ m hex start done determines talks.
       no_address = c.end-asked.ensures.no_address hex done before talks.speaks.line;
       out = subst (λ a. Appends start (g.W.Write.contents c.answer_last.new.output) (lines_by m a)) all out;
     }
+
+pub returns-in_err-answer_last : goal.returns-in_err-answer_last
+returns-in_err-answer_last g c = λ m hex start done determines talks.
+    let before = asked_in hex (ended done) in
+    let p = err_from_is_err_and c.from_residual.result c.from_residual.ensures.1 in
+    let all = c.end-asked.ensures.asked hex done before talks.speaks.line in
+    rw (p.1, p.2) (subst (λ a. StopsBy m
+    (TellFails (g.T.Tell.fails_with c.args.teller.now) (g.M.Memory.refuses c.args.memory.now)) start
+    (g.W.Write.contents c.answer_last.new.output) a c.in_err-answer_last.field-0.0) all
+    (c.in_err-answer_last.ensures m start before determines talks.speaks.answers))

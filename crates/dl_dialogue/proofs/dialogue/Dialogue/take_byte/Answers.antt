@@ -1,11 +1,12 @@
 use Rattle.dl_asked.specs.AskedLines.{asked_in, ended}
 use Rattle.dl_dialogue.proofs.DialogueLemmas.{byte_spoken}
+use Rattle.dl_dialogue.specs.Faults.{TellFails}
 use Rattle.dl_dialogue.proofs.dialogue.Dialogue.take_byte.Goals as goal
 
 pub returns : goal.returns
 returns g c = λ m hex start done determines speaks.
     let before = asked_in hex (ended done) in
-    byte_spoken m hex (g.T.Tell.fails_with c.args.teller.now) start (g.W.Write.contents c.answer_if_asked.new.output) done
+    byte_spoken m hex (TellFails (g.T.Tell.fails_with c.args.teller.now) (g.M.Memory.refuses c.args.memory.now)) start (g.W.Write.contents c.answer_if_asked.new.output) done
     c.args.byte c.take-asked.result c.answer_if_asked.new.printer (record {
       answers = c.answer_if_asked.new.self;
       line = c.take-asked.new.self;

@@ -7,7 +7,7 @@ use Rattle.dl_dialogue.proofs.TellingLemmas.{path_is}
 use Rattle.dl_dialogue.proofs.index_in_memory.IndexRefTell.tell.Goals as goal
 
 pub returns-clause-tells : goal.returns-clause-tells
-returns-clause-tells c = λ is_index.
+returns-clause-tells g c = λ is_index.
     let found = c.in-Some.found in
     let with_path : Option (List ℕ) → Option Location = λ path. Some (record {
       unit = found.unit;
