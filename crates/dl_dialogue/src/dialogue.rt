@@ -97,7 +97,8 @@ impl<'q> Dialogue<'q> {
             (StopsIn m hex (TellFails (T.fails_with teller.now) (M.refuses memory.now)) start (W.contents output.new) (done ++ byte ∷ [])) }
     {
         let asked = self.line.take(byte);
-        self.answers.answer_if_asked(memory, teller, printer, output, asked)
+        self.answers
+            .answer_if_asked(memory, teller, printer, output, asked)
     }
 
     /// Takes the end of the input, and answers the last line, where that lacks its 0x0a.

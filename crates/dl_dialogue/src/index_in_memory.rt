@@ -68,11 +68,7 @@ fn put_texts<M: Memory>(
 }
 
 /// Puts a text behind the others, where there is one.
-fn put_text<M: Memory>(
-    memory: &M,
-    text: Option<&[u8]>,
-    path: &mut Vec<u8>,
-) -> Result<(), TellFault>
+fn put_text<M: Memory>(memory: &M, text: Option<&[u8]>, path: &mut Vec<u8>) -> Result<(), TellFault>
     ensures text { IfOk result (λ _. path.new.items ≡ path.old.items ++ concat (text_told text.entry)) }
     ensures fails { IfErr result (TellFails (λ _. ⊥) (M.refuses memory.now)) }
 {

@@ -17,7 +17,7 @@ use Rattle.dl_index_file.specs.declared.fault.OpenFault.{OpenFault}
 use Rattle.dl_index_file.specs.declared.fault.OpenFault.TheVariants as index
 use Rattle.dl_look.specs.declared.asked.Asked.{Asked}
 use Rattle.dl_open.specs.declared.fault.FileFault.{FileFault}
-use Rattle.dl_work.specs.Answering.{AnswersAsked, AnswersGiven}
+use Rattle.dl_work.specs.Answering.{AnswersAsked, AnswersGiven, SystemFails}
 use Rattle.dl_work.specs.Locate.{asked_in_words}
 use Rattle.dl_work.specs.OverElfFile.{LocatesInElfFile}
 use Rattle.dl_work.specs.OverIndex.{IsNotOpened, LocatesInIndex, location_in}
@@ -31,7 +31,7 @@ module _ (fails wider : Error → Type 0) (more : (e : Error) → fails e → wi
   -- ---- answers
 
   stops_wider : (m : Manner) (start now : Option (List ℕ)) (asked : List Asked) (fault : AnswerFault)
-      → StopsBy m fails start now asked fault → StopsBy m wider start now asked fault
+      → StopsBy m (SystemFails fails) start now asked fault → StopsBy m (SystemFails wider) start now asked fault
   stops_wider m start now asked (Write lost) stops = stops
   stops_wider m start now asked Input stops = stops
   stops_wider m start now asked (Tell (NotRead error)) (answered, others, is, (reads, out)) =
@@ -39,13 +39,13 @@ module _ (fails wider : Error → Type 0) (more : (e : Error) → fails e → wi
   stops_wider m start now asked (Tell NoRoom) stops = stops
 
   all_wider : (m : Manner) (asked : List Asked) (start now : Option (List ℕ)) (r : Result Found AnswerFault)
-      → AnswersAll m fails asked start now r → AnswersAll m wider asked start now r
+      → AnswersAll m (SystemFails fails) asked start now r → AnswersAll m (SystemFails wider) asked start now r
   all_wider m asked start now (Ok found) answers = answers
   all_wider m asked start now (Err fault) stops = stops_wider m start now asked fault stops
 
   lines_wider : (m : Manner) (hex : Bool) (bytes : List ℕ) (left start now : Option (List ℕ))
-      (r : Result Answered AnswerFault) → AnswersLines m hex fails bytes left start now r
-      → AnswersLines m hex wider bytes left start now r
+      (r : Result Answered AnswerFault) → AnswersLines m hex (SystemFails fails) bytes left start now r
+      → AnswersLines m hex (SystemFails wider) bytes left start now r
   lines_wider m hex bytes left start now (Ok answered) answers = answers
   lines_wider m hex bytes left start now (Err Input) out = out
   lines_wider m hex bytes left start now (Err (Write lost)) stops =

@@ -9,9 +9,11 @@ use Rattle.dl_addr.specs.declared.question.Found.{Found}
 use Rattle.dl_cmd.specs.Job.{AddrTexts, Text}
 use Rattle.dl_dialogue.specs.Answers.{AnswersAll, Manner}
 use Rattle.dl_dialogue.specs.Dialogues.{AnswersLines}
+use Rattle.dl_dialogue.specs.Faults.{TellFails}
 use Rattle.dl_dialogue.specs.declared.dialogue.Answered.{Answered}
 use Rattle.dl_dialogue.specs.declared.fault.AnswerFault.{AnswerFault}
 use Rattle.dl_dialogue.specs.declared.fault.AnswerFault.TheVariants as answer
+use Rattle.dl_dialogue.specs.declared.fault.TellFault.{TellFault}
 use Rattle.dl_dialogue.specs.declared.fault.TellFault.TheVariants as tell
 use Rattle.dl_index_file.specs.declared.fault.OpenFault.TheVariants as index
 use Rattle.dl_look.specs.declared.asked.Asked.{Asked}
@@ -35,12 +37,16 @@ abbrev pub answered_given : Result Found AnswerFault → Result Answered AnswerF
 answered_given (Ok found) = Ok (record { found = found; no_address = None })
 answered_given (Err f) = Err f
 
+-- why nothing is told by what fails with such errors; the system may refuse any memory
+abbrev pub SystemFails : (Fails : Error → Type 0) → TellFault → Type 0
+SystemFails Fails = TellFails Fails (λ n. Unit {0})
+
 -- those that were given are answered; where there are none, those that the whole input says
 abbrev pub AnswersGiven : AddrTexts → Manner → (Fails : Error → Type 0) → List Asked → (bytes : List ℕ)
     (left start now : Option (List ℕ)) → Result Answered AnswerFault → Type 0
-AnswersGiven w m Fails [] bytes left start now result = AnswersLines m w.hex Fails bytes left start now result
+AnswersGiven w m Fails [] bytes left start now result = AnswersLines m w.hex (SystemFails Fails) bytes left start now result
 AnswersGiven w m Fails (a ∷ asked) bytes left start now result =
-    (bytes ≡ []) × (found : Result Found AnswerFault) × AnswersAll m Fails (a ∷ asked) start now found
+    (bytes ≡ []) × (found : Result Found AnswerFault) × AnswersAll m (SystemFails Fails) (a ∷ asked) start now found
     × (result ≡ answered_given found)
 
 -- what the words ask for is answered by what f tells

@@ -15,6 +15,7 @@ use dl_cmd::AddrWords;
 use dl_dialogue::{AnswerFault, Answered, Nothing, Tell, TellFault, answer_all, answer_lines};
 use dl_index::open_unchecked;
 use dl_index_file::OpenFault;
+use dl_memory::System;
 use dl_run::RunFault;
 use std::alloc::Global;
 use std::io::{Read, Write};
@@ -35,13 +36,14 @@ pub fn answer_asked<T: Tell, R: Read, W: Write>(
         → AnswersAsked (addr_words_made words.now) f (T.fails_with teller.now) bytes (R.remaining input.new)
         (W.contents output.old) (W.contents output.new) result) }
 {
+    let memory = System::new(alloc);
     let style = style(words, part_name(words));
     if understood.asked.is_empty() {
         let base = understood.base;
-        return answer_lines(alloc, teller, style, base, words.hex, input, output);
+        return answer_lines(&memory, teller, style, base, words.hex, input, output);
     }
     answered_given(answer_all(
-        alloc,
+        &memory,
         teller,
         style,
         understood.base,

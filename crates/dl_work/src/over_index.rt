@@ -25,6 +25,7 @@ use dl_dialogue::{AnswerFault, Answered};
 use dl_elf::{BuildId, ReadAt};
 use dl_index_file::{IndexFile, open_index};
 use dl_making::id_front;
+use dl_memory::System;
 use dl_open::{FileFault, FileSource, open_file};
 use std::alloc::Global;
 use std::io::{Read, Write};
@@ -78,7 +79,7 @@ fn answer_from<S: ReadAt, R: Read, W: Write>(
     if !understood.asked.is_empty() {
         return answer_asked(alloc, words, understood, index, input, output);
     }
-    match index.whole(alloc) {
+    match index.whole(&System::new(alloc)) {
         Some(bytes) => answer_made(alloc, words, understood, bytes.as_slice(), input, output),
         None => answer_asked(alloc, words, understood, index, input, output),
     }
