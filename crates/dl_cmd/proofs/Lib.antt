@@ -1,2 +1,4 @@
 pub mod CommandLineLemmas
+pub mod WordLemmas
+pub mod WordLaws
 pub mod AddressLemmas

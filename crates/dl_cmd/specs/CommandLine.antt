@@ -1,11 +1,7 @@
--- The command line of the program, as clap reads it.
-use Rattle.std.specs.Prelude.{◌≡◌, ℕ, List, false, [], ◌∷◌, Some, codes, true, pos, map}
-use Rattle.std.specs.Borrow.{Bor}
+-- The command line of the program, as clap reads it: none of its arguments has a rule on another one.
+use Rattle.std.specs.Prelude.{◌≡◌, ℕ, false, [], ◌∷◌, Some, codes, true, pos}
 use Rattle.clap.specs.Words.{App, app_of, rule_of, Rule, Text, new_app, new_rule, with_rule, with_subcommand}
-use Rattle.clap.specs.Walk.{texts}
 use Rattle.clap.specs.declared.builder.arg.Arg.{Arg}
-use Rattle.clap.specs.declared.builder.arg.ArgPredicate.{ArgPredicate}
-use Rattle.clap.specs.declared.builder.arg.ArgPredicate.TheVariants.{IsPresent}
 use Rattle.clap.specs.declared.builder.command.Command.{Command}
 use Rattle.clap.specs.declared.builder.command.Command.TheViews.{out-Command}
 use Rattle.clap.specs.declared.builder.ArgAction.TheVariants.{Append, SetTrue}
@@ -36,26 +32,17 @@ op_rule = record (new_rule (codes "op")) {
   defaults = codes "0" ∷ [];
 }
 
--- `FILE`, which excludes other arguments
+-- `FILE`
 abbrev pub file_rule : Rule
-file_rule = record (new_rule (codes "file")) { value_names = 1; is_free = false }
-
--- `FILE` of `addr`, which is wanted unless `-e FILE` is there
-abbrev pub addr_file_rule : Rule
-addr_file_rule = record (new_rule (codes "file")) { value_names = 1; is_free = false }
+file_rule = record (new_rule (codes "file")) { value_names = 1 }
 
 -- `FILE` of `index`, which has to be there
 abbrev pub index_file_rule : Rule
 index_file_rule = record (new_rule (codes "file")) { required = true; value_names = 1 }
 
--- `-o PATH`, or `--output PATH`, which is wanted unless `--list` is there
+-- `-o PATH`, or `--output PATH`
 abbrev pub output_rule : Rule
-output_rule = record (new_rule (codes "output")) {
-  long = Some (codes "output");
-  short = Some 111;
-  value_names = 1;
-  is_free = false;
-}
+output_rule = record (new_rule (codes "output")) { long = Some (codes "output"); short = Some 111; value_names = 1 }
 
 -- `-e FILE`, or `--exe FILE`
 abbrev pub exe_rule : Rule
@@ -73,10 +60,6 @@ base_rule = record (new_rule (codes "base")) { long = Some (codes "base"); value
 abbrev pub section_rule : Rule
 section_rule = record (new_rule (codes "section")) { long = Some (codes "section"); short = Some 106; value_names = 1 }
 
--- the same, which wants `FILE`
-abbrev pub section_of_file_rule : Rule
-section_of_file_rule = record section_rule { is_free = false }
-
 -- `--id`, without a value
 abbrev pub switch_rule : Text → Rule
 switch_rule id = record (new_rule id) { long = Some id; action = Some SetTrue }
@@ -85,44 +68,23 @@ switch_rule id = record (new_rule id) { long = Some id; action = Some SetTrue }
 abbrev pub letter_rule : Text → (letter : ℕ) → Rule
 letter_rule id letter = record (switch_rule id) { short = Some letter }
 
--- `--json`, which excludes `--addresses`
-abbrev pub json_rule : Rule
-json_rule = record (switch_rule (codes "json")) { is_free = false }
-
--- `--list`, which excludes all that is said of an index that is made
-abbrev pub list_rule : Rule
-list_rule = record (switch_rule (codes "list")) { is_free = false }
-
 -- `--id`, with a value
 abbrev pub value_rule : Text → Rule
 value_rule id = record (new_rule id) { long = Some id; value_names = 1 }
 
--- the same, beside which others have to be there
-abbrev pub wanting_rule : Text → Rule
-wanting_rule id = record (value_rule id) { is_free = false }
-
--- `--version-5`, which excludes `--address-size`, and may want FILE
-abbrev pub version_5_rule : Rule
-version_5_rule = record (switch_rule (codes "version-5")) { is_free = false }
-
--- which units of versions 2 to 4 are read
-abbrev pub with_units : App → App
-with_units a =
-    with_rule (with_rule (with_rule a (value_rule (codes "older"))) (wanting_rule (codes "address-size"))) version_5_rule
-
--- the same of a FILE that is always there
+-- which units of versions 2 to 4 are read of a file
 abbrev pub with_units_of_file : App → App
-with_units_of_file a = with_rule (with_rule a (value_rule (codes "address-size"))) version_5_rule
+with_units_of_file a = with_rule (with_rule a (value_rule (codes "address-size"))) (switch_rule (codes "version-5"))
 
--- the same of `addr`, whose FILE may be named by a letter
-abbrev pub with_units_of_addr : App → App
-with_units_of_addr a = with_units_of_file (with_rule a (value_rule (codes "older")))
+-- the same of a file, or of a section on standard input
+abbrev pub with_units : App → App
+with_units a = with_units_of_file (with_rule a (value_rule (codes "older")))
 
 -- units of versions 2 to 4 are copied as those of version 5
 abbrev pub with_to_5 : App → App
 with_to_5 a =
-    with_rule (with_rule (with_rule (with_rule a (switch_rule (codes "to-5"))) (wanting_rule (codes "older")))
-    (wanting_rule (codes "address-size"))) (wanting_rule (codes "comp-dir"))
+    with_rule (with_rule (with_rule (with_rule a (switch_rule (codes "to-5"))) (value_rule (codes "older")))
+    (value_rule (codes "address-size"))) (value_rule (codes "comp-dir"))
 
 -- whether units after a damaged one are read
 abbrev pub with_keep_going : App → App
@@ -140,7 +102,7 @@ with_strings a = with_rule (with_rule (with_rule (with_rule a big_rule) line_str
 abbrev pub with_printing : App → App
 with_printing a =
     with_rule (with_rule (with_rule a (letter_rule (codes "addresses") 97)) (letter_rule (codes "basenames") 115))
-    json_rule
+    (switch_rule (codes "json"))
 
 -- what addresses are asked for, and how they are answered
 abbrev pub with_settings : App → App
@@ -151,9 +113,9 @@ with_settings a =
 abbrev pub with_addresses : App → App
 with_addresses a =
     with_rule (with_rule (with_rule (with_rule (with_rule (with_rule
-    (with_rule (with_rule (with_units_of_addr (with_settings a)) (value_rule (codes "comp-dir")))
+    (with_rule (with_rule (with_units (with_settings a)) (value_rule (codes "comp-dir")))
     (value_rule (codes "for"))) big_rule) line_str_rule) str_rule)
-    exe_rule) addr_file_rule) addresses_rule
+    exe_rule) file_rule) addresses_rule
 
 -- `addr [-a] [-s] [--json] [--hex] [--base ADDRESS] [--all] [--stop] [-j NAME] [--older SIZE] [--address-size SIZE]
 -- [--version-5] [--comp-dir DIR] [--for FILE] [--big] [--line-str PATH] [--str PATH] FILE [ADDRESS]..`, or with `-e FILE` in place
@@ -171,7 +133,8 @@ with_making a =
 -- `index --list FILE`
 abbrev pub index_app : App
 index_app =
-    with_rule (with_rule (with_rule (with_making (new_app (codes "index"))) list_rule) output_rule) index_file_rule
+    with_rule (with_rule (with_rule (with_making (new_app (codes "index"))) (switch_rule (codes "list"))) output_rule)
+    index_file_rule
 
 -- `dump [--keep-going] [--older SIZE] [--address-size SIZE] [--version-5] [--big] [--line-str PATH] [--str PATH]
 -- [FILE]`
@@ -187,7 +150,7 @@ check_app = with_input (with_units (with_keep_going (new_app (codes "check"))))
 abbrev pub find_app : App
 find_app =
     with_strings (with_units (with_rule (with_rule (with_rule (new_app (codes "find")) address_rule) op_rule)
-    section_of_file_rule))
+    section_rule))
 
 -- `copy [--to-5] [--older SIZE] [--address-size SIZE] [--comp-dir DIR] [--big] [FILE]`
 abbrev pub copy_app : App
@@ -213,22 +176,3 @@ IsApp a c = (app_of c ≡ a) × ((out-Command c).has_globals ≡ false)
 -- an argument that isn't global, of which a parse reads this
 abbrev pub IsRule : Rule → Arg → Type 0
 IsRule r a = (rule_of a ≡ r) × (a.global ≡ false)
-
--- it has to be there, unless one of those of these ids is
-abbrev pub IsWantedUnless : List Text → Arg → Type 0
-IsWantedUnless ids a = texts a.r_unless.items ≡ ids
-
--- what an argument wants of another one, by its id
-abbrev pub need_text : ArgPredicate × Bor (List ℕ) → ArgPredicate × Text
-need_text need = (need.0, need.1.now)
-
-abbrev pub present : Text → ArgPredicate × Text
-present id = (IsPresent, id)
-
--- those of these ids have to be there where it is
-abbrev pub Wants : List Text → Arg → Type 0
-Wants ids a = map need_text a.needs.items ≡ map present ids
-
--- it may not be used with those of these ids
-abbrev pub Excludes : List Text → Arg → Type 0
-Excludes ids a = texts a.conflicts.items ≡ ids

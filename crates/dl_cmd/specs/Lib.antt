@@ -2,4 +2,6 @@
 pub mod CommandLine
 pub mod Job
 pub mod Words
+pub mod Refusals
+pub mod Laws
 pub mod Address

@@ -1,39 +1,21 @@
-//! The arguments of the command line, with their help.
-ghost use Rattle.std.specs.Prelude.{IfOk, List, false, [], ◌∷◌, ◌++◌, codes};
-ghost use Rattle.clap.specs.Words.{Rule, Text};
-ghost use Rattle.dl_cmd.specs.CommandLine.{Excludes, IsRule, IsWantedUnless, Wants, addr_file_rule, address_rule};
-ghost use Rattle.dl_cmd.specs.CommandLine.{addresses_rule, base_rule, big_rule, exe_rule, file_rule, index_file_rule};
-ghost use Rattle.dl_cmd.specs.CommandLine.{json_rule, letter_rule, line_str_rule, list_rule, op_rule, output_rule};
-ghost use Rattle.dl_cmd.specs.CommandLine.{section_of_file_rule, section_rule, str_rule, switch_rule, value_rule};
-ghost use Rattle.dl_cmd.specs.CommandLine.{version_5_rule, wanting_rule};
+//! The arguments of the command line, with their help. Which of them may not stand together is in `refusal`, and so is which
+//! have to be there beside others: of arguments that have no rule on one another clap's contract says each kind of error.
+ghost use Rattle.dl_cmd.specs.CommandLine.{IsRule, address_rule, addresses_rule, base_rule, big_rule, exe_rule, file_rule};
+ghost use Rattle.dl_cmd.specs.CommandLine.{index_file_rule, letter_rule, line_str_rule, op_rule, output_rule, section_rule};
+ghost use Rattle.dl_cmd.specs.CommandLine.{str_rule, switch_rule, value_rule};
+ghost use Rattle.std.specs.Prelude.{codes};
 
 use clap::{Arg, ArgAction};
-use std::alloc::{AllocError, Global};
+use std::alloc::Global;
 
-/// The ELF file that is read. It says its order and the size of addresses, so `--big` and `--older` may not be used with
-/// it.
-pub fn file<'a>(alloc: Global) -> Result<Arg<'a>, AllocError>
-    ensures rule { IfOk result (IsRule file_rule) }
-    ensures excludes { IfOk result (Excludes (codes "big" ∷ codes "older" ∷ [])) }
+/// The ELF file that is read.
+pub fn file<'a>(alloc: Global) -> Arg<'a>
+    ensures { IsRule file_rule result }
 {
-    Arg::new(alloc, "file")
-        .value_name("FILE")
-        .help(
-            "ELF file to read; without it the bytes of a section .debug_line are read from \
+    Arg::new(alloc, "file").value_name("FILE").help(
+        "ELF file to read; without it the bytes of a section .debug_line are read from \
              standard input",
-        )
-        .conflicts_with("big")?
-        .conflicts_with("older")
-}
-
-/// The same of a command that looks into string sections. It has these too.
-pub fn file_with_strings<'a>(alloc: Global) -> Result<Arg<'a>, AllocError>
-    ensures rule { IfOk result (IsRule file_rule) }
-    ensures excludes { IfOk result (Excludes (codes "big" ∷ codes "older" ∷ codes "line-str" ∷ codes "str" ∷ [])) }
-{
-    file(alloc)?
-        .conflicts_with("line-str")?
-        .conflicts_with("str")
+    )
 }
 
 pub fn big<'a>(alloc: Global) -> Arg<'a>
@@ -86,8 +68,7 @@ pub fn op<'a>(alloc: Global) -> Arg<'a>
 
 /// The section of an object file in which addresses are looked up, also by the letter that addr2line has for it.
 pub fn section<'a>(alloc: Global) -> Arg<'a>
-    ensures rule { IsRule section_rule result }
-    ensures wants { Wants [] result }
+    ensures { IsRule section_rule result }
 {
     Arg::new(alloc, "section")
         .long("section")
@@ -99,23 +80,13 @@ pub fn section<'a>(alloc: Global) -> Arg<'a>
         )
 }
 
-/// The same of a command whose FILE may be left out: FILE has to be there.
-pub fn section_of_file<'a>(alloc: Global) -> Result<Arg<'a>, AllocError>
-    ensures rule { IfOk result (IsRule section_of_file_rule) }
-    ensures wants { IfOk result (Wants (codes "file" ∷ [])) }
+/// The file of `addr`, which may be `-` beside `--big`, `--line-str` and `--str`.
+pub fn addr_file<'a>(alloc: Global) -> Arg<'a>
+    ensures { IsRule file_rule result }
 {
-    wanting(section(alloc), "file")
-}
-
-/// The file of `addr`, which may be `-` beside `--big`, `--line-str` and `--str`. It is wanted unless `-e` names it.
-pub fn addr_file<'a>(alloc: Global) -> Result<Arg<'a>, AllocError>
-    ensures rule { IfOk result (IsRule addr_file_rule) }
-    ensures wanted { IfOk result (IsWantedUnless (codes "exe" ∷ [])) }
-{
-    Arg::new(alloc, "file")
-        .value_name("FILE")
-        .help("ELF file to read, or - for the bytes of a section .debug_line on standard input")
-        .required_unless_present("exe")
+    Arg::new(alloc, "file").value_name("FILE").help(
+        "ELF file to read, or - for the bytes of a section .debug_line on standard input",
+    )
 }
 
 /// The file of `addr` by a letter, as addr2line and llvm-symbolizer take it. Then each other word is an address.
@@ -139,49 +110,35 @@ pub fn index_file<'a>(alloc: Global) -> Arg<'a>
         .help("ELF file to read, or with --list the index to list")
 }
 
-/// Where the index is written. It is wanted unless one is listed.
-pub fn output<'a>(alloc: Global) -> Result<Arg<'a>, AllocError>
-    ensures rule { IfOk result (IsRule output_rule) }
-    ensures wanted { IfOk result (IsWantedUnless (codes "list" ∷ [])) }
+/// Where the index is written.
+pub fn output<'a>(alloc: Global) -> Arg<'a>
+    ensures { IsRule output_rule result }
 {
     Arg::new(alloc, "output")
         .long("output")
         .short('o')
         .value_name("PATH")
         .help("File to write the index to, or - for standard output")
-        .required_unless_present("list")
 }
 
-/// `--list`. No index is made then, so nothing that is said of one that is made may be used with it.
-pub fn list<'a>(alloc: Global) -> Result<Arg<'a>, AllocError>
-    ensures rule { IfOk result (IsRule list_rule) }
-    ensures excludes { IfOk result (Excludes (codes "output" ∷ codes "all" ∷ codes "keep-going" ∷ codes "section"
-        ∷ codes "address-size" ∷ codes "version-5" ∷ codes "comp-dir" ∷ [])) }
+pub fn list<'a>(alloc: Global) -> Arg<'a>
+    ensures { IsRule (switch_rule (codes "list")) result }
 {
-    let list = switch(
+    switch(
         alloc,
         "list",
         "List the stretches of an index in place of making one",
-    );
-    let list = excluding(Ok(list), "output");
-    let list = excluding(list, "all");
-    let list = excluding(list, "keep-going");
-    let list = excluding(list, "section");
-    let list = excluding(list, "address-size");
-    let list = excluding(list, "version-5");
-    excluding(list, "comp-dir")
+    )
 }
 
-/// `--json`. An object has its address in any case, so `--addresses` may not be used with it.
-pub fn json<'a>(alloc: Global) -> Result<Arg<'a>, AllocError>
-    ensures rule { IfOk result (IsRule json_rule) }
-    ensures excludes { IfOk result (Excludes (codes "addresses" ∷ [])) }
+pub fn json<'a>(alloc: Global) -> Arg<'a>
+    ensures { IsRule (switch_rule (codes "json")) result }
 {
-    Arg::new(alloc, "json")
-        .long("json")
-        .action(ArgAction::SetTrue)
-        .help("Print a JSON object for each address, one a line")
-        .conflicts_with("addresses")
+    switch(
+        alloc,
+        "json",
+        "Print a JSON object for each address, one a line",
+    )
 }
 
 pub fn all<'a>(alloc: Global) -> Arg<'a>
@@ -217,8 +174,7 @@ pub fn base<'a>(alloc: Global) -> Arg<'a>
 
 /// An option `--id` without a value.
 pub fn switch<'a>(alloc: Global, id: &'a str, help: &'a str) -> Arg<'a>
-    ensures rule { IsRule (switch_rule id.entry.now) result }
-    ensures excludes { Excludes [] result }
+    ensures { IsRule (switch_rule id.entry.now) result }
 {
     Arg::new(alloc, id)
         .long(id)
@@ -235,8 +191,7 @@ pub fn letter<'a>(alloc: Global, id: &'a str, short: char, help: &'a str) -> Arg
 
 /// An option `--id` with a value.
 fn valued<'a>(alloc: Global, id: &'a str, value_name: &'a str, help: &'a str) -> Arg<'a>
-    ensures rule { IsRule (value_rule id.entry.now) result }
-    ensures wants { Wants [] result }
+    ensures { IsRule (value_rule id.entry.now) result }
 {
     Arg::new(alloc, id)
         .long(id)
@@ -244,26 +199,8 @@ fn valued<'a>(alloc: Global, id: &'a str, value_name: &'a str, help: &'a str) ->
         .help(help)
 }
 
-/// The same argument, beside which one more has to be there.
-pub fn wanting<'a>(arg: Arg<'a>, id: &'a str) -> Result<Arg<'a>, AllocError>
-    ensures rule { (r : Rule) → IsRule r arg.entry → IfOk result (IsRule (record r { is_free = false })) }
-    ensures wants { (ids : List Text) → Wants ids arg.entry → IfOk result (Wants (ids ++ id.entry.now ∷ [])) }
-{
-    arg.requires_arg(id)
-}
-
-/// The same argument, where it could be made, with which one more may not be used.
-fn excluding<'a>(arg: Result<Arg<'a>, AllocError>, id: &'a str) -> Result<Arg<'a>, AllocError>
-    ensures rule { (r : Rule) → IfOk arg.entry (IsRule r) → IfOk result (IsRule (record r { is_free = false })) }
-    ensures excludes { (ids : List Text) → IfOk arg.entry (Excludes ids)
-        → IfOk result (Excludes (ids ++ id.entry.now ∷ [])) }
-{
-    arg?.conflicts_with(id)
-}
-
 pub fn older<'a>(alloc: Global) -> Arg<'a>
-    ensures rule { IsRule (value_rule (codes "older")) result }
-    ensures wants { Wants [] result }
+    ensures { IsRule (value_rule (codes "older")) result }
 {
     valued(
         alloc,
@@ -275,8 +212,7 @@ pub fn older<'a>(alloc: Global) -> Arg<'a>
 }
 
 pub fn address_size<'a>(alloc: Global) -> Arg<'a>
-    ensures rule { IsRule (value_rule (codes "address-size")) result }
-    ensures wants { Wants [] result }
+    ensures { IsRule (value_rule (codes "address-size")) result }
 {
     valued(
         alloc,
@@ -287,38 +223,14 @@ pub fn address_size<'a>(alloc: Global) -> Arg<'a>
     )
 }
 
-/// The same of a command whose FILE may be left out: FILE has to be there.
-pub fn address_size_of_file<'a>(alloc: Global) -> Result<Arg<'a>, AllocError>
-    ensures rule { IfOk result (IsRule (wanting_rule (codes "address-size"))) }
-    ensures wants { IfOk result (Wants (codes "file" ∷ [])) }
+pub fn version_5<'a>(alloc: Global) -> Arg<'a>
+    ensures { IsRule (switch_rule (codes "version-5")) result }
 {
-    wanting(address_size(alloc), "file")
-}
-
-/// `--version-5`, beside which the size of other addresses means nothing.
-pub fn version_5<'a>(alloc: Global) -> Result<Arg<'a>, AllocError>
-    ensures rule { IfOk result (IsRule version_5_rule) }
-    ensures excludes { IfOk result (Excludes (codes "address-size" ∷ [])) }
-    ensures wants { IfOk result (Wants []) }
-{
-    Arg::new(alloc, "version-5")
-        .long("version-5")
-        .action(ArgAction::SetTrue)
-        .help("Read units of version 5 alone of FILE")
-        .conflicts_with("address-size")
-}
-
-/// The same of a command whose FILE may be left out: FILE has to be there.
-pub fn version_5_of_file<'a>(alloc: Global) -> Result<Arg<'a>, AllocError>
-    ensures rule { IfOk result (IsRule version_5_rule) }
-    ensures wants { IfOk result (Wants (codes "file" ∷ [])) }
-{
-    wanting(version_5(alloc)?, "file")
+    switch(alloc, "version-5", "Read units of version 5 alone of FILE")
 }
 
 pub fn comp_dir<'a>(alloc: Global) -> Arg<'a>
-    ensures rule { IsRule (value_rule (codes "comp-dir")) result }
-    ensures wants { Wants [] result }
+    ensures { IsRule (value_rule (codes "comp-dir")) result }
 {
     valued(
         alloc,
@@ -330,8 +242,7 @@ pub fn comp_dir<'a>(alloc: Global) -> Arg<'a>
 
 /// The file of which an index has to be made. A section on standard input has none.
 pub fn made_of<'a>(alloc: Global) -> Arg<'a>
-    ensures rule { IsRule (value_rule (codes "for")) result }
-    ensures wants { Wants [] result }
+    ensures { IsRule (value_rule (codes "for")) result }
 {
     valued(
         alloc,
@@ -339,12 +250,4 @@ pub fn made_of<'a>(alloc: Global) -> Arg<'a>
         "PATH",
         "ELF file whose build ID the index FILE must have",
     )
-}
-
-/// `--address-size` of `copy`: FILE has to be there, and `--to-5`.
-pub fn size_of_copied<'a>(alloc: Global) -> Result<Arg<'a>, AllocError>
-    ensures rule { IfOk result (IsRule (wanting_rule (codes "address-size"))) }
-    ensures wants { IfOk result (Wants (codes "file" ∷ codes "to-5" ∷ [])) }
-{
-    wanting(address_size_of_file(alloc)?, "to-5")
 }

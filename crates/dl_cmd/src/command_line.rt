@@ -4,14 +4,13 @@ ghost use Rattle.clap.specs.Words.{App, Rule, with_rule, with_subcommand};
 ghost use Rattle.dl_cmd.specs.CommandLine.{IsApp, IsRule, addr_app, check_app, command_line, copy_app, dump_app, find_app};
 ghost use Rattle.dl_cmd.specs.CommandLine.{index_app, top_app, with_addresses, with_input, with_keep_going, with_making};
 ghost use Rattle.dl_cmd.specs.CommandLine.{with_printing, with_settings, with_strings, with_to_5, with_units};
-ghost use Rattle.dl_cmd.specs.CommandLine.{with_units_of_addr, with_units_of_file};
+ghost use Rattle.dl_cmd.specs.CommandLine.{with_units_of_file};
 
 use crate::arguments::{
-    addr_file, address, address_size, address_size_of_file, addresses, all, base, big, comp_dir,
-    exe, file, file_with_strings, index_file, json, letter, line_str, list, made_of, older, op,
-    output, section, section_of_file, size_of_copied, strings, switch, version_5,
-    version_5_of_file, wanting,
+    addr_file, address, address_size, addresses, all, base, big, comp_dir, exe, file, index_file,
+    json, letter, line_str, list, made_of, older, op, output, section, strings, switch, version_5,
 };
+use crate::job::Job;
 use clap::{Arg, Command};
 use std::alloc::{AllocError, Global};
 
@@ -37,17 +36,6 @@ fn with_arg<'a>(
     command?.arg(arg)
 }
 
-/// The command with one argument more, where both could be made.
-fn with_made_arg<'a>(
-    command: Result<Command<'a>, AllocError>,
-    arg: Result<Arg<'a>, AllocError>,
-) -> Result<Command<'a>, AllocError>
-    ensures { (a : App) (r : Rule) → IfOk command.entry (IsApp a) → IfOk arg.entry (IsRule r)
-        → IfOk result (IsApp (with_rule a r)) }
-{
-    with_arg(command, arg?)
-}
-
 /// The command line with one subcommand more, where that could be made.
 fn with_command<'a>(
     line: Command<'a>,
@@ -66,12 +54,10 @@ fn add_units<'a>(
 ) -> Result<Command<'a>, AllocError>
     ensures { (a : App) → IfOk command.entry (IsApp a) → IfOk result (IsApp (with_units a)) }
 {
-    let command = with_arg(command, older(alloc));
-    let command = with_made_arg(command, address_size_of_file(alloc));
-    with_made_arg(command, version_5_of_file(alloc))
+    add_units_of_file(alloc, with_arg(command, older(alloc)))
 }
 
-/// The same of a FILE that is always there.
+/// The same of a FILE that is no section on standard input.
 fn add_units_of_file<'a>(
     alloc: Global,
     command: Result<Command<'a>, AllocError>,
@@ -79,17 +65,7 @@ fn add_units_of_file<'a>(
     ensures { (a : App) → IfOk command.entry (IsApp a) → IfOk result (IsApp (with_units_of_file a)) }
 {
     let command = with_arg(command, address_size(alloc));
-    with_made_arg(command, version_5(alloc))
-}
-
-/// The same of `addr`, whose FILE may be named by a letter.
-fn add_units_of_addr<'a>(
-    alloc: Global,
-    command: Result<Command<'a>, AllocError>,
-) -> Result<Command<'a>, AllocError>
-    ensures { (a : App) → IfOk command.entry (IsApp a) → IfOk result (IsApp (with_units_of_addr a)) }
-{
-    add_units_of_file(alloc, with_arg(command, older(alloc)))
+    with_arg(command, version_5(alloc))
 }
 
 /// `--to-5`, and what is said of the units that it copies.
@@ -105,9 +81,9 @@ fn add_to_5<'a>(
         "Copy units of versions 2 to 4 too, as units of version 5",
     );
     let command = with_arg(command, to_5);
-    let command = with_made_arg(command, wanting(older(alloc), "to-5"));
-    let command = with_made_arg(command, size_of_copied(alloc));
-    with_made_arg(command, wanting(comp_dir(alloc), "to-5"))
+    let command = with_arg(command, older(alloc));
+    let command = with_arg(command, address_size(alloc));
+    with_arg(command, comp_dir(alloc))
 }
 
 /// Whether units after a damaged one are read.
@@ -131,7 +107,7 @@ fn add_input<'a>(
 ) -> Result<Command<'a>, AllocError>
     ensures { (a : App) → IfOk command.entry (IsApp a) → IfOk result (IsApp (with_input a)) }
 {
-    with_made_arg(with_arg(command, big(alloc)), file(alloc))
+    with_arg(with_arg(command, big(alloc)), file(alloc))
 }
 
 fn add_strings<'a>(
@@ -143,7 +119,7 @@ fn add_strings<'a>(
     let command = with_arg(command, big(alloc));
     let command = with_arg(command, line_str(alloc));
     let command = with_arg(command, strings(alloc));
-    with_made_arg(command, file_with_strings(alloc))
+    with_arg(command, file(alloc))
 }
 
 fn dump<'a>(alloc: Global) -> Result<Command<'a>, AllocError>
@@ -181,7 +157,7 @@ fn find<'a>(alloc: Global) -> Result<Command<'a>, AllocError>
         );
     let command = with_arg(Ok(command), address(alloc));
     let command = with_arg(command, op(alloc));
-    let command = with_made_arg(command, section_of_file(alloc));
+    let command = with_arg(command, section(alloc));
     add_strings(alloc, add_units(alloc, command))
 }
 
@@ -218,7 +194,7 @@ fn add_printing<'a>(
         's',
         "Print the last component of each path alone",
     );
-    with_made_arg(with_arg(command, basenames), json(alloc))
+    with_arg(with_arg(command, basenames), json(alloc))
 }
 
 /// How addresses are read and looked up, and how answers are printed.
@@ -248,14 +224,14 @@ fn add_addresses<'a>(
 ) -> Result<Command<'a>, AllocError>
     ensures { (a : App) → IfOk command.entry (IsApp a) → IfOk result (IsApp (with_addresses a)) }
 {
-    let command = add_units_of_addr(alloc, add_settings(alloc, command));
+    let command = add_units(alloc, add_settings(alloc, command));
     let command = with_arg(command, comp_dir(alloc));
     let command = with_arg(command, made_of(alloc));
     let command = with_arg(command, big(alloc));
     let command = with_arg(command, line_str(alloc));
     let command = with_arg(command, strings(alloc));
     let command = with_arg(command, exe(alloc));
-    let command = with_made_arg(command, addr_file(alloc));
+    let command = with_arg(command, addr_file(alloc));
     with_arg(command, addresses(alloc))
 }
 
@@ -296,8 +272,8 @@ fn index<'a>(alloc: Global) -> Result<Command<'a>, AllocError>
             "Examples:\n  dwline index -o program.dli program\n  dwline index --list program.dli",
         );
     let command = add_making(alloc, Ok(command));
-    let command = with_made_arg(command, list(alloc));
-    let command = with_made_arg(command, output(alloc));
+    let command = with_arg(command, list(alloc));
+    let command = with_arg(command, output(alloc));
     with_arg(command, index_file(alloc))
 }
 
@@ -329,4 +305,16 @@ pub fn make_command_line<'a>(alloc: Global) -> Result<Command<'a>, AllocError>
     let line = with_command(line, check(alloc))?;
     let line = with_command(line, find(alloc))?;
     with_command(line, copy(alloc))
+}
+
+/// The subcommand that a job is asked for with, by itself.
+pub fn command_of<'a>(alloc: Global, job: &Job<'_>) -> Result<Command<'a>, AllocError> {
+    match job {
+        Job::Addr(_) => addr(alloc),
+        Job::Index(_) => index(alloc),
+        Job::Dump { .. } => dump(alloc),
+        Job::Check { .. } => check(alloc),
+        Job::Find { .. } => find(alloc),
+        Job::Copy { .. } => copy(alloc),
+    }
 }

@@ -5,8 +5,11 @@ mod address;
 mod arguments;
 mod command_line;
 mod job;
+mod laws;
+mod refusal;
 mod words;
 
 pub use address::{digit_of, read_address, read_hex_address};
 pub use job::{AddrWords, IndexWords, Job, UnitWords};
+pub use laws::{faultless_words, file_excludes_input, refused_words, worked_words};
 pub use words::{read_job, word_status};

@@ -1,14 +1,17 @@
 //! The words of the command line, and the job that they ask for.
 
-ghost use Rattle.std.specs.Prelude.{◌≡◌, Option, IfOk, map, option_map};
-ghost use Rattle.clap.specs.Words.{found_of, kind_of, rows_of, subcommand_of};
+ghost use Rattle.std.specs.Prelude.{◌≡◌, [], Option, IfOk, is_some, map, option_map, true};
+ghost use Rattle.std.specs.Option.{option_map_or};
+ghost use Rattle.clap.specs.Words.{FailsBy, found_of, kind_of, rows_of, subcommand_of};
 ghost use Rattle.dl_cmd.specs.CommandLine.{command_line};
 ghost use Rattle.dl_cmd.specs.Job.{addr_words_made, index_words_made, request_made, unit_words_made};
+ghost use Rattle.dl_cmd.specs.Refusals.{refusal_of, word_faults};
 ghost use Rattle.dl_cmd.specs.Words.{addr_words_of, byte_of, file_and_addresses, flag_of, request_of, requested};
 ghost use Rattle.dl_cmd.specs.Words.{index_words_of, text_of, texts_of, unit_words_of, word_status_of};
 
-use crate::command_line::make_command_line;
+use crate::command_line::{command_of, make_command_line};
 use crate::job::{AddrWords, IndexWords, Job, UnitWords};
+use crate::refusal::{Refusal, why_refused};
 use clap::error::ErrorKind;
 use clap::{ArgMatches, Error};
 use std::alloc::{AllocError, Global};
@@ -162,16 +165,55 @@ fn job_of<'a>(
     Ok(Some(job))
 }
 
-/// The job that the words ask for, the program's name first.
+/// The error of a job that isn't done, with the usage of its subcommand.
+fn error_of(alloc: Global, job: &Job<'_>, refusal: Refusal) -> Result<Error, AllocError>
+    ensures { IfOk result (λ e. kind_of e ≡ refusal.kind) }
+{
+    let command = command_of(alloc, job)?;
+    let name = format!(in alloc; "dwline {}", command.get_name())?;
+    let mut command = command.bin_name(name.as_str())?;
+    command.error(refusal.kind, refusal.message)
+}
+
+/// The job, where its words may stand together.
+fn allowed<'a>(alloc: Global, job: Job<'a>) -> Result<Job<'a>, Error>
+    ensures kinds { FailsBy (refusal_of (request_made job.entry)) result }
+    ensures same { IfOk result (λ r. r ≡ job.entry) }
+{
+    match why_refused(&job) {
+        Some(refusal) => Err(error_of(alloc, &job, refusal)?),
+        None => Ok(job),
+    }
+}
+
+/// The job of the subcommand of this name, where its words may stand together.
+fn asked_job<'a>(
+    alloc: Global,
+    name: &str,
+    matches: &ArgMatches<'a>,
+) -> Result<Option<Job<'a>>, Error>
+    ensures kinds { FailsBy (option_map_or refusal_of (request_of name.now (rows_of (found_of matches.now))) []) result }
+    ensures same { IfOk result (λ job. option_map request_made job
+        ≡ request_of name.now (rows_of (found_of matches.now))) }
+{
+    match job_of(alloc, name, matches)? {
+        Some(job) => Ok(Some(allowed(alloc, job)?)),
+        None => Ok(None),
+    }
+}
+
+/// The job that the words ask for, the program's name first. There is one wherever there is no error.
 ///
 /// The error's text says what isn't understood, or is the help that was asked for.
 pub fn read_job<'a>(alloc: Global, words: &'a [&'a str]) -> Result<Option<Job<'a>>, Error>
-    ensures { IfOk result (λ job. option_map request_made job
+    ensures job { IfOk result (λ job. option_map request_made job
         ≡ requested (subcommand_of command_line (map (λ w. w.now) words.entry.now))) }
+    ensures some { IfOk result (λ job. is_some job ≡ true) }
+    ensures kinds { FailsBy (word_faults (map (λ w. w.now) words.entry.now)) result }
 {
     let matches = make_command_line(alloc)?.try_get_matches_from(words)?;
     match matches.subcommand() {
-        Some((name, inner)) => Ok(job_of(alloc, name, inner)?),
+        Some((name, inner)) => asked_job(alloc, name, inner),
         None => Ok(None),
     }
 }

@@ -2,8 +2,8 @@ use Rattle.dl_cmd.proofs.command_line.add_settings.Goals as goal
 
 pub returns : goal.returns
 returns c = λ a made.
-    let one = c.with_arg-command.ensures _ _ (c.add_printing-command.ensures a made) c.switch-hex.ensures.rule in
+    let one = c.with_arg-command.ensures _ _ (c.add_printing-command.ensures a made) c.switch-hex.ensures in
     let two = c.with_arg-command-2.ensures _ _ one c.base.ensures in
     let three = c.with_arg-command-3.ensures _ _ two c.all.ensures in
-    let four = c.with_arg-command-4.ensures _ _ three c.switch-stop.ensures.rule in
-    c.with_arg.ensures _ _ four c.section.ensures.rule
+    let four = c.with_arg-command-4.ensures _ _ three c.switch-stop.ensures in
+    c.with_arg.ensures _ _ four c.section.ensures

@@ -6,5 +6,5 @@ pub returns : goal.returns
 returns c =
     let one = c.with_arg-command.ensures (new_app (codes "find")) _ (search rules) c.address.ensures in
     let two = c.with_arg-command-2.ensures _ _ one c.op.ensures in
-    let three = c.with_made_arg-command.ensures _ _ two c.section_of_file.ensures.rule in
+    let three = c.with_arg-command-3.ensures _ _ two c.section.ensures in
     c.add_strings.ensures _ (c.add_units.ensures _ three)

@@ -5,6 +5,6 @@ use Rattle.dl_cmd.proofs.command_line.index.Goals as goal
 pub returns : goal.returns
 returns c =
     let one = c.add_making-command.ensures (new_app (codes "index")) (search rules) in
-    let two = c.with_made_arg-command.ensures _ _ one c.list.ensures.rule in
-    let three = c.with_made_arg-command-2.ensures _ _ two c.output.ensures.rule in
+    let two = c.with_arg-command.ensures _ _ one c.list.ensures in
+    let three = c.with_arg-command-2.ensures _ _ two c.output.ensures in
     c.with_arg.ensures _ _ three c.index_file.ensures

@@ -1,0 +1,60 @@
+-- What the laws of this crate say.
+use Rattle.std.specs.Prelude.{◌≡◌, ℕ, Bool, List, [], ◌∷◌, Option, Some, codes, false, is_some, true}
+use Rattle.clap.specs.Words.{fault_of, subcommand_of}
+use Rattle.clap.specs.declared.error.kind.ErrorKind.TheVariants.{ArgumentConflict, DisplayHelp, MissingRequiredArgument}
+use Rattle.clap.specs.declared.error.kind.ErrorKind.TheVariants.{MissingSubcommand, UnknownArgument}
+use Rattle.dl_cmd.specs.CommandLine.{command_line}
+use Rattle.dl_cmd.specs.Job.{Request, Text, UnitTexts, check, copy, dump, find}
+use Rattle.dl_cmd.specs.Refusals.{has_conflict, lacks_word, says_of_input, word_faults}
+use Rattle.dl_cmd.specs.Words.{requested}
+
+-- words without a fault ask for a job
+abbrev pub FaultlessWordsAsk : Type 0
+FaultlessWordsAsk = (words : List Text) → word_faults words ≡ []
+    → is_some (requested (subcommand_of command_line words)) ≡ true
+
+-- whose words may stand together, and of which none is left out
+abbrev pub FaultlessWordsStand : Type 0
+FaultlessWordsStand = (words : List Text) (r : Request) → word_faults words ≡ []
+    → requested (subcommand_of command_line words) ≡ Some r → (has_conflict r ≡ false) × (lacks_word r ≡ false)
+
+-- clap takes the words, and they ask for this
+abbrev pub AskFor : List Text → Request → Type 0
+AskFor words r = (fault_of command_line words ≡ []) × (requested (subcommand_of command_line words) ≡ Some r)
+
+-- words that may not stand together have that fault alone
+abbrev pub ConflictIsFault : Type 0
+ConflictIsFault = (words : List Text) (r : Request) → AskFor words r → has_conflict r ≡ true
+    → word_faults words ≡ ArgumentConflict ∷ []
+
+-- and others of which one is left out have this one
+abbrev pub LackIsFault : Type 0
+LackIsFault = (words : List Text) (r : Request) → AskFor words r → has_conflict r ≡ false → lacks_word r ≡ true
+    → word_faults words ≡ MissingRequiredArgument ∷ []
+
+-- FILE may not stand beside `--big` or `--older`
+abbrev pub FileExcludesInput : Type 0
+FileExcludesInput = (file : Text) (big : Bool) (units : UnitTexts) → says_of_input big units ≡ true
+    → ((line_str strings : Option Text) (keep_going : Bool)
+    → has_conflict (dump (Some file) big units line_str strings keep_going) ≡ true)
+    × ((keep_going : Bool) → has_conflict (check (Some file) big units keep_going) ≡ true)
+    × ((address : Option Text) (op : ℕ) (section line_str strings : Option Text)
+    → has_conflict (find (Some file) big units address op section line_str strings) ≡ true)
+    × ((to_5 : Bool) (comp_dir : Option Text) → has_conflict (copy (Some file) big units to_5 comp_dir) ≡ true)
+
+-- the words of a command line, the program's name first
+abbrev pub words_of : List Text → List Text
+words_of words = codes "dwline" ∷ words
+
+-- the faults of some command lines
+abbrev pub WorkedWords : Type 0
+WorkedWords =
+    (word_faults (words_of (codes "dump" ∷ codes "a" ∷ [])) ≡ [])
+    × (word_faults (words_of (codes "dump" ∷ codes "--big" ∷ codes "a" ∷ [])) ≡ ArgumentConflict ∷ [])
+    × (word_faults (words_of (codes "find" ∷ codes "-j" ∷ codes ".text" ∷ codes "1" ∷ [])) ≡ MissingRequiredArgument ∷ [])
+    × (word_faults (words_of (codes "addr" ∷ codes "-e" ∷ codes "a" ∷ [])) ≡ [])
+    × (word_faults (words_of (codes "addr" ∷ [])) ≡ MissingRequiredArgument ∷ [])
+    × (word_faults (words_of (codes "index" ∷ codes "--list" ∷ codes "a" ∷ [])) ≡ [])
+    × (word_faults (words_of (codes "copy" ∷ codes "--str" ∷ codes "a" ∷ [])) ≡ UnknownArgument ∷ [])
+    × (word_faults (words_of (codes "check" ∷ codes "-h" ∷ [])) ≡ DisplayHelp ∷ [])
+    × (word_faults (words_of []) ≡ MissingSubcommand ∷ [])
