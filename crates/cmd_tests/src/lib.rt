@@ -2,6 +2,8 @@
 #![tactic(auto)]
 
 #[cfg(test)]
+mod addr_words;
+#[cfg(test)]
 mod addresses;
 #[cfg(test)]
 mod index_words;
