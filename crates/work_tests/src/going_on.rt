@@ -113,6 +113,7 @@ fn told<'a>(
     let shelf = Shelf {
         elf: b"",
         failing: (0, 0),
+        others: &[],
     };
     let mut input = section;
     let mut room = output;
@@ -234,6 +235,7 @@ fn looked(
     let shelf = Shelf {
         elf: b"",
         failing: (0, 0),
+        others: &[],
     };
     let words = words(alloc, stop)?;
     let mut input = section;

@@ -96,6 +96,7 @@ fn written<'a>(
     let shelf = Shelf {
         elf,
         failing: (0, 0),
+        others: &[],
     };
     let mut room = output;
     let survey = index(alloc, words, &shelf, &mut room)?;

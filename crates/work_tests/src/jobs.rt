@@ -165,7 +165,11 @@ fn assert_job(rt: &impl Abort, alloc: Global, number: usize, case: &Case) {
     let (elf, failing, command, status, text, line) = *case;
     let mut output = [0; 512];
     let mut errors = [0; 128];
-    let shelf = Shelf { elf, failing };
+    let shelf = Shelf {
+        elf,
+        failing,
+        others: &[],
+    };
     let (found, room, left) = told(alloc, &shelf, command, &mut output, &mut errors);
     let output = output.get(..512usize.saturating_sub(room));
     let errors = errors.get(..128usize.saturating_sub(left));

@@ -2,9 +2,13 @@
 #![tactic(auto)]
 
 #[cfg(test)]
+mod asked;
+#[cfg(test)]
 mod files;
 #[cfg(test)]
 mod going_on;
+#[cfg(test)]
+mod index_bytes;
 #[cfg(test)]
 mod indexed;
 #[cfg(test)]

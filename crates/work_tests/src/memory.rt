@@ -12,6 +12,7 @@ use test_support::hoard;
 const SHELF: Shelf<'_> = Shelf {
     elf: WITH_STRINGS,
     failing: (0, 0),
+    others: &[],
 };
 
 /// What a job comes to for which there is no memory.

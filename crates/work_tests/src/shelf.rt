@@ -1,4 +1,4 @@
-//! A file whose reads may fail, by its paths.
+//! Files by their paths, the reads of one of which may fail.
 use dl_elf::ReadAt;
 use dl_open::FileSource;
 use dl_run::RunFault;
@@ -6,29 +6,43 @@ use std::alloc::Global;
 use std::io;
 use std::io::ErrorKind;
 
-/// The file `elf`, in which no byte from one offset on up to another can be read. It is also installed as the debug
-/// information of the build abcdef.
+/// The file `elf`, in which no byte from one offset on up to another can be read, and others by their paths. It is also
+/// installed as the debug information of the build abcdef.
 #[derive(Clone, Copy)]
 pub struct Shelf<'a> {
     pub elf: &'a [u8],
     pub failing: (u64, u64),
+    pub others: &'a [(&'a str, &'a [u8])],
 }
 
-/// The file, open.
+/// A file, open.
 #[derive(Drop)]
-pub struct Held<'a>(Shelf<'a>);
+pub struct Held<'a> {
+    bytes: &'a [u8],
+    failing: (u64, u64),
+}
+
+/// The bytes of the file at a path.
+fn bytes_at<'a>(files: &'a [(&'a str, &'a [u8])], path: &str) -> Option<&'a [u8]> {
+    for (name, bytes) in files {
+        if *name == path {
+            return Some(*bytes);
+        }
+    }
+    None
+}
 
 impl ReadAt for Held<'_> {
     fn read_at(&self, offset: u64, buffer: &mut [u8]) -> io::Result<usize> {
-        let Shelf { elf, failing } = self.0;
-        let (start, end) = failing;
+        let bytes = self.bytes;
+        let (start, end) = self.failing;
         if start <= offset && offset < end {
             return Err(io::Error::from(ErrorKind::BrokenPipe));
         }
-        let len = elf.len() as u64;
+        let len = bytes.len() as u64;
         let limit = if offset < start { start.min(len) } else { len };
         let from = offset.min(limit) as usize;
-        let rest = &elf[from..limit as usize];
+        let rest = &bytes[from..limit as usize];
         let n = rest.len().min(buffer.len());
         buffer[..n].copy_from_slice(&rest[..n]);
         Ok(n)
@@ -46,8 +60,17 @@ impl<'a> FileSource for Shelf<'a> {
 
     fn open(&self, path: &str) -> io::Result<Held<'a>> {
         match path {
-            "elf" | "/usr/lib/debug/.build-id/ab/cdef.debug" => Ok(Held(*self)),
-            _ => Err(io::Error::from(ErrorKind::NotFound)),
+            "elf" | "/usr/lib/debug/.build-id/ab/cdef.debug" => Ok(Held {
+                bytes: self.elf,
+                failing: self.failing,
+            }),
+            _ => match bytes_at(self.others, path) {
+                Some(bytes) => Ok(Held {
+                    bytes,
+                    failing: (0, 0),
+                }),
+                None => Err(io::Error::from(ErrorKind::NotFound)),
+            },
         }
     }
 
