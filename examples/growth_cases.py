@@ -60,10 +60,11 @@ def files():
 
 
 def indices():
-    """An index of as many units: a look-up takes hardly more."""
+    """An index of as many units: the look-up of an address takes hardly more. Where lines are asked of it, it may be read
+    whole."""
     yield over_file("an index", 1500, ["index", "--list", "made"], lambda n: elf(units(n)))
-    for words in (["addr", "made", FIRST], MADE):
-        yield over_file("an index", 1500, words, lambda n: elf(units(n)), least=0.9, most=1.1)
+    yield over_file("an index", 1500, ["addr", "made", FIRST], lambda n: elf(units(n)), least=0.9, most=1.1)
+    yield over_file("an index", 1500, MADE, lambda n: elf(units(n)), least=0.9)
 
 
 def addresses():

@@ -7,7 +7,8 @@ import zlib
 from dataclasses import dataclass, field
 
 from elf_files import (
-    COMPRESSED, CREL, EXECINSTR, LITTLE_64, OBJECT, RELA, SYMTAB, Form, Section, compact, image, line_unit, relocation, symbol)
+    COMPRESSED, CREL, EXECINSTR, LITTLE_64, OBJECT, RELA, SYMTAB, Form, Section, compact, image, line_unit, relocation,
+    symbol)
 from sections.units import FIELDS, table, uleb, unit_of
 
 # Content codes and forms of the tables.
