@@ -54,9 +54,8 @@ def files():
         (MAKE, 0),
     ]:
         yield over_file("a file", 1500, words, lambda n: elf(units(n)), status)
-    for words in (["check", "elf"], ADDR, MAKE):
+    for words in (["dump", "elf"], ADDR, LINES):
         yield over_file("a compressed file", 1500, words, lambda n: compressed_elf(units(n)))
-    yield over_file("a file of version 4", 1500, MAKE, lambda n: elf(older_units(n)))
 
 
 def indices():

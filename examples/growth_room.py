@@ -33,7 +33,7 @@ def names(length):
 
 def streams():
     """What is read piece by piece. A part has 1024 bytes, 16 rows and a sequence."""
-    yield Room("a section", 1024, 100, lambda n: {"input": wide_units(n)}, [
+    yield Room("a section", 1024, 64, lambda n: {"input": wide_units(n)}, [
         (["dump"], nothing, 0), (["check"], nothing, 0), (["find", NONE], nothing, 1), (["copy"], nothing, 0),
         (["copy", "--to-5"], nothing, 0), (["addr", "-", FIRST], nothing, 0),
     ])
@@ -42,13 +42,13 @@ def streams():
     # has at most 2^24 bytes.
     index = 256
     making = 17 * 110 + 200 + index
-    yield Room("a file", 1024, 100, lambda n: {"input": lines([FIRST]), **elf(wide_units(n))}, [
+    yield Room("a file", 1024, 64, lambda n: {"input": lines([FIRST]), **elf(wide_units(n))}, [
         (["dump", "elf"], nothing, 0), (["check", "elf"], nothing, 0), (["find", NONE, "elf"], nothing, 1),
         (["copy", "elf"], nothing, 0), (ADDR, nothing, 0), (MAKE, lambda n: n * making, 0), (LINES, lambda n: n * making, 0),
         (MADE, lambda n: min(n * index, 1 << 24), 0), (["addr", "made", FIRST, NONE], nothing, 1),
         (["index", "--list", "made"], lambda n: n * index, 0),
     ])
-    yield Room("a compressed file", 1024, 100, lambda n: compressed_elf(wide_units(n)), [
+    yield Room("a compressed file", 1024, 64, lambda n: compressed_elf(wide_units(n)), [
         (["dump", "elf"], nothing, 0), (["check", "elf"], nothing, 0), (["copy", "elf"], nothing, 0), (ADDR, nothing, 0),
     ])
     yield Room("damaged units", 20_000, 10, lambda n: elf(inputs.damaged(n)), [
@@ -60,11 +60,11 @@ def texts():
     """A string section is held where paths are printed, `.debug_str` only where a table names it; a header is held, and by
     `addr` the name of a directory that answers a second time."""
     for form in (LINE_STRP, STRP):
-        yield Room(f"a text of form {form}", 1 << 20, 100, lambda n, form=form: inputs.lent_name(form, n), [
+        yield Room(f"a text of form {form}", 1 << 20, 64, lambda n, form=form: inputs.lent_name(form, n), [
             (["dump", "elf"], names, 0), (["find", FIRST, "elf"], names, 0), (ADDR, names, 0),
             (["check", "elf"], nothing, 0), (["copy", "elf"], nothing, 0),
         ])
-    yield Room("texts that aren't named", 1 << 20, 100, lambda n: elf(units(1), Section(".debug_str", b"n" * n + b"\0")), [
+    yield Room("texts that aren't named", 1 << 20, 64, lambda n: elf(units(1), Section(".debug_str", b"n" * n + b"\0")), [
         (["dump", "elf"], nothing, 0), (ADDR, nothing, 0), (MAKE, nothing, 0),
     ])
     yield Room("a long name", 1 << 20, 16, lambda n: elf(long_name(n)), [
