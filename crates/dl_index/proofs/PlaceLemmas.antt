@@ -1,5 +1,5 @@
 -- Where the texts of an index stand in its bytes.
-use Rattle.std.proofs.Common.{◌≡◌, ℕ, ◌+◌, ◌-◌, ◌*◌, ◌/◌, ◌<◌, ◌≤◌, List, [], ◌∷◌, take, drop, length, length-drop, map, sum, Option, Some, None, refl, sym, ap, subst, ◌∙◌, arith}
+use Rattle.std.proofs.Common.{◌≡◌, ℕ, ◌+◌, ◌-◌, ◌*◌, ◌/◌, ◌<◌, ◌≤◌, List, [], ◌∷◌, take, drop, length, length-drop, Option, Some, None, refl, sym, ap, subst, ◌∙◌, arith}
 use Rattle.std.proofs.lemmas.List.{drop-drop, drop-take, take-take, length-take-le}
 use Rattle.std.proofs.lemmas.Bool.Decides.{nat_tests}
 use Rattle.dl_index.specs.Layout.{texts_in, text_bytes_in, text_place_in, text_len_in, part}
@@ -12,10 +12,10 @@ use Rattle.dl_index.specs.TextsOf.{ArePlacesOf, AreTextsOf, IsPlaceOf}
 use Rattle.dl_index.specs.declared.index.Found.{Found}
 use Rattle.dl_index.specs.declared.index.PathTexts.{PathTexts}
 use Rattle.dl_index.specs.Columns.{size_of}
-use Rattle.dl_index.specs.Layout.{rounded, sizes}
-use Rattle.dl_index.specs.Parts.{Reads, header_sizes}
+use Rattle.dl_index.specs.Layout.{rounded}
+use Rattle.dl_index.specs.Parts.{Reads}
 use Rattle.dl_index.specs.declared.header.Header.{Header}
-use Rattle.dl_index.proofs.PartLemmas.{part_by, sizes_are}
+use Rattle.dl_index.proofs.PartLemmas.{part_by}
 
 -- the number of a text that there is stands for one that lies inside
 pub some_text : (b : List ℕ) (n : ℕ) (text : List ℕ) → text_in b n ≡ Some (text ∷ [])
@@ -71,17 +71,15 @@ after_is h b =
     (one_more (rounded (h.count * size_of h.widths.starts)) 128 _ b refl)))))))
 
 -- the bytes of texts stand at the end
-pub texts_stand : (h : Header) (b rest : List ℕ) (at : ℕ) → Reads h b → 128 + sum (map rounded (sizes b)) ≡ length b
-    → rest ≡ after_eight h b → at ≡ length b - length rest
+pub texts_stand : (h : Header) (b rest : List ℕ) (at left : ℕ) → Reads h b → before_texts h ≤ length b
+    → rounded h.text_bytes + left ≡ length rest → rest ≡ after_eight h b → at ≡ length b - length rest
     → (part b 8 ≡ take (text_bytes_in b) (drop at b)) × (at + text_bytes_in b ≤ length b)
-texts_stand h b rest at r whole is there =
-    let all : 128 + sum (map rounded (header_sizes h)) ≡ length b =
-    ap (λ s. 128 + sum (map rounded s)) (sizes_are r) ∙ whole in
-    let left = ap length is ∙ ap length (after_is h b) ∙ length-drop (before_texts h) b in
-    let before : at ≡ before_texts h = omega arith in
+texts_stand h b rest at left r before whole is there =
+    let there_left = ap length is ∙ ap length (after_is h b) ∙ length-drop (before_texts h) b in
+    let from : at ≡ before_texts h = omega arith in
     let last : take h.text_bytes (after_eight h b) ≡ part b 8 = part_by r 8 in
     let said = r.text_bytes in (
-      sym last ∙ ap (take h.text_bytes) (after_is h b) ∙ ap (λ n. take h.text_bytes (drop n b)) (sym before)
+      sym last ∙ ap (take h.text_bytes) (after_is h b) ∙ ap (λ n. take h.text_bytes (drop n b)) (sym from)
           ∙ ap (λ n. take n (drop at b)) said,
       omega arith,
     )

@@ -39,10 +39,13 @@ pub fn open_unchecked(bytes: &[u8]) -> Result<IndexRef<'_>, IndexFault>
 {
     let front = &bytes[..bytes.len().min(HEADER_LEN)];
     let header = header_of(front, bytes.len() as u64)?;
+    let Some(parts) = cut(bytes, &header) else {
+        return Err(IndexFault::Damaged(IndexPart::Place));
+    };
     Ok(IndexRef {
         bytes,
         base: header.base,
-        parts: cut(bytes, &header),
+        parts,
     })
 }
 
@@ -55,13 +58,18 @@ pub fn reopen(bytes: &[u8]) -> Option<IndexRef<'_>>
     ensures some { IsLaidOut bytes.entry.now → IsSome result }
 {
     let front = &bytes[..bytes.len().min(HEADER_LEN)];
-    let Ok(header) = layout_of(front, bytes.len() as u64) else {
+    let Ok(len) = length_told(front) else {
         return None;
     };
+    if len != bytes.len() as u64 || front[80] > 32 {
+        return None;
+    }
+    let header = read_header(front)?;
+    let parts = cut(bytes, &header)?;
     Some(IndexRef {
         bytes,
         base: header.base,
-        parts: cut(bytes, &header),
+        parts,
     })
 }
 
@@ -79,7 +87,6 @@ pub fn header_of(front: &[u8], len: u64) -> Result<Header, IndexFault>
 }
 
 /// The same without the sum of the header.
-#[inline(always)]
 fn layout_of(front: &[u8], len: u64) -> Result<Header, IndexFault>
     ensures header { (b : List ℕ) → front.now ≡ take 128 b → len ≡ length b → LayoutIs b result }
     ensures fits { IfOk result (λ header. Fits header front.now len) }

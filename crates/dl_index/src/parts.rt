@@ -1,6 +1,7 @@
 //! The parts of an index, which stand one after the other, each from a multiple of 8 on.
 
 ghost use Rattle.std.specs.Prelude.{◌≡◌, ◌+◌, ◌*◌, ◌/◌, ◌<◌, ◌≤◌, ◌^◌, length, take, drop, map, sum};
+ghost use Rattle.std.specs.Prelude.{IfNone, IfSome, IsSome, OnSome};
 ghost use Rattle.dl_index.specs.Columns.{size_of};
 ghost use Rattle.dl_index.specs.Layout.{rounded, sizes};
 ghost use Rattle.dl_index.specs.Parts.{Reads, header_sizes};
@@ -76,49 +77,79 @@ pub fn whole_len(header: &Header) -> u128
         + rounded_up(u128::from(header.text_bytes))
 }
 
-/// The part that bytes begin with, and the bytes after it, from the next multiple of 8 on.
-fn part_at_front(bytes: &[u8], len: usize) -> (&[u8], &[u8])
-    requires { rounded len ≤ length bytes.now }
-    ensures part { result.0.now ≡ take len bytes.entry.now }
-    ensures len { length result.0.now ≡ len }
-    ensures rest { result.1.now ≡ drop (rounded len) bytes.entry.now }
+/// The part that bytes begin with, and the bytes after it, from the next multiple of 8 on. None where there are fewer bytes.
+#[inline(always)]
+fn part_at_front(bytes: &[u8], len: usize) -> Option<(&[u8], &[u8])>
+    ensures part { IfSome result (λ cut. cut.0.now ≡ take len bytes.entry.now) }
+    ensures len { IfSome result (λ cut. length cut.0.now ≡ len) }
+    ensures rest { IfSome result (λ cut. cut.1.now ≡ drop (rounded len) bytes.entry.now) }
+    ensures whole { IfSome result (λ cut. rounded len + length cut.1.now ≡ length bytes.entry.now) }
+    ensures none { IfNone result (length bytes.entry.now < rounded len) }
 {
-    let gap = (8 - len % 8) % 8;
-    (&bytes[..len], &bytes[len + gap..])
+    if len > bytes.len() {
+        return None;
+    }
+    let end = (len + 7) / 8 * 8;
+    if end > bytes.len() {
+        return None;
+    }
+    Some((&bytes[..len], &bytes[end..]))
 }
 
-/// The column that bytes begin with, and the bytes after it, from the next multiple of 8 on.
-fn column_at_front(bytes: &[u8], width: Width, len: usize) -> (Numbers<'_>, &[u8])
-    requires { rounded (len * size_of width) ≤ length bytes.now }
-    ensures len { result.0.len ≡ len }
-    ensures width { result.0.width ≡ width }
-    ensures column { result.0.bytes.now ≡ take (len * size_of width) bytes.entry.now }
-    ensures rest { result.1.now ≡ drop (rounded (len * size_of width)) bytes.entry.now }
+/// The column that bytes begin with, and the bytes after it, from the next multiple of 8 on. None where there are fewer bytes.
+#[inline(always)]
+fn column_at_front(bytes: &[u8], width: Width, len: usize) -> Option<(Numbers<'_>, &[u8])>
+    ensures len { IfSome result (λ cut. cut.0.len ≡ len) }
+    ensures width { IfSome result (λ cut. cut.0.width ≡ width) }
+    ensures column { IfSome result (λ cut. cut.0.bytes.now ≡ take (len * size_of width) bytes.entry.now) }
+    ensures rest { IfSome result (λ cut. cut.1.now ≡ drop (rounded (len * size_of width)) bytes.entry.now) }
+    ensures whole { IfSome result (λ cut. rounded (len * size_of width) + length cut.1.now ≡ length bytes.entry.now) }
+    ensures none { IfNone result (length bytes.entry.now < rounded (len * size_of width)) }
 {
-    let (bytes, rest) = part_at_front(bytes, len * width.size());
-    (Numbers { bytes, width, len }, rest)
+    let size = len.checked_mul(width.size())?;
+    let (bytes, rest) = part_at_front(bytes, size)?;
+    Some((Numbers { bytes, width, len }, rest))
 }
 
-/// The parts of bytes that are as long as their header says.
-pub fn cut<'a>(bytes: &'a [u8], header: &Header) -> Parts<'a>
+/// The rows of a table that bytes begin with, and the bytes after them, from the next multiple of 8 on. None where there are
+/// fewer bytes.
+#[inline(always)]
+fn table_at_front(bytes: &[u8], size: usize, len: usize) -> Option<(&[u8], &[u8])>
+    ensures part { IfSome result (λ cut. cut.0.now ≡ take (len * size) bytes.entry.now) }
+    ensures len { IfSome result (λ cut. length cut.0.now ≡ len * size) }
+    ensures rest { IfSome result (λ cut. cut.1.now ≡ drop (rounded (len * size)) bytes.entry.now) }
+    ensures whole { IfSome result (λ cut. rounded (len * size) + length cut.1.now ≡ length bytes.entry.now) }
+    ensures none { IfNone result (length bytes.entry.now < rounded (len * size)) }
+{
+    part_at_front(bytes, len.checked_mul(size)?)
+}
+
+/// The parts of bytes with this header; None where they don't fill what follows it.
+#[inline(always)]
+pub fn cut<'a>(bytes: &'a [u8], header: &Header) -> Option<Parts<'a>>
     requires reads { Reads header.now bytes.now }
-    requires whole { 128 + sum (map rounded (sizes bytes.now)) ≡ length bytes.now }
-    ensures { ArePartsOf result bytes.entry.now }
+    requires enough { 128 ≤ length bytes.now }
+    ensures parts { IfSome result (λ parts. ArePartsOf parts bytes.entry.now) }
+    ensures fill { OnSome result (128 + sum (map rounded (sizes bytes.entry.now)) ≡ length bytes.entry.now) }
+    ensures some { 128 + sum (map rounded (sizes bytes.entry.now)) ≡ length bytes.entry.now → IsSome result }
 {
     let count = header.count as usize;
     let widths = header.widths;
     let rest = &bytes[HEADER_LEN..];
-    let (starts, rest) = column_at_front(rest, widths.starts, count);
-    let (files, rest) = column_at_front(rest, widths.files, count);
-    let (lines, rest) = column_at_front(rest, widths.lines, count);
-    let (columns, rest) = column_at_front(rest, widths.columns, count);
-    let (discriminators, rest) = column_at_front(rest, widths.discriminators, count);
-    let (statements, rest) = part_at_front(rest, count.div_ceil(8));
-    let (file_table, rest) = part_at_front(rest, header.files as usize * 24);
-    let (text_table, rest) = part_at_front(rest, header.texts as usize * 16);
+    let (starts, rest) = column_at_front(rest, widths.starts, count)?;
+    let (files, rest) = column_at_front(rest, widths.files, count)?;
+    let (lines, rest) = column_at_front(rest, widths.lines, count)?;
+    let (columns, rest) = column_at_front(rest, widths.columns, count)?;
+    let (discriminators, rest) = column_at_front(rest, widths.discriminators, count)?;
+    let (statements, rest) = part_at_front(rest, count.div_ceil(8))?;
+    let (file_table, rest) = table_at_front(rest, 24, header.files as usize)?;
+    let (text_table, rest) = table_at_front(rest, 16, header.texts as usize)?;
     let texts_at = bytes.len() - rest.len();
-    let (texts, _rest) = part_at_front(rest, header.text_bytes as usize);
-    Parts {
+    let (texts, rest) = part_at_front(rest, header.text_bytes as usize)?;
+    if !rest.is_empty() {
+        return None;
+    }
+    Some(Parts {
         starts,
         files,
         lines,
@@ -129,5 +160,5 @@ pub fn cut<'a>(bytes: &'a [u8], header: &Header) -> Parts<'a>
         text_table,
         texts,
         texts_at,
-    }
+    })
 }

@@ -24,18 +24,28 @@ pub trait Starts {
         ensures counted { probes self.new ≡ probes self.old + 1 };
 }
 
-ghost use Rattle.std.specs.Prelude.{◌≡◌, ℕ, ◌+◌, ◌*◌, ◌<◌, ◌≤◌, ◌^◌, if◌then◌else◌};
+ghost use Rattle.std.specs.Prelude.{◌≡◌, ℕ, ◌+◌, ◌*◌, ◌<◌, ◌≤◌, ◌^◌, if◌then◌else◌, nat_le};
 ghost use Rattle.dl_index.specs.LookUp.{Rise, IsLastUpto};
 ghost use Rattle.dl_index.specs.FindFour.{FindFour};
 
 use crate::four::Four;
 
-/// The number where it is asked for, else 0, without a branch.
+/// The number where a start isn't above `x`, else 0. A carry tells it: of a comparison the compiler makes a branch, which
+/// is foretold wrongly every other time.
 #[inline(always)]
-fn where_true(is_asked: bool, number: usize) -> usize
-    ensures { result ≡ (if is_asked then number else 0) }
+fn where_upto(start: u64, x: u64, number: usize) -> usize
+    ensures { result ≡ (if nat_le start x then number else 0) }
 {
-    number * usize::from(is_asked)
+    number * is_upto(start, x)
+}
+
+/// 1 where a start isn't above `x`, else 0.
+#[inline(always)]
+fn is_upto(start: u64, x: u64) -> usize
+    ensures { result ≡ (if nat_le start x then 1 else 0) }
+{
+    let difference = (1 << 64) + u128::from(x) - u128::from(start);
+    (difference >> 64) as usize
 }
 
 /// The last start that isn't above `x`, by no more probes than there are binary digits of their number.
@@ -54,7 +64,7 @@ pub fn last_upto<T: Starts>(starts: &mut T, x: u64) -> usize
     let mut left = starts.len();
     while left > 1 {
         let half = left / 2;
-        low += where_true(starts.at(low + half) <= x, half);
+        low += where_upto(starts.at(low + half), x, half);
         left -= half;
     }
     low
@@ -77,10 +87,10 @@ pub fn last_upto_four<T: Starts>(starts: &mut T, x: Four<u64>) -> Four<usize>
     let mut left = starts.len();
     while left > 1 {
         let half = left / 2;
-        first += where_true(starts.at(first + half) <= x.first, half);
-        second += where_true(starts.at(second + half) <= x.second, half);
-        third += where_true(starts.at(third + half) <= x.third, half);
-        fourth += where_true(starts.at(fourth + half) <= x.fourth, half);
+        first += where_upto(starts.at(first + half), x.first, half);
+        second += where_upto(starts.at(second + half), x.second, half);
+        third += where_upto(starts.at(third + half), x.third, half);
+        fourth += where_upto(starts.at(fourth + half), x.fourth, half);
         left -= half;
     }
     Four {

@@ -1,25 +1,25 @@
-use Rattle.std.proofs.Common.{◌+◌, ◌*◌, ◌/◌, ◌≡◌, take, drop, ap, ap₂, ◌∙◌, arith, refl}
+use Rattle.std.proofs.Common.{◌+◌, ◌*◌, ◌/◌, ◌≡◌, ◌≤◌, take, drop, length, length-drop, ap, ap₂, ◌∙◌, arith, refl}
 use Rattle.dl_index.specs.Columns.{size_of}
 use Rattle.dl_index.specs.Layout.{rounded}
 use Rattle.dl_index.proofs.PartLemmas.{part_by, div_ceil-eight, drop_whole}
-use Rattle.dl_index.proofs.PlaceLemmas.{texts_stand}
+use Rattle.dl_index.proofs.PlaceLemmas.{before_texts, texts_stand}
 use Rattle.dl_index.proofs.parts.cut.Goals as goal
 
-pub returns : goal.returns
-returns c =
+pub returns-clause-parts : goal.returns-clause-parts
+returns-clause-parts c =
     let h = c.args.header.now in
     let r = c.requires.reads in
     let w = r.widths in
     let by = part_by r in
-    let starts = c.column_at_front.ensures in
-    let files = c.column_at_front-2.ensures in
-    let lines = c.column_at_front-3.ensures in
-    let columns = c.column_at_front-4.ensures in
-    let discriminators = c.column_at_front-5.ensures in
-    let statements = c.part_at_front.ensures in
-    let file_table = c.part_at_front-2.ensures in
-    let text_table = c.part_at_front-3.ensures in
-    let texts = c.part_at_front-4.ensures in
+    let starts = c.in_ok-starts.ensures in
+    let files = c.in_ok-files.ensures in
+    let lines = c.in_ok-lines.ensures in
+    let columns = c.in_ok-columns.ensures in
+    let discriminators = c.in_ok-discriminators.ensures in
+    let statements = c.in_ok-statements.ensures in
+    let file_table = c.in_ok-file_table.ensures in
+    let text_table = c.in_ok-text_table.ensures in
+    let texts = c.in_ok-texts.ensures in
     let e0 = drop_whole 128 c.args.bytes.now in
     let e1 = starts.rest ∙ ap (drop (rounded (h.count * size_of h.widths.starts))) e0 in
     let e2 = files.rest ∙ ap (drop (rounded (h.count * size_of h.widths.files))) e1 in
@@ -30,13 +30,24 @@ returns c =
     let e6 = statements.rest ∙ ap₂ (λ n rest. drop (rounded n) rest) half e5 in
     let e7 = file_table.rest ∙ ap (drop (rounded (h.files * 24))) e6 in
     let e8 = text_table.rest ∙ ap (drop (rounded (h.texts * 16))) e7 in
+    let enough = c.requires.enough in
+    let from_header = length-drop 128 c.args.bytes.now in
+    let w0 = starts.whole in
+    let w1 = files.whole in
+    let w2 = lines.whole in
+    let w3 = columns.whole in
+    let w4 = discriminators.whole in
+    let w5 = statements.whole in
+    let w6 = file_table.whole in
+    let w7 = text_table.whole in
     let bits_len = statements.len in
     let files_len = file_table.len in
     let texts_len = text_table.len in
     let same_count = r.count in
     let same_files = r.files in
     let same_texts = r.texts in
-    let there = texts_stand h c.args.bytes.now c.part_at_front-3.result.1.now _ r c.requires.whole e8 refl in
+    let before : before_texts h ≤ length c.args.bytes.now = omega arith in
+    let there = texts_stand h c.args.bytes.now c.in_ok-text_table.rest.now _ _ r before texts.whole e8 refl in
     record {
       starts = record { bytes = starts.column ∙ ap (take (h.count * size_of h.widths.starts)) e0 ∙ by 0; width = ap size_of starts.width ∙ w.starts; len = starts.len ∙ r.count };
       files = record {
