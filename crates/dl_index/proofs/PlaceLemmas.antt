@@ -23,6 +23,20 @@ pub some_text : (b : List ℕ) (n : ℕ) (text : List ℕ) → text_in b n ≡ S
     × (text ≡ text_bytes b (n - 1))
 some_text b n text told = grind (arith, nat_tests)
 
+-- text i, of the number that is one more
+pub text_of : (b : List ℕ) (i n : ℕ) → n - 1 ≡ i → 0 < n → n ≤ texts_in b → text_place_in b i + text_len_in b i ≤ text_bytes_in b
+    → text_in b n ≡ Some (text_bytes b i ∷ [])
+text_of b i n is some there within =
+    let inside = subst (λ j. text_place_in b j + text_len_in b j ≤ text_bytes_in b) (sym is) within in
+    let told : text_in b n ≡ Some (text_bytes b (n - 1) ∷ []) = grind (arith, nat_tests) in
+    told ∙ ap (λ j. Some (text_bytes b j ∷ [])) is
+
+pub no_text_of : (b : List ℕ) (i n : ℕ) → n - 1 ≡ i → 0 < n → text_bytes_in b < text_place_in b i + text_len_in b i
+    → text_in b n ≡ None
+no_text_of b i n is some outside =
+    let without = subst (λ j. text_bytes_in b < text_place_in b j + text_len_in b j) (sym is) outside in
+    grind (arith, nat_tests)
+
 -- bytes of the part that begins at a place
 pub bytes_of_part : (b p : List ℕ) (at all place len : ℕ) → p ≡ take all (drop at b) → at + all ≤ length b → place + len ≤ all
     → StandsAt b (at + place) (take len (drop place p))

@@ -1,20 +1,20 @@
 -- What a stretch tells, from what is read of it.
 use Rattle.std.proofs.Common.{◌≡◌, ℕ, ◌+◌, ◌-◌, ◌*◌, ◌<◌, ◌≤◌, ◌⊎◌, List, Option, Some, None, sym, ap, ap₂, ◌∙◌, arith}
 use Rattle.std.proofs.lemmas.Bool.Decides.{nat_tests}
-use Rattle.std.specs.Borrow.{Bor}
 use Rattle.std.specs.Option.{option_map}
 use Rattle.dl_index.specs.Layout.{field, part, files_in, file_in, unit_in, line_in, column_in, discriminator_in, is_stmt_in, text_number_in}
-use Rattle.dl_index.specs.Shown.{text_told}
+use Rattle.dl_index.specs.TextsOf.{placed_told}
+use Rattle.dl_index.specs.declared.index.PlacedText.{PlacedText}
 use Rattle.dl_index.specs.Stretches.{Told}
 use Rattle.dl_index.specs.Telling.{text_in, with_text, texts_of, told_of, told_in}
 
 module _ (b : List ℕ) (f : ℕ) where
   -- text k of file f, as it was read
-  pub text_by : (k p n : ℕ) (table : List ℕ) (read text : Option (Option (Bor (List ℕ)))) → read ≡ text
-      → option_map text_told read ≡ text_in b n → n ≡ field p 4 table → table ≡ part b 6 → p ≡ f * 24 + 8 + k * 4
-      → option_map text_told text ≡ text_in b (text_number_in b f k)
+  pub text_by : (k p n : ℕ) (table : List ℕ) (read text : Option PlacedText) → read ≡ text
+      → option_map placed_told read ≡ text_in b n → n ≡ field p 4 table → table ≡ part b 6 → p ≡ f * 24 + 8 + k * 4
+      → option_map placed_told text ≡ text_in b (text_number_in b f k)
   text_by k p n table read text is told number at place =
-      sym (ap (option_map text_told) is) ∙ told
+      sym (ap (option_map placed_told) is) ∙ told
       ∙ ap (text_in b) (number ∙ ap₂ (λ q t. field q 4 t) place at)
 
   pub texts_by : (x y z : Option (List (List ℕ))) → x ≡ text_in b (text_number_in b f 0)

@@ -25,6 +25,20 @@ pub struct TextPlaces {
     pub third: usize,
 }
 
+/// A text, or none, and where it stands in the bytes of the index; 0 where there is none.
+#[derive(Clone, Copy)]
+struct PlacedText<'a> {
+    text: Option<&'a [u8]>,
+    place: usize,
+}
+
+/// The texts of a path, and where they stand.
+#[derive(Clone, Copy)]
+struct PlacedPath<'a> {
+    texts: PathTexts<'a>,
+    places: TextPlaces,
+}
+
 /// What is told of an address.
 #[derive(Clone, Copy)]
 pub struct Found<'a> {
@@ -75,9 +89,9 @@ impl<'a> IndexRef<'a> {
     ghost use Rattle.dl_index.specs.Finds.{Finds};
     ghost use Rattle.dl_index.specs.Telling.{text_in, texts_of, told_in, find_in, IsStart};
     ghost use Rattle.dl_index.specs.TextPlaces.{AreAt};
-    ghost use Rattle.dl_index.specs.TextsOf.{AreTextsOf, IsPlaceOf, ArePlacesOf};
+    ghost use Rattle.dl_index.specs.TextsOf.{AreTextsOf, IsPlaceOf, ArePlacesOf, path_told, placed_told};
     ghost use Rattle.dl_index.specs.IsIndex.{IsIndex};
-    ghost use Rattle.dl_index.specs.Shown.{bytes_of, text_told, texts_told, told};
+    ghost use Rattle.dl_index.specs.Shown.{bytes_of, told};
 
     /// The bytes of the index.
     pub fn bytes(&self) -> &'a [u8]
@@ -244,11 +258,11 @@ impl<'a> IndexRef<'a> {
             return None;
         }
         let file = (file - 1) as usize;
-        let texts = self.texts(file)?;
+        let path = self.path(file)?;
         Some(Found {
             unit: long_at(self.parts.file_table, file * 24),
-            texts,
-            places: self.places(file),
+            texts: path.texts,
+            places: path.places,
             line: self.parts.lines.get(k),
             column: self.parts.columns.get(k),
             discriminator: self.parts.discriminators.get(k),
@@ -265,30 +279,54 @@ impl<'a> IndexRef<'a> {
         (self.parts.statements[k / 8] >> (k % 8)) % 2 == 1
     }
 
-    /// The texts of a file, counted from 0; None where one lies outside.
-    fn texts(&self, file: usize) -> Option<PathTexts<'a>>
+    /// The path of a file, counted from 0; None where a text of it lies outside.
+    #[inline(always)]
+    fn path(&self, file: usize) -> Option<PlacedPath<'a>>
         requires { file < files_in (bytes_of self.now) }
-        ensures told { option_map texts_told result ≡ texts_of (bytes_of self.now) file }
-        ensures each { IfSome result (AreTextsOf (bytes_of self.now) file) }
+        ensures told { option_map path_told result ≡ texts_of (bytes_of self.now) file }
+        ensures each { IfSome result (λ path. AreTextsOf (bytes_of self.now) file path.texts) }
+        ensures places { IfSome result (λ path. ArePlacesOf (bytes_of self.now) file path.places) }
     {
         let first = self.text(number_at(self.parts.file_table, file * 24 + 8))?;
         let second = self.text(number_at(self.parts.file_table, file * 24 + 12))?;
         let third = self.text(number_at(self.parts.file_table, file * 24 + 16))?;
-        Some(PathTexts {
-            first,
-            second,
-            third,
+        Some(PlacedPath {
+            texts: PathTexts {
+                first: first.text,
+                second: second.text,
+                third: third.text,
+            },
+            places: TextPlaces {
+                first: first.place,
+                second: second.place,
+                third: third.place,
+            },
         })
     }
 
-    /// The text of a number, counted from 1; no text for 0, and None where it lies outside.
-    fn text(&self, number: u32) -> Option<Option<&'a [u8]>>
-        ensures { option_map text_told result ≡ text_in (bytes_of self.now) number }
+    /// The text of a number, counted from 1; no text for 0, and None where it lies outside. It is read before the number is
+    /// compared with 0, so that no branch waits for the number: which texts a path has changes from file to file.
+    #[inline(always)]
+    fn text(&self, number: u32) -> Option<PlacedText<'a>>
+        ensures told { option_map placed_told result ≡ text_in (bytes_of self.now) number }
+        ensures place { IfSome result (λ placed. IsPlaceOf (bytes_of self.now) number placed.place) }
     {
+        let placed = self.text_at(number.saturating_sub(1) as usize);
         if number == 0 {
-            return Some(None);
+            return Some(PlacedText {
+                text: None,
+                place: 0,
+            });
         }
-        let index = (number - 1) as usize;
+        placed
+    }
+
+    /// Text `index`, counted from 0; None where there is none, or it lies outside.
+    #[inline(always)]
+    fn text_at(&self, index: usize) -> Option<PlacedText<'a>>
+        ensures told { option_map placed_told result ≡ text_in (bytes_of self.now) (index + 1) }
+        ensures place { IfSome result (λ placed. IsPlaceOf (bytes_of self.now) (index + 1) placed.place) }
+    {
         if index >= self.parts.text_table.len() / 16 {
             return None;
         }
@@ -300,33 +338,9 @@ impl<'a> IndexRef<'a> {
             return None;
         }
         let rest = &texts[place as usize..];
-        Some(Some(&rest[..len as usize]))
-    }
-
-    /// Where the texts of a file stand, counted from 0.
-    fn places(&self, file: usize) -> TextPlaces
-        requires { file < files_in (bytes_of self.now) }
-        ensures { ArePlacesOf (bytes_of self.now) file result }
-    {
-        TextPlaces {
-            first: self.place(number_at(self.parts.file_table, file * 24 + 8)),
-            second: self.place(number_at(self.parts.file_table, file * 24 + 12)),
-            third: self.place(number_at(self.parts.file_table, file * 24 + 16)),
-        }
-    }
-
-    /// Where the text of a number stands, counted from 1; 0 where there is none of that number.
-    fn place(&self, number: u32) -> usize
-        ensures { IsPlaceOf (bytes_of self.now) number result }
-    {
-        if number == 0 {
-            return 0;
-        }
-        let index = (number - 1) as usize;
-        if index >= self.parts.text_table.len() / 16 {
-            return 0;
-        }
-        let place = long_at(self.parts.text_table, index * 16);
-        self.parts.texts_at.saturating_add(place as usize)
+        Some(PlacedText {
+            text: Some(&rest[..len as usize]),
+            place: self.parts.texts_at + place as usize,
+        })
     }
 }

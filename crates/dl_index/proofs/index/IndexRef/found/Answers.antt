@@ -1,7 +1,8 @@
 use Rattle.std.proofs.Common.{◌-◌, ◌*◌, inl, inr, refl, sym, ap, ◌∙◌, arith}
 use Rattle.std.specs.Option.{option_map}
 use Rattle.dl_index.specs.Layout.{field, file_in}
-use Rattle.dl_index.specs.Shown.{bytes_of, texts_told, told}
+use Rattle.dl_index.specs.Shown.{bytes_of, told}
+use Rattle.dl_index.specs.TextsOf.{path_told}
 use Rattle.dl_index.specs.Telling.{told_of, texts_of}
 use Rattle.dl_index.proofs.ColumnLemmas.{entry_is}
 use Rattle.dl_index.proofs.TellLemmas.{tells_nothing, tells, tells_these}
@@ -21,8 +22,8 @@ returns-then-file-eq0-clause-told c =
       | then-file-eq0-via-else-file-eq0+then-file-self w ↦ inr (let above = w.if-file-self.true in omega arith)
     ]))
 
-pub returns-in_err-texts-clause-told : goal.returns-in_err-texts-clause-told
-returns-in_err-texts-clause-told c =
+pub returns-in_err-path-clause-told : goal.returns-in_err-path-clause-told
+returns-in_err-path-clause-told c =
     let self = c.args.self.now in
     let b = bytes_of self in
     let k = c.args.k in
@@ -31,7 +32,7 @@ returns-in_err-texts-clause-told c =
     let some = c.if-file-eq0.false in
     let within = c.if-file-self.false in
     let none =
-    sym (ap (option_map texts_told) c.in_err-texts.was) ∙ c.texts.ensures.told ∙ ap (λ f. texts_of b (f - 1)) file in
+    sym (ap (option_map path_told) c.in_err-path.was) ∙ c.path.ensures.told ∙ ap (λ f. texts_of b (f - 1)) file in
     ap (option_map told) c.from_residual.ensures ∙ ap (option_map (told_of b k (file_in b k - 1))) none
     ∙ sym (tells b k (omega arith) (omega arith))
 
@@ -46,12 +47,12 @@ returns-clause-told c =
     let some = c.if-file-eq0.false in
     let within = c.if-file-self.false in
     tells_these b k (f - 1) _ (omega arith) (omega arith) (ap (λ n. n - 1) file)
-    (sym (ap (option_map texts_told) c.in_ok-texts.was) ∙ c.texts.ensures.told)
+    (sym (ap (option_map path_told) c.in_ok-path.was) ∙ c.path.ensures.told)
     (c.long_at.ensures ∙ ap (field ((f - 1) * 24) 8) self.cut.file_table) (c.get.ensures ∙ entry_is self.cut.lines k)
     (c.get-2.ensures ∙ entry_is self.cut.columns k) (c.get-3.ensures ∙ entry_is self.cut.discriminators k)
     c.is_stmt.ensures
 
 pub returns-clause-places : goal.returns-clause-places
 returns-clause-places c =
-    texts_are_at (bytes_of c.args.self.now) (c.get-file.result - 1) _ c.in_ok-texts.texts c.in_ok-texts.ensures.each
-    c.places.ensures refl
+    texts_are_at (bytes_of c.args.self.now) (c.get-file.result - 1) _ c.in_ok-path.path.texts c.in_ok-path.ensures.each
+    c.in_ok-path.ensures.places refl
