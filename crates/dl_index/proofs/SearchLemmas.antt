@@ -73,19 +73,20 @@ module _ (start now : ℕ → ℕ) (count count' x low left probes : ℕ) (a : A
         few = omega arith;
       }
 
-  pub goes_on : (n step : ℕ) → n ≡ start (low + half) → step ≡ (if nat_le n x then half else 0)
-      → Among start now' count count'' x (low + step) (left - half) (probes + 1)
+  pub goes_on : (n step : ℕ) → n ≡ start (low + half) → step ≡ (if nat_le n x then 0 else half)
+      → Among start now' count count'' x (low + half - step) (left - half) (probes + 1)
   goes_on n step value is =
       ⊎_elim
       (λ upto.
-      (let all : half ≡ step = sym (is ∙ ap (λ t. if t then half else 0) upto.0) in
+      (let none : step ≡ 0 = is ∙ ap (λ t. if t then 0 else half) upto.0 in
+      let there : low + half ≡ low + half - step = omega arith in
       subst
-      (λ m. Among start now' count count'' x (low + m) (left - half) (probes + 1))
-      all
+      (λ m. Among start now' count count'' x m (left - half) (probes + 1))
+      there
       (goes_up (subst (λ m. m ≤ x) value upto.1))))
       (λ above.
-      (let none : step ≡ 0 = is ∙ ap (λ t. if t then half else 0) above.0 in
-      let here : low ≡ low + step = omega arith in
+      (let all : step ≡ half = is ∙ ap (λ t. if t then 0 else half) above.0 in
+      let here : low ≡ low + half - step = omega arith in
       subst
       (λ m. Among start now' count count'' x m (left - half) (probes + 1))
       here

@@ -24,28 +24,27 @@ pub trait Starts {
         ensures counted { probes self.new ≡ probes self.old + 1 };
 }
 
-ghost use Rattle.std.specs.Prelude.{◌≡◌, ℕ, ◌+◌, ◌*◌, ◌<◌, ◌≤◌, ◌^◌, if◌then◌else◌, nat_le};
+ghost use Rattle.std.specs.Prelude.{◌≡◌, ℕ, ◌+◌, ◌*◌, ◌-◌, ◌<◌, ◌≤◌, ◌^◌, if◌then◌else◌, nat_le};
 ghost use Rattle.dl_index.specs.LookUp.{Rise, IsLastUpto};
 ghost use Rattle.dl_index.specs.FindFour.{FindFour};
 
 use crate::four::Four;
 
-/// The number where a start isn't above `x`, else 0. A carry tells it: of a comparison the compiler makes a branch, which
-/// is foretold wrongly every other time.
+/// The number where a start is above `x`, else 0. The borrow of their difference tells it: of a comparison the compiler
+/// makes a branch, which the processor foretells wrongly every other time.
 #[inline(always)]
-fn where_upto(start: u64, x: u64, number: usize) -> usize
-    ensures { result ≡ (if nat_le start x then number else 0) }
+fn where_above(start: u64, x: u64, number: usize) -> usize
+    ensures { result ≡ (if nat_le start x then 0 else number) }
 {
-    number * is_upto(start, x)
+    number & borrow(start, x)
 }
 
-/// 1 where a start isn't above `x`, else 0.
+/// All 64 bits where a start is above `x`, else none.
 #[inline(always)]
-fn is_upto(start: u64, x: u64) -> usize
-    ensures { result ≡ (if nat_le start x then 1 else 0) }
+fn borrow(start: u64, x: u64) -> usize
+    ensures { result ≡ (if nat_le start x then 0 else 2 ^ 64 - 1) }
 {
-    let difference = (1 << 64) + u128::from(x) - u128::from(start);
-    (difference >> 64) as usize
+    (u128::from(x).wrapping_sub(u128::from(start)) >> 64) as usize
 }
 
 /// The last start that isn't above `x`, by no more probes than there are binary digits of their number.
@@ -64,7 +63,8 @@ pub fn last_upto<T: Starts>(starts: &mut T, x: u64) -> usize
     let mut left = starts.len();
     while left > 1 {
         let half = left / 2;
-        low += where_upto(starts.at(low + half), x, half);
+        low += half;
+        low -= where_above(starts.at(low), x, half);
         left -= half;
     }
     low
@@ -87,10 +87,14 @@ pub fn last_upto_four<T: Starts>(starts: &mut T, x: Four<u64>) -> Four<usize>
     let mut left = starts.len();
     while left > 1 {
         let half = left / 2;
-        first += where_upto(starts.at(first + half), x.first, half);
-        second += where_upto(starts.at(second + half), x.second, half);
-        third += where_upto(starts.at(third + half), x.third, half);
-        fourth += where_upto(starts.at(fourth + half), x.fourth, half);
+        first += half;
+        first -= where_above(starts.at(first), x.first, half);
+        second += half;
+        second -= where_above(starts.at(second), x.second, half);
+        third += half;
+        third -= where_above(starts.at(third), x.third, half);
+        fourth += half;
+        fourth -= where_above(starts.at(fourth), x.fourth, half);
         left -= half;
     }
     Four {

@@ -11,4 +11,4 @@ loop-left-preserved g c =
     let found = e.value ∙ ap (λ f. f (l.low + l.left / 2)) a.same in
     rw
     e.counted
-    (goes_on start _ _ _ _ _ _ _ a c.loop-left-test.true _ _ e.same e.count _ _ found c.where_upto-low.ensures)
+    (goes_on start _ _ _ _ _ _ _ a c.loop-left-test.true _ _ e.same e.count _ _ found c.where_above-low.ensures)

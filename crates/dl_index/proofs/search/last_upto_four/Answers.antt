@@ -28,8 +28,8 @@ loop-left-preserved g c =
     record {
       steps = i.steps + 1;
       probed = more;
-      of_first = goes_on start _ _ _ _ _ _ _ i.of_first two _ _ same count _ _ found1 c.where_upto-first.ensures;
-      of_second = goes_on start _ _ _ _ _ _ _ i.of_second two _ _ same count _ _ found2 c.where_upto-second.ensures;
-      of_third = goes_on start _ _ _ _ _ _ _ i.of_third two _ _ same count _ _ found3 c.where_upto-third.ensures;
-      of_fourth = goes_on start _ _ _ _ _ _ _ i.of_fourth two _ _ same count _ _ found4 c.where_upto-fourth.ensures;
+      of_first = goes_on start _ _ _ _ _ _ _ i.of_first two _ _ same count _ _ found1 c.where_above-first.ensures;
+      of_second = goes_on start _ _ _ _ _ _ _ i.of_second two _ _ same count _ _ found2 c.where_above-second.ensures;
+      of_third = goes_on start _ _ _ _ _ _ _ i.of_third two _ _ same count _ _ found3 c.where_above-third.ensures;
+      of_fourth = goes_on start _ _ _ _ _ _ _ i.of_fourth two _ _ same count _ _ found4 c.where_above-fourth.ensures;
     }
