@@ -304,21 +304,19 @@ impl<'a> IndexRef<'a> {
         })
     }
 
-    /// The text of a number, counted from 1; no text for 0, and None where it lies outside. It is read before the number is
-    /// compared with 0, so that no branch waits for the number: which texts a path has changes from file to file.
+    /// The text of a number, counted from 1; no text for 0, and None where it lies outside.
     #[inline(always)]
     fn text(&self, number: u32) -> Option<PlacedText<'a>>
         ensures told { option_map placed_told result ≡ text_in (bytes_of self.now) number }
         ensures place { IfSome result (λ placed. IsPlaceOf (bytes_of self.now) number placed.place) }
     {
-        let placed = self.text_at(number.saturating_sub(1) as usize);
         if number == 0 {
             return Some(PlacedText {
                 text: None,
                 place: 0,
             });
         }
-        placed
+        self.text_at((number - 1) as usize)
     }
 
     /// Text `index`, counted from 0; None where there is none, or it lies outside.

@@ -1,4 +1,4 @@
-use Rattle.std.proofs.Common.{◌≡◌, ◌+◌, IfSome, ap, subst, ◌∙◌, arith}
+use Rattle.std.proofs.Common.{◌≡◌, ◌+◌, ◌-◌, IfSome, ap, subst, ◌∙◌, arith}
 use Rattle.dl_index.specs.Shown.{bytes_of}
 use Rattle.dl_index.specs.Telling.{text_in}
 use Rattle.dl_index.specs.TextsOf.{IsPlaceOf}
@@ -7,16 +7,14 @@ use Rattle.dl_index.proofs.index.IndexRef.text.Goals as goal
 
 pub returns-clause-told : goal.returns-clause-told
 returns-clause-told c =
-    let less = c.saturating_sub.ensures in
     let some = c.if-number-eq0.false in
-    let same : c.saturating_sub.result + 1 ≡ c.args.number = omega arith in
-    c.text_at-placed.ensures.told ∙ ap (text_in (bytes_of c.args.self.now)) same
+    let same : c.args.number - 1 + 1 ≡ c.args.number = omega arith in
+    c.text_at.ensures.told ∙ ap (text_in (bytes_of c.args.self.now)) same
 
 pub returns-clause-place : goal.returns-clause-place
 returns-clause-place c =
-    let less = c.saturating_sub.ensures in
     let some = c.if-number-eq0.false in
-    let same : c.saturating_sub.result + 1 ≡ c.args.number = omega arith in
+    let same : c.args.number - 1 + 1 ≡ c.args.number = omega arith in
     subst
-    (λ n. IfSome c.text_at-placed.result (λ (placed : PlacedText). IsPlaceOf (bytes_of c.args.self.now) n placed.place))
-    same c.text_at-placed.ensures.place
+    (λ n. IfSome c.text_at.result (λ (placed : PlacedText). IsPlaceOf (bytes_of c.args.self.now) n placed.place))
+    same c.text_at.ensures.place
