@@ -86,7 +86,7 @@ impl<'a> IndexRef<'a> {
     ghost use Rattle.dl_index.specs.Layout.{flags_in, build_id_in, base_in, count_in, files_in, start_in};
     ghost use Rattle.dl_index.specs.Layout.{is_stmt_in};
     ghost use Rattle.dl_index.specs.LookUp.{Rise, IsLastUpto, FindsLast};
-    ghost use Rattle.dl_index.specs.Finds.{Finds};
+    ghost use Rattle.dl_index.specs.Finds.{FindStretches, Finds};
     ghost use Rattle.dl_index.specs.Telling.{text_in, texts_of, told_in, find_in, IsStart};
     ghost use Rattle.dl_index.specs.TextPlaces.{AreAt};
     ghost use Rattle.dl_index.specs.TextsOf.{AreTextsOf, IsPlaceOf, ArePlacesOf, path_told, placed_told};
@@ -169,21 +169,14 @@ impl<'a> IndexRef<'a> {
         ensures third { Finds (bytes_of self.now) addresses.third result.third }
         ensures fourth { Finds (bytes_of self.now) addresses.fourth result.fourth }
     {
-        if self.parts.starts.len == 0 {
+        let Some(k) = self.last_upto_four(addresses) else {
             return Four {
                 first: None,
                 second: None,
                 third: None,
                 fourth: None,
             };
-        }
-        let base = self.base;
-        let k = self.parts.starts.last_upto_four(Four {
-            first: addresses.first.saturating_sub(base),
-            second: addresses.second.saturating_sub(base),
-            third: addresses.third.saturating_sub(base),
-            fourth: addresses.fourth.saturating_sub(base),
-        });
+        };
         Four {
             first: self.found_from(addresses.first, k.first),
             second: self.found_from(addresses.second, k.second),
@@ -192,9 +185,30 @@ impl<'a> IndexRef<'a> {
         }
     }
 
+    /// The last stretch that doesn't begin above each of four addresses, for [`IndexRef::found_from`], side by side; the first
+    /// one of an address below the base. None where there is no stretch.
+    #[inline(always)]
+    pub fn last_upto_four(&self, addresses: Four<u64>) -> Option<Four<usize>>
+        ensures none { IfNone result (count_in (bytes_of self.now) ≡ 0) }
+        ensures last { IfSome result (FindStretches (bytes_of self.now) addresses) }
+    {
+        if self.parts.starts.len == 0 {
+            return None;
+        }
+        let base = self.base;
+        Some(
+            self.parts.starts.last_upto_four(Four {
+                first: addresses.first.saturating_sub(base),
+                second: addresses.second.saturating_sub(base),
+                third: addresses.third.saturating_sub(base),
+                fourth: addresses.fourth.saturating_sub(base),
+            }),
+        )
+    }
+
     /// What is told of an address, where `k` is the last stretch that doesn't begin above it; nothing below the base.
     #[inline(always)]
-    fn found_from(&self, address: u64, k: usize) -> Option<Found<'a>>
+    pub fn found_from(&self, address: u64, k: usize) -> Option<Found<'a>>
         requires { let b = bytes_of self.now in FindsLast (start_in b) (count_in b) (address - base_in b) k }
         ensures { Finds (bytes_of self.now) address result }
     {
