@@ -46,7 +46,7 @@ pub fn find_many(bytes: &[u8], addresses: &[u64], locations: &mut [LocationRecor
     Status::Done
 }
 
-/// Tells what an index tells of each address.
+/// Tells what an index tells of each address. Where there is no stretch, the addresses are looked up one by one.
 fn locate_all(index: &IndexRef<'_>, addresses: &[u64], locations: &mut [LocationRecord])
     requires { length addresses.now ≡ length locations.old }
     ensures len { length locations.new ≡ length addresses.now }
@@ -55,16 +55,19 @@ fn locate_all(index: &IndexRef<'_>, addresses: &[u64], locations: &mut [Location
 {
     let mut i = 0;
     while addresses.len() - i >= 4 {
-        let four = index.find_four(Four {
+        let four = Four {
             first: addresses[i],
             second: addresses[i + 1],
             third: addresses[i + 2],
             fourth: addresses[i + 3],
-        });
-        locations[i] = LocationRecord::of(four.first);
-        locations[i + 1] = LocationRecord::of(four.second);
-        locations[i + 2] = LocationRecord::of(four.third);
-        locations[i + 3] = LocationRecord::of(four.fourth);
+        };
+        let Some(last) = index.last_upto_four(four) else {
+            break;
+        };
+        locations[i] = LocationRecord::of(index.found_from(four.first, last.first));
+        locations[i + 1] = LocationRecord::of(index.found_from(four.second, last.second));
+        locations[i + 2] = LocationRecord::of(index.found_from(four.third, last.third));
+        locations[i + 3] = LocationRecord::of(index.found_from(four.fourth, last.fourth));
         i += 4;
     }
     for k in i..addresses.len() {
