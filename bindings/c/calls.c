@@ -3,6 +3,7 @@
  * elements, and take none that is null: where there is nothing, the address of `nowhere` is handed in.
  */
 #include <boxantrel.h>
+#include <stddef.h>
 #include <stdlib.h>
 
 uint32_t boxantrel_check(const uint8_t *section, size_t len, uint8_t how, dl_counts *counts, dl_fault *fault);
@@ -178,42 +179,46 @@ uint32_t dl_index_open_unchecked(const uint8_t *bytes, size_t len, dl_index *ind
     return status;
 }
 
-/* A record's numbers, with pointers to the texts, which lie in the bytes of the index. */
-static void tell_location(const dl_index *index, const struct location_record *record, dl_location *location)
+/* A location has its numbers where a record has them, and pointers to the texts where that has their places. */
+_Static_assert(sizeof(dl_location) == sizeof(struct location_record) && sizeof(bool) == sizeof(uint8_t)
+                   && sizeof(const uint8_t *) == sizeof(size_t)
+                   && offsetof(dl_location, texts) == offsetof(struct location_record, texts)
+                   && offsetof(dl_location, is_stmt) == offsetof(struct location_record, is_stmt)
+                   && offsetof(dl_location, is_found) == offsetof(struct location_record, is_found),
+               "a location is laid out as a record");
+
+/* Where a record is written that becomes a location: at its place, so that it isn't copied. */
+static struct location_record *record_at(dl_location *location)
 {
-    location->unit = record->unit;
-    location->line = record->line;
-    location->column = record->column;
-    location->discriminator = record->discriminator;
-    for (int i = 0; i < 3; i++) {
-        location->texts[i].bytes = index->bytes + record->texts[i].place;
-        location->texts[i].len = record->texts[i].len;
-    }
-    location->is_stmt = record->is_stmt != 0;
-    location->has_path = record->has_path != 0;
-    location->is_found = record->is_found != 0;
+    return (struct location_record *)location;
+}
+
+/* Puts pointers to the texts, which lie in the bytes of the index, where a record that was written has their places. */
+static void point(const dl_index *index, dl_location *location)
+{
+    for (int i = 0; i < 3; i++)
+        location->texts[i].bytes = index->bytes + (size_t)location->texts[i].bytes;
 }
 
 uint32_t dl_index_find(const dl_index *index, uint64_t address, dl_location *location)
 {
-    struct location_record record;
-    uint32_t status = boxantrel_index_find(from(index->bytes, index->len), index->len, address, &record);
+    uint32_t status =
+        boxantrel_index_find(from(index->bytes, index->len), index->len, address, record_at(location));
     if (status == DL_DONE)
-        tell_location(index, &record, location);
+        point(index, location);
     return status;
 }
 
 /* One number of addresses and locations, as many at once as there is room for. */
 uint32_t dl_index_find_many(const dl_index *index, const uint64_t *addresses, size_t count, dl_location *locations)
 {
-    struct location_record records[AT_ONCE];
     uint32_t status = DL_DONE;
     for (size_t done = 0; done < count && status == DL_DONE; done += AT_ONCE) {
         size_t some = count - done < AT_ONCE ? count - done : AT_ONCE;
-        status = boxantrel_index_find_many(from(index->bytes, index->len), index->len, addresses + done, some, records,
-                                           some);
+        status = boxantrel_index_find_many(from(index->bytes, index->len), index->len, addresses + done, some,
+                                           record_at(locations + done), some);
         for (size_t i = 0; i < some && status == DL_DONE; i++)
-            tell_location(index, &records[i], &locations[done + i]);
+            point(index, &locations[done + i]);
     }
     return status;
 }
@@ -230,11 +235,10 @@ size_t dl_index_path(const dl_index *index, const dl_location *location, uint8_t
 
 uint32_t dl_index_stretch(const dl_index *index, size_t number, uint64_t *start, uint64_t *last, dl_location *location)
 {
-    struct location_record record;
-    uint32_t status =
-        boxantrel_index_stretch(from(index->bytes, index->len), index->len, number, start, last, &record);
+    uint32_t status = boxantrel_index_stretch(from(index->bytes, index->len), index->len, number, start, last,
+                                              record_at(location));
     if (status == DL_DONE)
-        tell_location(index, &record, location);
+        point(index, location);
     return status;
 }
 
