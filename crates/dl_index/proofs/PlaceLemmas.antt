@@ -85,18 +85,19 @@ after_is h b =
     (one_more (rounded (h.count * size_of h.widths.starts)) 128 _ b refl)))))))
 
 -- the bytes of texts stand at the end
-pub texts_stand : (h : Header) (b rest : List ℕ) (at left : ℕ) → Reads h b → before_texts h ≤ length b
-    → rounded h.text_bytes + left ≡ length rest → rest ≡ after_eight h b → at ≡ length b - length rest
+pub texts_stand : (h : Header) (b : List ℕ) (at : ℕ) → Reads h b → at ≡ before_texts h → at + rounded h.text_bytes ≤ length b
     → (part b 8 ≡ take (text_bytes_in b) (drop at b)) × (at + text_bytes_in b ≤ length b)
-texts_stand h b rest at left r before whole is there =
-    let there_left = ap length is ∙ ap length (after_is h b) ∙ length-drop (before_texts h) b in
-    let from : at ≡ before_texts h = omega arith in
+texts_stand h b at r from within =
     let last : take h.text_bytes (after_eight h b) ≡ part b 8 = part_by r 8 in
     let said = r.text_bytes in (
       sym last ∙ ap (take h.text_bytes) (after_is h b) ∙ ap (λ n. take h.text_bytes (drop n b)) (sym from)
           ∙ ap (λ n. take n (drop at b)) said,
       omega arith,
     )
+
+-- what is left of bytes after a part
+pub next_is : (b x : List ℕ) (at n next : ℕ) → next ≡ at + n → drop at b ≡ x → drop next b ≡ drop n x
+next_is b x at n next is left = ap (λ m. drop m b) is ∙ sym (drop-drop n at b) ∙ ap (drop n) left
 
 -- a text by its number, at the place of that number
 one_at : (b : List ℕ) (n place : ℕ) (text : Option (Bor (List ℕ))) → text_in b n ≡ Some (text_told text) → IsPlaceOf b n place

@@ -77,51 +77,55 @@ pub fn whole_len(header: &Header) -> u128
         + rounded_up(u128::from(header.text_bytes))
 }
 
-/// The part that bytes begin with, and the bytes after it, from the next multiple of 8 on. None where there are fewer bytes.
+/// The part of `len` bytes at a place, and the place of the next one, which is the next multiple of 8 from there. None where
+/// there are fewer bytes.
 #[inline(always)]
-fn part_at_front(bytes: &[u8], len: usize) -> Option<(&[u8], &[u8])>
-    ensures part { IfSome result (λ cut. cut.0.now ≡ take len bytes.entry.now) }
+fn part_at(bytes: &[u8], at: usize, len: usize) -> Option<(&[u8], usize)>
+    requires { at ≤ length bytes.now }
+    ensures part { IfSome result (λ cut. cut.0.now ≡ take len (drop at bytes.entry.now)) }
     ensures len { IfSome result (λ cut. length cut.0.now ≡ len) }
-    ensures rest { IfSome result (λ cut. cut.1.now ≡ drop (rounded len) bytes.entry.now) }
-    ensures whole { IfSome result (λ cut. rounded len + length cut.1.now ≡ length bytes.entry.now) }
-    ensures none { IfNone result (length bytes.entry.now < rounded len) }
+    ensures next { IfSome result (λ cut. cut.1 ≡ at + rounded len) }
+    ensures within { IfSome result (λ cut. cut.1 ≤ length bytes.entry.now) }
+    ensures none { IfNone result (length bytes.entry.now < at + rounded len) }
 {
     if len > bytes.len() {
         return None;
     }
-    let end = (len + 7) / 8 * 8;
-    if end > bytes.len() {
+    let next = at + (len + 7) / 8 * 8;
+    if next > bytes.len() {
         return None;
     }
-    Some((&bytes[..len], &bytes[end..]))
+    let rest = &bytes[at..];
+    Some((&rest[..len], next))
 }
 
-/// The column that bytes begin with, and the bytes after it, from the next multiple of 8 on. None where there are fewer bytes.
+/// The column of `len` numbers at a place, and the place of the next part. None where there are fewer bytes.
 #[inline(always)]
-fn column_at_front(bytes: &[u8], width: Width, len: usize) -> Option<(Numbers<'_>, &[u8])>
+fn column_at(bytes: &[u8], at: usize, width: Width, len: usize) -> Option<(Numbers<'_>, usize)>
+    requires { at ≤ length bytes.now }
     ensures len { IfSome result (λ cut. cut.0.len ≡ len) }
     ensures width { IfSome result (λ cut. cut.0.width ≡ width) }
-    ensures column { IfSome result (λ cut. cut.0.bytes.now ≡ take (len * size_of width) bytes.entry.now) }
-    ensures rest { IfSome result (λ cut. cut.1.now ≡ drop (rounded (len * size_of width)) bytes.entry.now) }
-    ensures whole { IfSome result (λ cut. rounded (len * size_of width) + length cut.1.now ≡ length bytes.entry.now) }
-    ensures none { IfNone result (length bytes.entry.now < rounded (len * size_of width)) }
+    ensures column { IfSome result (λ cut. cut.0.bytes.now ≡ take (len * size_of width) (drop at bytes.entry.now)) }
+    ensures next { IfSome result (λ cut. cut.1 ≡ at + rounded (len * size_of width)) }
+    ensures within { IfSome result (λ cut. cut.1 ≤ length bytes.entry.now) }
+    ensures none { IfNone result (length bytes.entry.now < at + rounded (len * size_of width)) }
 {
     let size = len.checked_mul(width.size())?;
-    let (bytes, rest) = part_at_front(bytes, size)?;
-    Some((Numbers { bytes, width, len }, rest))
+    let (bytes, next) = part_at(bytes, at, size)?;
+    Some((Numbers { bytes, width, len }, next))
 }
 
-/// The rows of a table that bytes begin with, and the bytes after them, from the next multiple of 8 on. None where there are
-/// fewer bytes.
+/// The table of `len` rows at a place, each of `size` bytes, and the place of the next part. None where there are fewer bytes.
 #[inline(always)]
-fn table_at_front(bytes: &[u8], size: usize, len: usize) -> Option<(&[u8], &[u8])>
-    ensures part { IfSome result (λ cut. cut.0.now ≡ take (len * size) bytes.entry.now) }
+fn table_at(bytes: &[u8], at: usize, size: usize, len: usize) -> Option<(&[u8], usize)>
+    requires { at ≤ length bytes.now }
+    ensures part { IfSome result (λ cut. cut.0.now ≡ take (len * size) (drop at bytes.entry.now)) }
     ensures len { IfSome result (λ cut. length cut.0.now ≡ len * size) }
-    ensures rest { IfSome result (λ cut. cut.1.now ≡ drop (rounded (len * size)) bytes.entry.now) }
-    ensures whole { IfSome result (λ cut. rounded (len * size) + length cut.1.now ≡ length bytes.entry.now) }
-    ensures none { IfNone result (length bytes.entry.now < rounded (len * size)) }
+    ensures next { IfSome result (λ cut. cut.1 ≡ at + rounded (len * size)) }
+    ensures within { IfSome result (λ cut. cut.1 ≤ length bytes.entry.now) }
+    ensures none { IfNone result (length bytes.entry.now < at + rounded (len * size)) }
 {
-    part_at_front(bytes, len.checked_mul(size)?)
+    part_at(bytes, at, len.checked_mul(size)?)
 }
 
 /// The parts of bytes with this header; None where they don't fill what follows it.
@@ -135,18 +139,16 @@ pub fn cut<'a>(bytes: &'a [u8], header: &Header) -> Option<Parts<'a>>
 {
     let count = header.count as usize;
     let widths = header.widths;
-    let rest = &bytes[HEADER_LEN..];
-    let (starts, rest) = column_at_front(rest, widths.starts, count)?;
-    let (files, rest) = column_at_front(rest, widths.files, count)?;
-    let (lines, rest) = column_at_front(rest, widths.lines, count)?;
-    let (columns, rest) = column_at_front(rest, widths.columns, count)?;
-    let (discriminators, rest) = column_at_front(rest, widths.discriminators, count)?;
-    let (statements, rest) = part_at_front(rest, count.div_ceil(8))?;
-    let (file_table, rest) = table_at_front(rest, 24, header.files as usize)?;
-    let (text_table, rest) = table_at_front(rest, 16, header.texts as usize)?;
-    let texts_at = bytes.len() - rest.len();
-    let (texts, rest) = part_at_front(rest, header.text_bytes as usize)?;
-    if !rest.is_empty() {
+    let (starts, at) = column_at(bytes, HEADER_LEN, widths.starts, count)?;
+    let (files, at) = column_at(bytes, at, widths.files, count)?;
+    let (lines, at) = column_at(bytes, at, widths.lines, count)?;
+    let (columns, at) = column_at(bytes, at, widths.columns, count)?;
+    let (discriminators, at) = column_at(bytes, at, widths.discriminators, count)?;
+    let (statements, at) = part_at(bytes, at, count.div_ceil(8))?;
+    let (file_table, at) = table_at(bytes, at, 24, header.files as usize)?;
+    let (text_table, texts_at) = table_at(bytes, at, 16, header.texts as usize)?;
+    let (texts, end) = part_at(bytes, texts_at, header.text_bytes as usize)?;
+    if end != bytes.len() {
         return None;
     }
     Some(Parts {

@@ -1,8 +1,8 @@
-use Rattle.std.proofs.Common.{◌+◌, ◌*◌, ◌/◌, ◌≡◌, ◌≤◌, take, drop, length, length-drop, ap, ap₂, ◌∙◌, arith, refl}
+use Rattle.std.proofs.Common.{◌+◌, ◌*◌, ◌/◌, ◌≡◌, take, ap, ap₂, ◌∙◌, arith, refl}
 use Rattle.dl_index.specs.Columns.{size_of}
 use Rattle.dl_index.specs.Layout.{rounded}
-use Rattle.dl_index.proofs.PartLemmas.{part_by, div_ceil-eight, drop_whole}
-use Rattle.dl_index.proofs.PlaceLemmas.{before_texts, texts_stand}
+use Rattle.dl_index.proofs.PartLemmas.{part_by, div_ceil-eight}
+use Rattle.dl_index.proofs.PlaceLemmas.{next_is, texts_stand}
 use Rattle.dl_index.proofs.parts.cut.Goals as goal
 
 pub returns-clause-parts : goal.returns-clause-parts
@@ -20,36 +20,35 @@ returns-clause-parts c =
     let file_table = c.in_ok-file_table.ensures in
     let text_table = c.in_ok-text_table.ensures in
     let texts = c.in_ok-texts.ensures in
-    let e0 = drop_whole 128 c.args.bytes.now in
-    let e1 = starts.rest ∙ ap (drop (rounded (h.count * size_of h.widths.starts))) e0 in
-    let e2 = files.rest ∙ ap (drop (rounded (h.count * size_of h.widths.files))) e1 in
-    let e3 = lines.rest ∙ ap (drop (rounded (h.count * size_of h.widths.lines))) e2 in
-    let e4 = columns.rest ∙ ap (drop (rounded (h.count * size_of h.widths.columns))) e3 in
-    let e5 = discriminators.rest ∙ ap (drop (rounded (h.count * size_of h.widths.discriminators))) e4 in
+    let b = c.args.bytes.now in
     let half : c.div_ceil.result ≡ (h.count + 7) / 8 = c.div_ceil.ensures ∙ div_ceil-eight h.count in
-    let e6 = statements.rest ∙ ap₂ (λ n rest. drop (rounded n) rest) half e5 in
-    let e7 = file_table.rest ∙ ap (drop (rounded (h.files * 24))) e6 in
-    let e8 = text_table.rest ∙ ap (drop (rounded (h.texts * 16))) e7 in
-    let enough = c.requires.enough in
-    let from_header = length-drop 128 c.args.bytes.now in
-    let w0 = starts.whole in
-    let w1 = files.whole in
-    let w2 = lines.whole in
-    let w3 = columns.whole in
-    let w4 = discriminators.whole in
-    let w5 = statements.whole in
-    let w6 = file_table.whole in
-    let w7 = text_table.whole in
+    let n1 = starts.next in
+    let n2 = files.next in
+    let n3 = lines.next in
+    let n4 = columns.next in
+    let n5 = discriminators.next in
+    let n6 = statements.next ∙ ap (λ n. c.in_ok-discriminators.at + rounded n) half in
+    let n7 = file_table.next in
+    let n8 = text_table.next in
+    let e1 = next_is b _ 128 (rounded (h.count * size_of h.widths.starts)) _ n1 refl in
+    let e2 = next_is b _ _ (rounded (h.count * size_of h.widths.files)) _ n2 e1 in
+    let e3 = next_is b _ _ (rounded (h.count * size_of h.widths.lines)) _ n3 e2 in
+    let e4 = next_is b _ _ (rounded (h.count * size_of h.widths.columns)) _ n4 e3 in
+    let e5 = next_is b _ _ (rounded (h.count * size_of h.widths.discriminators)) _ n5 e4 in
+    let e6 = next_is b _ _ (rounded ((h.count + 7) / 8)) _ n6 e5 in
+    let e7 = next_is b _ _ (rounded (h.files * 24)) _ n7 e6 in
+    let e8 = next_is b _ _ (rounded (h.texts * 16)) _ n8 e7 in
     let bits_len = statements.len in
     let files_len = file_table.len in
     let texts_len = text_table.len in
     let same_count = r.count in
     let same_files = r.files in
     let same_texts = r.texts in
-    let before : before_texts h ≤ length c.args.bytes.now = omega arith in
-    let there = texts_stand h c.args.bytes.now c.in_ok-text_table.rest.now _ _ r before texts.whole e8 refl in
+    let end = texts.next in
+    let inside = texts.within in
+    let there = texts_stand h b c.in_ok-text_table.texts_at r (omega arith) (omega arith) in
     record {
-      starts = record { bytes = starts.column ∙ ap (take (h.count * size_of h.widths.starts)) e0 ∙ by 0; width = ap size_of starts.width ∙ w.starts; len = starts.len ∙ r.count };
+      starts = record { bytes = starts.column ∙ by 0; width = ap size_of starts.width ∙ w.starts; len = starts.len ∙ r.count };
       files = record {
         bytes = files.column ∙ ap (take (h.count * size_of h.widths.files)) e1 ∙ by 1;
         width = ap size_of files.width ∙ w.files;
