@@ -3,6 +3,7 @@ use crate::sample::INDEX;
 use dl_addr::{Form, Found, Style};
 use dl_dialogue::{AnswerFault, Answered, answer_lines};
 use dl_index::open;
+use dl_memory::System;
 use std::alloc::Global;
 use std::io::{Read, Write};
 use std::process::Abort;
@@ -47,8 +48,9 @@ fn end_of(answered: Result<Answered, AnswerFault>) -> End {
 
 /// Answers the lines of an input from the index.
 pub fn answered<R: Read, W: Write>(alloc: Global, input: &mut R, output: &mut W) -> End {
+    let memory = System::new(alloc);
     match open(INDEX) {
-        Ok(index) => end_of(answer_lines(alloc, &index, STYLE, 0, false, input, output)),
+        Ok(index) => end_of(answer_lines(&memory, &index, STYLE, 0, false, input, output)),
         Err(_) => End::Tell,
     }
 }
