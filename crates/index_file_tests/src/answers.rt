@@ -4,6 +4,7 @@ use crate::sample::{BASE, BUILD_ID, index};
 use dl_elf::{Range, ReadAt};
 use dl_index::{Found, IndexRef, open};
 use dl_index_file::{FileFound, IndexFile, TextFault, is_index, open_index};
+use dl_memory::System;
 use std::io::Cursor;
 use std::test::Fail;
 
@@ -18,7 +19,8 @@ fn is_text<S: ReadAt>(
         return Ok(place.is_none() && text.is_none());
     };
     read.clear();
-    file.read_text(place, read)?;
+    let memory = System::new(*read.allocator());
+    file.read_text(&memory, place, read)?;
     Ok(read.as_slice() == text)
 }
 

@@ -4,6 +4,7 @@ use crate::sample::{BASE, index};
 use crate::source::Source;
 use dl_elf::Range;
 use dl_index_file::{IndexFile, OpenFault, TextFault, open_index};
+use dl_memory::System;
 use std::io::ErrorKind;
 use std::test::Fail;
 
@@ -77,7 +78,7 @@ fn a_text_outside(rt: HostRuntime) -> Result<(), Fail> {
         offset: 8,
         size: u64::MAX,
     };
-    let ended = match file.read_text(outside, &mut read) {
+    let ended = match file.read_text(&System::new(rt.alloc()), outside, &mut read) {
         Err(TextFault::Read(error)) => error.kind() == ErrorKind::UnexpectedEof,
         _ => false,
     };
