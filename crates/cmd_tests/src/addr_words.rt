@@ -1,6 +1,7 @@
 //! The words of `addr` that name the file of which an index has to be made.
+use crate::refusal::refusal;
 use clap::error::ErrorKind;
-use dl_cmd::{Job, read_job, word_status};
+use dl_cmd::{Job, read_job};
 use std::test::Fail;
 
 /// A command line, the path of its FILE, that of the file of which an index has to be made, and the addresses.
@@ -114,13 +115,7 @@ const REFUSED: &[(&[&str], ErrorKind)] = &[
 #[test]
 fn refused_of_addr(rt: HostRuntime) -> Result<(), Fail> {
     for (line, kind) in REFUSED {
-        match read_job(rt.alloc(), line) {
-            Ok(_) => assert!(rt; false, "{line:?}"),
-            Err(error) => {
-                assert!(rt; error.kind() == *kind, "{line:?}");
-                assert_eq!(rt; word_status(&error), 2);
-            }
-        }
+        assert!(rt; refusal(rt.alloc(), line) == Some((*kind, 2)), "{line:?}");
     }
     Ok(())
 }

@@ -1,6 +1,7 @@
 //! The words of `index`, and those that it refuses.
+use crate::refusal::refusal;
 use clap::error::ErrorKind;
-use dl_cmd::{IndexWords, Job, UnitWords, read_job, word_status};
+use dl_cmd::{IndexWords, Job, UnitWords, read_job};
 use std::test::Fail;
 
 /// What is said of `program`, of which an index is made, where nothing else is.
@@ -182,13 +183,7 @@ const REFUSED: &[(&[&str], ErrorKind)] = &[
 #[test]
 fn refused_of_index(rt: HostRuntime) -> Result<(), Fail> {
     for (line, kind) in REFUSED {
-        match read_job(rt.alloc(), line) {
-            Ok(_) => assert!(rt; false, "{line:?}"),
-            Err(error) => {
-                assert!(rt; error.kind() == *kind, "{line:?}");
-                assert_eq!(rt; word_status(&error), 2);
-            }
-        }
+        assert!(rt; refusal(rt.alloc(), line) == Some((*kind, 2)), "{line:?}");
     }
     Ok(())
 }

@@ -10,4 +10,6 @@ mod index_words;
 #[cfg(test)]
 mod lines;
 #[cfg(test)]
+mod refusal;
+#[cfg(test)]
 mod words;
