@@ -1,6 +1,5 @@
 //! Sections made by hand. DWARF 4 and 5, sections 3.1.1, 7.5 and 7.26.
-use crate::row::{Row, Wanted};
-use dl_dirs::Texts;
+use crate::row::{Row, Strings, Wanted};
 use dl_num::Order;
 
 /// Abbreviations: 1 of DW_AT_stmt_list in four bytes and DW_AT_comp_dir as a string, 2 of the first alone, 3 of both with
@@ -10,7 +9,7 @@ const ABBREVIATIONS: &[u8] = b"\x01\x11\0\x10\x06\x1b\x08\0\0\
 \x03\x11\0\x10\x06\x1b\x0e\0\0\
 \x04\x11\0\x10\x17\x1b\x25\0\0\0";
 
-const NO_TEXTS: Texts<'static> = Texts {
+const NO_STRINGS: Strings<'static> = Strings {
     str_offsets: None,
     debug_str: None,
     debug_line_str: None,
@@ -32,7 +31,7 @@ pub const FIRST_UNIT: Row<'static> = Row {
 \x0c\0\0\0\x04\0\0\0\0\0\x08\x02\x20\0\0\0\
 \x0f\0\0\0\x04\0\0\0\0\0\x08\x01\x20\0\0\0/d\0",
     abbreviations: ABBREVIATIONS,
-    texts: NO_TEXTS,
+    strings: NO_STRINGS,
     wanted: NONE_WANTED,
     directories: &[(0x10, Some(b"/a")), (0x20, Some(b"/d")), (0, None)],
 };
@@ -45,9 +44,9 @@ pub const TEXT_LACKS: Row<'static> = Row {
 \x0f\0\0\0\x04\0\0\0\0\0\x08\x01\x30\0\0\0/a\0\
 \x10\0\0\0\x04\0\0\0\0\0\x08\x03\x40\0\0\0\x01\0\0\0",
     abbreviations: ABBREVIATIONS,
-    texts: Texts {
+    strings: Strings {
         debug_str: Some(b"x/s\0"),
-        ..NO_TEXTS
+        ..NO_STRINGS
     },
     wanted: Wanted {
         str: true,
@@ -63,7 +62,7 @@ pub const CUT_SHORT: Row<'static> = Row {
     info: b"\x0f\0\0\0\x04\0\0\0\0\0\x08\x01\x10\0\0\0/a\0\
 \x40\0\0\0\x04\0\0\0\0\0\x08\x01\x20\0\0\0/d\0",
     abbreviations: ABBREVIATIONS,
-    texts: NO_TEXTS,
+    strings: NO_STRINGS,
     wanted: NONE_WANTED,
     directories: &[(0x10, Some(b"/a")), (0x20, Some(b"/d"))],
 };
@@ -76,7 +75,7 @@ pub const NO_LENGTH: Row<'static> = Row {
 \xf0\xff\xff\xff\
 \x0f\0\0\0\x04\0\0\0\0\0\x08\x01\x20\0\0\0/d\0",
     abbreviations: ABBREVIATIONS,
-    texts: NO_TEXTS,
+    strings: NO_STRINGS,
     wanted: NONE_WANTED,
     directories: &[(0x10, Some(b"/a")), (0x20, None)],
 };
@@ -88,7 +87,7 @@ pub const NO_BASE: Row<'static> = Row {
     info: b"\x0e\0\0\0\x05\0\x01\x08\0\0\0\0\x04\x40\0\0\0\x01\
 \xff\xff\xff\xff\x10\0\0\0\0\0\0\0\x04\0\0\0\0\0\0\0\0\0\x08\x02\x50\0\0\0",
     abbreviations: ABBREVIATIONS,
-    texts: Texts {
+    strings: Strings {
         str_offsets: Some(b"\x0c\0\0\0\x05\0\0\0\0\0\0\0\x03\0\0\0"),
         debug_str: Some(b"zz\0/e\0"),
         debug_line_str: None,

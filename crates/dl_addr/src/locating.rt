@@ -254,6 +254,10 @@ impl<'s, 'o, 'q> Locator<'s, 'o, 'q> {
     fn keep(&mut self, header: Option<&Header>) -> Result<(), NoMemory>
         ensures { Keeps self.old self.new (option_copied header.entry) result }
     {
+        let answered = self.finders.answered_so_far();
+        if answered.is_empty() {
+            return Ok(());
+        }
         let unit = UnitFiles {
             strings: self.strings,
             header,
@@ -261,10 +265,6 @@ impl<'s, 'o, 'q> Locator<'s, 'o, 'q> {
             directory: beside_table(has_directory_0(header), self.directories.of(self.unit)),
             offset: self.unit,
         };
-        let answered = self.finders.answered_so_far();
-        if answered.is_empty() {
-            return Ok(());
-        }
         keep_all(self.alloc, &mut self.paths, &mut self.kept, &unit, answered)
     }
 }

@@ -9,83 +9,28 @@ use Rattle.std.specs.Option.{option_and_then, option_map_or}
 use Rattle.std.specs.Ordering.{nat_cmp}
 use Rattle.dl_num.specs.declared.fixed.Order.{Order}
 use Rattle.dl_info.specs.Entries.{EntryData, TextData}
-use Rattle.dl_dirs.specs.declared.directories.Directories.{Directories}
-use Rattle.dl_dirs.specs.declared.directories.Extent.{Extent}
 use Rattle.dl_dirs.specs.declared.places.Kept.{Kept}
 use Rattle.dl_dirs.specs.declared.places.Place.{Place}
 use Rattle.dl_dirs.specs.declared.places.Place.TheVariants as at
 use Rattle.dl_dirs.specs.declared.places.Places.{Places}
 use Rattle.dl_dirs.specs.declared.places.Section.{Section}
 use Rattle.dl_dirs.specs.declared.places.Section.TheVariants as section
-use Rattle.dl_dirs.specs.Directories.{bytes_of, directory_at, extent_at}
-use Rattle.dl_dirs.specs.Holding.{Found, Grows, HasPlace, Holds, IsText, kept_entry, place_text}
-use Rattle.dl_dirs.specs.Holding.{is_in}
+use Rattle.dl_dirs.specs.Holding.{Holds, directory_kept, is_in, kept_at, kept_entry, place_text, text_kept}
 use Rattle.dl_dirs.specs.Texts.{TextsData, directory_text}
 use Rattle.dl_dirs.specs.Units.{Stands, has_index, has_line_str, has_str, saying}
-use Rattle.dl_dirs.proofs.HoldLemmas.{entry_in, extent_stays, front_get, has_get, last_get, none_some, some_same}
+use Rattle.dl_dirs.proofs.HoldLemmas.{entry_in, none_some, some_same}
 
 -- ---- texts that are found
 
-pub directory_found : (order : Order) (t : TextsData) (es : List EntryData) (p : Places) (d : Directories) → Holds p es
-    → d.numbers ≡ p.numbers
-    → Found order t p.bytes.items p.entries.items (length p.entries.items) d.bytes.items d.extents.items
-    → (n : ℕ) → directory_at d n ≡ option_and_then (directory_text order t) (saying n es)
-unfolding directory_at
-directory_found order t es p d h numbers f n =
-    ap (λ m. found (get nat_cmp m n)) numbers
-    ∙ (by (get nat_cmp p.numbers n) refl ∙ ap (option_and_then (directory_text order t)) (h.value n)) where
-      found : Option ℕ → Option (List ℕ)
-      found number = option_map (bytes_of d.bytes.items) (option_and_then (extent_at d.extents.items) number)
-
-      of : (i : ℕ) (k : Option Kept) → i < length p.entries.items → slice_get p.entries.items i ≡ k
-          → option_map (bytes_of d.bytes.items) (extent_at d.extents.items i)
-          ≡ option_and_then (directory_text order t) (option_map (kept_entry p.bytes.items) k)
-      of i None within is = absurd (has_get p.entries.items i within is)
-      of i (Some k) within is =
-          let e = f.each i k within is (h.kept i k is).1 in
-          ap (λ o. option_map (bytes_of d.bytes.items) (option_and_then (λ x. x) o)) e.1 ∙ e.2.0
-
-      by : (number : Option ℕ) → get nat_cmp p.numbers n ≡ number
-          → option_map (bytes_of d.bytes.items) (option_and_then (extent_at d.extents.items) number)
-          ≡ option_and_then (directory_text order t) (entry_in p.bytes.items p.entries.items number)
-      by None is = refl
-      by (Some i) is = of i (slice_get p.entries.items i) (h.numbered n i is) refl
-
--- ---- one text more
-
-pub text_stays : (old new : List ℕ) (e : Option Extent) (text : Option (List ℕ)) → Grows old new → IsText old e text
-    → IsText new e text
-text_stays old new None text grows is = is
-text_stays old new (Some e) text grows is =
-    let stays = extent_stays old new e grows is.1 in (ap Some stays.0 ∙ is.0, stays.1)
-
-pub found_more : (order : Order) (t : TextsData) (b : List ℕ) (kept : List Kept) (n : ℕ) (old new : List ℕ)
-    (extents more : List (Option Extent)) (k : Kept) (e : Option Extent) → Found order t b kept n old extents
-    → slice_get kept n ≡ Some k → Grows old new → more ≡ extents ++ e ∷ []
-    → (HasPlace b k.place → IsText new e (directory_text order t (kept_entry b k)))
-    → Found order t b kept (n + 1) new more
-found_more order t b kept n old new extents more k e f at grows are text = record {
-  count = ap length are ∙ (length-append extents (e ∷ []) ∙ ap (λ m. m + 1) f.count);
-  each = λ i j less is has. by i j is has (cases_lt i n) less;
-} where
-  by : (i : ℕ) (j : Kept) → slice_get kept i ≡ Some j → HasPlace b j.place → (i < n) ⊎ (n ≤ i) → i < n + 1
-      → (x : Option Extent) × (slice_get more i ≡ Some x) × IsText new x (directory_text order t (kept_entry b j))
-  by i j is has (inl less) within =
-      let was = f.each i j less is has in (
-        was.0,
-        ap (λ l. slice_get l i) are
-            ∙ (front_get extents (e ∷ []) i (omega (arith, less, f.count)) ∙ was.1),
-        text_stays old new was.0 (directory_text order t (kept_entry b j)) grows was.2,
-      )
-  by i j is has (inr past) within =
-      let here : i ≡ n = omega (arith, past, within) in
-      let same : k ≡ j = some_same k j (sym at ∙ (ap (slice_get kept) (sym here) ∙ is)) in (
-        e,
-        ap (λ l. slice_get l i) are
-            ∙ (ap (slice_get (extents ++ e ∷ [])) (here ∙ sym f.count) ∙ last_get extents e),
-        subst (λ x. IsText new e (directory_text order t (kept_entry b x))) same
-            (text (subst (λ x. HasPlace b x.place) (sym same) has)),
-      )
+pub directory_found : (order : Order) (t : TextsData) (es : List EntryData) (p : Places) → Holds p es → p.order ≡ order
+    → (n : ℕ) → directory_kept t p n ≡ option_and_then (directory_text order t) (saying n es)
+directory_found order t es p h ordered n =
+    by (kept_at p n) ∙ (ap (option_and_then (directory_text p.order t)) (h.value n)
+    ∙ ap (λ o. option_and_then (directory_text o t) (saying n es)) ordered) where
+      by : (k : Option Kept) → option_and_then (text_kept p.order t p.bytes.items) k
+          ≡ option_and_then (directory_text p.order t) (option_map (kept_entry p.bytes.items) k)
+      by None = refl
+      by (Some k) = refl
 
 -- ---- where texts stand
 

@@ -20,13 +20,13 @@ use Rattle.std.proofs.Math.Seq.{drop-append_seam}
 use Rattle.dl_info.specs.declared.entry.Entry.{Entry}
 use Rattle.dl_info.specs.declared.entry.Text.{Text}
 use Rattle.dl_info.specs.Entries.{EntryData, entry, here, text}
-use Rattle.dl_dirs.specs.declared.directories.Extent.{Extent}
+use Rattle.dl_info.proofs.MapLemmas.{query}
+use Rattle.dl_dirs.specs.declared.extent.Extent.{Extent}
 use Rattle.dl_dirs.specs.declared.places.Kept.{Kept}
 use Rattle.dl_dirs.specs.declared.places.Place.{Place}
 use Rattle.dl_dirs.specs.declared.places.Place.TheVariants as at
 use Rattle.dl_dirs.specs.declared.places.Places.{Places}
-use Rattle.dl_dirs.specs.Directories.{bytes_of}
-use Rattle.dl_dirs.specs.Holding.{Grows, HasPlace, Holds, IsExtent, IsIn, IsPlaced, kept_at, kept_entry, place_text}
+use Rattle.dl_dirs.specs.Holding.{Grows, HasPlace, Holds, IsExtent, IsIn, IsPlaced, bytes_of, kept_at, kept_entry, place_text}
 use Rattle.dl_dirs.specs.Units.{HasDirectory, saying, says}
 
 pub none_some : {A : Type 0} {x : A} → ◌≡◌ {A = Option A} None (Some x) → ⊥
@@ -88,22 +88,6 @@ pub has_get : {A : Type 0} (xs : List A) (i : ℕ) → i < length xs → ◌≡�
 has_get [] i within is = absurd (omega (arith, within))
 has_get (x ∷ xs) zero within is = none_some (sym is)
 has_get (x ∷ xs) (suc i) within is = has_get xs i (omega (arith, within)) is
-
-equal : (o : Ordering) → is_eq o ≡ true → o ≡ Equal
-equal Less e = absurd (true≢false (sym e))
-equal Equal e = refl
-equal Greater e = absurd (true≢false (sym e))
-
--- a query of a map finds a key by its number
-query : (key n : ℕ) → is_at (nat_cmp key) n ≡ (key == n)
-query key n = by (is_at (nat_cmp key) n) (key == n) refl refl where
-  by : (a b : Bool) → is_at (nat_cmp key) n ≡ a → (key == n) ≡ b → is_at (nat_cmp key) n ≡ (key == n)
-  by true b at is =
-      let same : key ≡ n = exact_unsigned key n (equal (nat_cmp key n) at) in at ∙ sym (eq-eqb key n same)
-  by false false at is = at ∙ sym is
-  by false true at is =
-      let same : key ≡ n = (Decides-eqb key n).0 is in
-      absurd (true≢false (ap is_eq (nat_cmp_is key n Equal same) ∙ at))
 
 or_none : {A : Type 0} (o : Option A) → option_or o None ≡ o
 or_none None = refl

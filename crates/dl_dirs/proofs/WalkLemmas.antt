@@ -4,6 +4,7 @@ use Rattle.std.proofs.Common.{◌∙◌, arith, append_assoc, length-append, len
 use Rattle.std.proofs.lemmas.List.{append-nil, drop_all, take_all, take_rest}
 use Rattle.std.proofs.Math.Seq.{drop-append-add, take-add}
 use Rattle.dl_num.specs.declared.fixed.Order.{Order}
+use Rattle.dl_info.specs.Section.{section_of}
 use Rattle.dl_info.specs.declared.head.UnitLength.{UnitLength}
 use Rattle.dl_info.specs.declared.unit.Answer.{Answer}
 use Rattle.dl_info.specs.declared.unit.Answer.TheVariants.{Found, More, Unreadable}
@@ -149,16 +150,16 @@ awaits_one order front none = by (unit_length order front) refl where
 -- what its first bytes u give
 pub record Read (walk : Walk) (places : Places) (u : List ℕ) (answer : Answer UnitLength) : Type 0 where
   pub order : places.order ≡ walk.places.order
-  pub length : answer ≡ told_length walk.places.order walk.abbreviations.now u
+  pub length : answer ≡ told_length walk.places.order (section_of walk.abbreviations) u
   pub holds : (es : List EntryData) → Holds walk.places es
-      → Holds places (es ++ found_in (first_entry walk.places.order walk.abbreviations.now u))
+      → Holds places (es ++ found_in (first_entry walk.places.order (section_of walk.abbreviations) u))
 
 -- the same of other names for these
 pub read_of : (walk : Walk) (places : Places) (v u : List ℕ) (given answer : Answer UnitLength) → v ≡ u
     → given ≡ answer → places.order ≡ walk.places.order
-    → given ≡ told_length walk.places.order walk.abbreviations.now v
+    → given ≡ told_length walk.places.order (section_of walk.abbreviations) v
     → ((es : List EntryData) → Holds walk.places es
-    → Holds places (es ++ found_in (first_entry walk.places.order walk.abbreviations.now v)))
+    → Holds places (es ++ found_in (first_entry walk.places.order (section_of walk.abbreviations) v)))
     → Read walk places u answer
 read_of walk places v u given answer same is order length holds =
     let read : Read walk places v given = record { order = order; length = length; holds = holds } in
@@ -188,13 +189,13 @@ module _ (walk : Walk) (order : Order) (abbreviations b front : List ℕ) (g : G
     moved places u answer r =
         let P : Order → List ℕ → Type 0 =
         λ o a. (told_length o a u ≡ answer) × Holds places (g.es ++ found_in (first_entry o a u)) in
-        let at_first : P walk.places.order walk.abbreviations.now = (sym r.length, r.holds g.es g.holds) in
+        let at_first : P walk.places.order (section_of walk.abbreviations) = (sym r.length, r.holds g.es g.holds) in
         let now : P order abbreviations =
         subst (λ o. P o abbreviations) g.order_is (subst (P walk.places.order) g.abbreviations_are at_first) in
         record { order_is = r.order ∙ g.order_is; told = now.0; holds = now.1 }
 
     -- in another state after the bytes c
-    module _ (new : Walk) (same : new.abbreviations.now ≡ walk.abbreviations.now) (u c : List ℕ)
+    module _ (new : Walk) (same : section_of new.abbreviations ≡ section_of walk.abbreviations) (u c : List ℕ)
         (answer : Answer UnitLength) (m : Moved order abbreviations u g.es new.places answer) where
       pub after_unit : StandsAt order abbreviations new.state new.front.items c (more_in u)
           → StandsFor new order abbreviations c
@@ -219,7 +220,7 @@ module _ (walk : Walk) (order : Order) (abbreviations b front : List ℕ) (g : G
 
 -- the first bytes of a unit are kept
 pub begun : (walk new : Walk) (order : Order) (abbreviations b : List ℕ) (awaited : ℕ) → new.places ≡ walk.places
-    → new.abbreviations.now ≡ walk.abbreviations.now → new.state ≡ state.Begun awaited
+    → section_of new.abbreviations ≡ section_of walk.abbreviations → new.state ≡ state.Begun awaited
     → Awaits order new.front.items awaited → GoesOn walk order abbreviations b new.front.items
     → StandsFor new order abbreviations b
 begun walk new order abbreviations b awaited places same is awaits g = record {
@@ -238,7 +239,7 @@ some_awaited walk order abbreviations b awaited was s =
 
 -- and a part u of a piece after them, but not all bytes that are awaited
 pub grew : (walk new : Walk) (order : Order) (abbreviations b u : List ℕ) (awaited : ℕ) → new.places ≡ walk.places
-    → new.abbreviations.now ≡ walk.abbreviations.now → new.state ≡ state.Begun (awaited - length u)
+    → section_of new.abbreviations ≡ section_of walk.abbreviations → new.state ≡ state.Begun (awaited - length u)
     → new.front.items ≡ walk.front.items ++ u → length u < awaited → walk.state ≡ state.Begun awaited
     → StandsFor walk order abbreviations b → StandsFor new order abbreviations (b ++ u)
 grew walk new order abbreviations b u awaited places same is front less was s =
@@ -261,7 +262,7 @@ grew walk new order abbreviations b u awaited places same is front less was s =
 
 -- or all of them
 pub grew_out : (walk new : Walk) (order : Order) (abbreviations b u : List ℕ) (awaited : ℕ) → new.places ≡ walk.places
-    → new.abbreviations.now ≡ walk.abbreviations.now → new.front.items ≡ walk.front.items ++ u → length u ≤ awaited
+    → section_of new.abbreviations ≡ section_of walk.abbreviations → new.front.items ≡ walk.front.items ++ u → length u ≤ awaited
     → walk.state ≡ state.Begun awaited → StandsFor walk order abbreviations b
     → GoesOn new order abbreviations (b ++ u) new.front.items
     × ((l : UnitLength) → unit_length order new.front.items ≡ Found l → length new.front.items ≤ l.size)

@@ -1,22 +1,25 @@
 -- What is kept of directories. No promise rests on how this is said.
-use Rattle.std.specs.Prelude.{◌≡◌, Bool, true, false, ℕ, ◌+◌, ◌<◌, ◌≤◌, List, ◌++◌, length, slice_get, Option, Some, None, option_map, IfSome}
+use Rattle.std.specs.Prelude.{◌≡◌, Bool, true, false, ℕ, ◌+◌, ◌<◌, ◌≤◌, List, ◌++◌, length, drop, take, slice_get, Option, Some, option_map}
 use Rattle.std.specs.BTreeMap.{get}
 use Rattle.std.specs.Option.{option_and_then}
 use Rattle.std.specs.Ordering.{nat_cmp}
 use Rattle.dl_num.specs.declared.fixed.Order.{Order}
 use Rattle.dl_info.specs.Entries.{EntryData, TextData, here, str, line_str, index}
-use Rattle.dl_dirs.specs.declared.directories.Extent.{Extent}
+use Rattle.dl_dirs.specs.declared.extent.Extent.{Extent}
 use Rattle.dl_dirs.specs.declared.places.Kept.{Kept}
 use Rattle.dl_dirs.specs.declared.places.Place.{Place}
 use Rattle.dl_dirs.specs.declared.places.Place.TheVariants as at
 use Rattle.dl_dirs.specs.declared.places.Places.{Places}
 use Rattle.dl_dirs.specs.declared.places.Section.{Section}
 use Rattle.dl_dirs.specs.declared.places.Section.TheVariants as section
-use Rattle.dl_dirs.specs.Directories.{bytes_of}
-use Rattle.dl_dirs.specs.Texts.{TextsData, directory_text, index_text, section_text}
+use Rattle.dl_dirs.specs.Texts.{TextsData, text_of}
 use Rattle.dl_dirs.specs.Units.{entries, saying}
 
 -- ---- extents
+
+-- the bytes of an extent
+abbrev pub bytes_of : List ℕ → Extent → List ℕ
+bytes_of b e = take e.len (drop e.start b)
 
 -- bytes are added after those before
 abbrev pub Grows : List ℕ → List ℕ → Type 0
@@ -27,10 +30,6 @@ IsIn b e = e.start + e.len ≤ length b
 
 abbrev pub IsExtent : List ℕ → Extent → List ℕ → Type 0
 IsExtent b e text = (bytes_of b e ≡ text) × IsIn b e
-
--- the same of a text that may lack
-abbrev pub IsText : List ℕ → Option Extent → Option (List ℕ) → Type 0
-IsText b e text = (option_map (bytes_of b) e ≡ text) × IfSome e (IsIn b)
 
 -- ---- places
 
@@ -66,18 +65,16 @@ kept_entry b k = record {
   str_offsets_base = k.base;
 }
 
--- the text of its directory, where that isn't in the entry
-abbrev pub text_at_place : Order → TextsData → Kept → Place → Option (List ℕ)
-text_at_place order t k (at.Here e) = None
-text_at_place order t k (at.Str n) = section_text t.debug_str n
-text_at_place order t k (at.LineStr n) = section_text t.debug_line_str n
-text_at_place order t k (at.Index n) = index_text order t k.format k.base n
-
-abbrev pub text_elsewhere : Order → TextsData → Kept → Option (List ℕ)
-text_elsewhere order t k = text_at_place order t k k.place
+-- the text of its directory, where that is known
+abbrev pub text_kept : Order → TextsData → List ℕ → Kept → Option (List ℕ)
+text_kept order t b k = text_of order t (kept_entry b k) (place_text b k.place)
 
 abbrev pub kept_at : Places → ℕ → Option Kept
 kept_at p offset = option_and_then (slice_get p.entries.items) (get nat_cmp p.numbers offset)
+
+-- the text of the directory of the line table at an offset
+abbrev pub directory_kept : TextsData → Places → (offset : ℕ) → Option (List ℕ)
+directory_kept t p offset = option_and_then (text_kept p.order t p.bytes.items) (kept_at p offset)
 
 -- of these entries is kept which of them says the directory of each line table
 pub record Holds (p : Places) (es : List EntryData) : Type 0 where
@@ -85,13 +82,6 @@ pub record Holds (p : Places) (es : List EntryData) : Type 0 where
   pub numbered : (offset i : ℕ) → get nat_cmp p.numbers offset ≡ Some i → i < length p.entries.items
   pub kept : (i : ℕ) (k : Kept) → slice_get p.entries.items i ≡ Some k
       → (get nat_cmp p.numbers k.offset ≡ Some i) × HasPlace p.bytes.items k.place
-
--- of the first n entries that are kept the texts are found, and stand in the bytes, which were b before
-pub record Found (order : Order) (t : TextsData) (b : List ℕ) (kept : List Kept) (n : ℕ) (new : List ℕ)
-    (extents : List (Option Extent)) : Type 0 where
-  pub count : length extents ≡ n
-  pub each : (i : ℕ) (k : Kept) → i < n → slice_get kept i ≡ Some k → HasPlace b k.place
-      → (e : Option Extent) × (slice_get extents i ≡ Some e) × IsText new e (directory_text order t (kept_entry b k))
 
 -- these are the places of the directories that the units of b say
 abbrev pub AreOf : Places → Order → (abbreviations : List ℕ) → List ℕ → Type 0

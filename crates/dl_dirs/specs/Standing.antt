@@ -5,6 +5,7 @@ use Rattle.dl_info.specs.declared.head.UnitLength.{UnitLength}
 use Rattle.dl_info.specs.declared.unit.Answer.{Answer}
 use Rattle.dl_info.specs.declared.unit.Answer.TheVariants.{Found, More, Unreadable}
 use Rattle.dl_info.specs.Entries.{EntryData}
+use Rattle.dl_info.specs.Section.{section_of}
 use Rattle.dl_info.specs.Units.{first_entry, unit_length}
 use Rattle.dl_dirs.specs.declared.walk.State.{State}
 use Rattle.dl_dirs.specs.declared.walk.State.TheVariants as state
@@ -42,7 +43,7 @@ StandsAt order abbreviations state.Ended front b es = (rest : List ℕ) → entr
 -- the walk has taken the bytes b of a section of this order, with these abbreviations
 pub record StandsFor (walk : Walk) (order : Order) (abbreviations b : List ℕ) : Type 0 where
   pub order_is : walk.places.order ≡ order
-  pub abbreviations_are : walk.abbreviations.now ≡ abbreviations
+  pub abbreviations_are : section_of walk.abbreviations ≡ abbreviations
   pub es : List EntryData
   pub holds : Holds walk.places es
   pub stands : StandsAt order abbreviations walk.state walk.front.items b es
@@ -50,7 +51,7 @@ pub record StandsFor (walk : Walk) (order : Order) (abbreviations b : List ℕ) 
 -- the same where what follows front settles it, whatever the walk's state is
 pub record GoesOn (walk : Walk) (order : Order) (abbreviations b front : List ℕ) : Type 0 where
   pub order_is : walk.places.order ≡ order
-  pub abbreviations_are : walk.abbreviations.now ≡ abbreviations
+  pub abbreviations_are : section_of walk.abbreviations ≡ abbreviations
   pub es : List EntryData
   pub holds : Holds walk.places es
   pub onward : Onward order abbreviations b es front

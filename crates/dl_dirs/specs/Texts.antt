@@ -1,6 +1,6 @@
 -- The texts of directories. DWARF 5, sections 7.5.5 and 7.26.
-use Rattle.std.specs.Prelude.{ℕ, List, Option, Some, unwrap_or}
-use Rattle.std.specs.Option.{option_and_then, option_copied}
+use Rattle.std.specs.Prelude.{ℕ, List, Option, Some, option_map, unwrap_or}
+use Rattle.std.specs.Option.{option_and_then}
 use Rattle.dl_num.specs.declared.fixed.Order.{Order}
 use Rattle.dl_table.specs.declared.form.Format.{Format}
 use Rattle.dl_table.specs.declared.form.Format.TheVariants.{Dwarf32, Dwarf64}
@@ -18,9 +18,9 @@ pub record TextsData : Type 0 where
 -- what sections in memory are
 abbrev pub texts_of : Texts → TextsData
 texts_of t = record {
-  str_offsets = option_copied t.str_offsets;
-  debug_str = option_copied t.debug_str;
-  debug_line_str = option_copied t.debug_line_str;
+  str_offsets = option_map (λ bytes. bytes.items) t.str_offsets;
+  debug_str = option_map (λ bytes. bytes.items) t.debug_str;
+  debug_line_str = option_map (λ bytes. bytes.items) t.debug_line_str;
 }
 
 -- the text at an offset of a section

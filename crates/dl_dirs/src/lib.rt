@@ -8,12 +8,13 @@
 
 mod compilation;
 mod directories;
+mod extent;
 mod places;
 mod texts;
 mod walk;
 
 pub use compilation::CompilationDirectories;
-pub use directories::{Directories, NoMemory};
+pub use directories::Directories;
 pub use places::Places;
 pub use texts::Texts;
 pub use walk::Walk;

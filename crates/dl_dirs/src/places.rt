@@ -6,15 +6,17 @@ ghost use Rattle.std.specs.List.{list_any};
 ghost use Rattle.std.specs.Ordering.{nat_cmp};
 ghost use Rattle.dl_num.specs.declared.fixed.Order.{Order};
 ghost use Rattle.dl_info.specs.Entries.{EntryData, entry, text};
-ghost use Rattle.dl_dirs.specs.Texts.{directory_text, texts_of};
+ghost use Rattle.dl_dirs.specs.Texts.{texts_of};
 ghost use Rattle.dl_dirs.specs.Units.{HasDirectory, directory, entries, has_index, has_line_str, has_str, Stands};
 ghost use Rattle.dl_dirs.specs.Directories.{directory_at};
-ghost use Rattle.dl_dirs.specs.Holding.{AreOf, Found, Grows, HasPlace, Holds, IsPlaced, IsText, kept_entry};
-ghost use Rattle.dl_dirs.specs.Holding.{is_in, text_elsewhere};
+ghost use Rattle.dl_dirs.specs.Holding.{AreOf, Grows, HasPlace, Holds, IsPlaced, directory_kept, is_in, kept_entry};
+ghost use Rattle.dl_dirs.specs.Holding.{text_kept};
 
-use crate::directories::{Directories, Extent, NoMemory, put};
+use crate::directories::Directories;
+use crate::extent::{Extent, bytes_of, put};
 use crate::texts::{Texts, index_text, section_text};
 use dl_info::{Entry, Text};
+use dl_memory::NoMemory;
 use dl_num::Order;
 use dl_table::Format;
 use std::alloc::Global;
@@ -82,59 +84,16 @@ fn place_of(bytes: &mut Vec<u8>, said: Text<'_>) -> Result<Place, NoMemory>
     }
 }
 
-/// The text of a directory that doesn't stand in its entry.
-fn text_elsewhere<'t>(order: Order, texts: &Texts<'t>, kept: &Kept) -> Option<&'t [u8]>
-    ensures { option_copied result ≡ text_elsewhere order (texts_of texts.now) kept.now }
+/// The text of the directory of an entry, where it is known; these are the texts that stand in entries.
+fn text_of<'t>(order: Order, texts: &'t Texts, bytes: &'t [u8], kept: &Kept) -> Option<&'t [u8]>
+    ensures { option_copied result ≡ text_kept order (texts_of texts.entry.now) bytes.entry.now kept.now }
 {
     match kept.place {
-        Place::Here(_) => None,
-        Place::Str(offset) => section_text(texts.debug_str, offset),
-        Place::LineStr(offset) => section_text(texts.debug_line_str, offset),
+        Place::Here(extent) => Some(bytes_of(bytes, extent)),
+        Place::Str(offset) => section_text(&texts.debug_str, offset),
+        Place::LineStr(offset) => section_text(&texts.debug_line_str, offset),
         Place::Index(index) => index_text(order, texts, kept.format, kept.base, index),
     }
-}
-
-/// Where the text of a directory stands in the bytes, to which it is added from its section; None where it isn't known.
-fn extent_of(
-    order: Order,
-    texts: &Texts<'_>,
-    bytes: &mut Vec<u8>,
-    kept: &Kept,
-) -> Result<Option<Extent>, NoMemory>
-    ensures grows { Grows bytes.old.items bytes.new.items }
-    ensures text { IfOk result (λ e. (b : List ℕ) → Grows b bytes.old.items → HasPlace b kept.now.place
-        → IsText bytes.new.items e (directory_text order (texts_of texts.now) (kept_entry b kept.now))) }
-{
-    if let Place::Here(extent) = kept.place {
-        return Ok(Some(extent));
-    }
-    match text_elsewhere(order, texts, kept) {
-        Some(text) => Ok(Some(put(bytes, text)?)),
-        None => Ok(None),
-    }
-}
-
-/// The same of each that is kept.
-fn extents_of(
-    alloc: Global,
-    order: Order,
-    texts: &Texts<'_>,
-    bytes: &mut Vec<u8>,
-    entries: &[Kept],
-) -> Result<Vec<Option<Extent>>, NoMemory>
-    ensures grows { Grows bytes.old.items bytes.new.items }
-    ensures found { IfOk result (λ extents. Found order (texts_of texts.now) bytes.old.items entries.now
-        (length entries.now) bytes.new.items extents.items) }
-    ensures memory { IfErr result (λ error. 1 ≤ length entries.now) }
-{
-    let mut extents = Vec::new(alloc);
-    for kept in entries {
-        let extent = extent_of(order, texts, bytes, kept)?;
-        let Ok(()) = extents.push(extent) else {
-            return Err(NoMemory);
-        };
-    }
-    Ok(extents)
 }
 
 impl Place {
@@ -235,26 +194,22 @@ impl Places {
         is_wanted(&self.entries, Section::StrOffsets)
     }
 
-    /// The directories, with the bytes of the sections in which they stand.
-    pub fn directories(self, texts: &Texts<'_>) -> Result<Directories, NoMemory>
-        ensures found { (order : Order) (abbreviations b : List ℕ) → AreOf self order abbreviations b
-            → IfOk result (λ d. (n : ℕ)
-            → directory_at d n ≡ directory order abbreviations (texts_of texts.now) b n) }
-        ensures memory { (order : Order) (abbreviations b : List ℕ) → AreOf self order abbreviations b
-            → IfErr result (λ error. HasDirectory (entries order abbreviations b)) }
+    /// The text of the directory of the line table at an offset, where it is known.
+    pub(crate) fn text<'t>(&'t self, texts: &'t Texts, offset: u64) -> Option<&'t [u8]>
+        ensures { option_copied result ≡ directory_kept (texts_of texts.entry.now) self.entry.now offset }
     {
-        let Places {
-            alloc,
-            order,
-            numbers,
-            entries,
-            mut bytes,
-        } = self;
-        let extents = extents_of(alloc, order, texts, &mut bytes, &entries)?;
-        Ok(Directories {
-            numbers,
-            extents,
-            bytes,
-        })
+        let kept = self.entries.get(*self.numbers.get(&offset)?)?;
+        text_of(self.order, texts, &self.bytes, kept)
+    }
+
+    /// The directories, with the bytes of the sections in which they stand. It takes no memory.
+    pub fn directories(self, texts: Texts) -> Directories
+        ensures { (order : Order) (abbreviations b : List ℕ) → AreOf self order abbreviations b
+            → (n : ℕ) → directory_at result n ≡ directory order abbreviations (texts_of texts) b n }
+    {
+        Directories {
+            places: self,
+            texts,
+        }
     }
 }

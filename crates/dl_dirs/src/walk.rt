@@ -4,15 +4,16 @@ ghost use Rattle.dl_num.specs.declared.fixed.Order.{Order};
 ghost use Rattle.dl_info.specs.declared.head.UnitLength.{UnitLength};
 ghost use Rattle.dl_info.specs.declared.unit.Answer.TheVariants.{Found};
 ghost use Rattle.dl_info.specs.Entries.{EntryData};
+ghost use Rattle.dl_info.specs.Section.{section_of};
 ghost use Rattle.dl_info.specs.Units.{first_entry, unit_length};
 ghost use Rattle.dl_dirs.specs.Units.{HasDirectory, entries, found_in};
 ghost use Rattle.dl_dirs.specs.Holding.{AreOf, Holds};
 ghost use Rattle.dl_dirs.specs.Standing.{Awaits, GoesOn, StandsFor, Took, told_length};
 ghost use Rattle.dl_dirs.specs.declared.walk.State.TheVariants as state;
 
-use crate::directories::NoMemory;
 use crate::places::Places;
-use dl_info::{Answer, UnitLength, first_entry, unit_length};
+use dl_info::{Abbreviations, Answer, UnitLength, first_entry, unit_length};
+use dl_memory::NoMemory;
 use dl_num::Order;
 use std::alloc::Global;
 
@@ -36,7 +37,7 @@ pub(crate) enum State {
 /// at a time, and only where a piece ends inside its first entry.
 #[derive(Drop)]
 pub struct Walk<'a> {
-    abbreviations: &'a [u8],
+    abbreviations: Abbreviations<'a>,
     state: State,
     /// The first bytes of a unit.
     front: Vec<u8>,
@@ -46,16 +47,17 @@ pub struct Walk<'a> {
 /// Reads a unit from its first bytes, and takes its entry: its length, More where they don't tell the entry.
 fn read(
     places: &mut Places,
-    abbreviations: &[u8],
+    abbreviations: &mut Abbreviations<'_>,
     front: &[u8],
 ) -> Result<Answer<UnitLength>, NoMemory>
     ensures order { places.new.order ≡ places.old.order }
+    ensures abbreviations { section_of abbreviations.new ≡ section_of abbreviations.old }
     ensures length { IfOk result (λ length.
-        length ≡ told_length places.old.order abbreviations.now front.now) }
+        length ≡ told_length places.old.order (section_of abbreviations.old) front.now) }
     ensures holds { OnOk result ((es : List EntryData) → Holds places.old es
-        → Holds places.new (es ++ found_in (first_entry places.old.order abbreviations.now front.now))) }
+        → Holds places.new (es ++ found_in (first_entry places.old.order (section_of abbreviations.old) front.now))) }
     ensures memory { IfErr result (λ error.
-        HasDirectory (found_in (first_entry places.old.order abbreviations.now front.now))) }
+        HasDirectory (found_in (first_entry places.old.order (section_of abbreviations.old) front.now))) }
 {
     match first_entry(places.order, front, abbreviations) {
         Answer::Found(entry) => places.add(&entry)?,
@@ -86,7 +88,7 @@ impl<'a> Walk<'a> {
         ensures { StandsFor result order abbreviations.entry.now [] }
     {
         Walk {
-            abbreviations,
+            abbreviations: Abbreviations::new(alloc, abbreviations),
             state: State::Body(0),
             front: Vec::new(alloc),
             places: Places::new(alloc, order),
@@ -153,7 +155,7 @@ impl<'a> Walk<'a> {
             → length self.old.front.items ≤ l.size)
             → OnOk result (StandsFor self.new order abbreviations b) }
     {
-        self.state = match read(&mut self.places, self.abbreviations, &self.front)? {
+        self.state = match read(&mut self.places, &mut self.abbreviations, &self.front)? {
             Answer::Found(unit) => State::Body(unit.size.saturating_sub(self.front.len() as u64)),
             Answer::More => State::Begun(awaited(self.places.order, &self.front)),
             Answer::Unreadable => State::Ended,
@@ -184,7 +186,7 @@ impl<'a> Walk<'a> {
         ensures stands { (order : Order) (abbreviations b : List ℕ) → GoesOn self.old order abbreviations b []
             → IfOk result (Took self.new order abbreviations b piece.now) }
     {
-        match read(&mut self.places, self.abbreviations, piece)? {
+        match read(&mut self.places, &mut self.abbreviations, piece)? {
             Answer::Found(unit) => {
                 let used = unit.size.min(piece.len() as u64);
                 self.state = State::Body(unit.size - used);
@@ -219,13 +221,13 @@ impl<'a> Walk<'a> {
             → IfErr result (λ error. HasDirectory (entries order abbreviations b)) }
     {
         let Walk {
-            abbreviations,
+            mut abbreviations,
             state,
             front,
             mut places,
         } = self;
         if let State::Begun(_) = state {
-            let _ = read(&mut places, abbreviations, &front)?;
+            let _ = read(&mut places, &mut abbreviations, &front)?;
         }
         Ok(places)
     }

@@ -9,3 +9,6 @@ pub mod GrammarTables
 pub mod GrammarEntries
 pub mod AbbreviationLemmas
 pub mod EntryLemmas
+pub mod KeptLemmas
+pub mod RemainLemmas
+pub mod MapLemmas

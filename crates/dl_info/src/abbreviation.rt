@@ -27,11 +27,11 @@ impl Attribute {
 
 /// An abbreviation declaration.
 #[derive(Clone, Copy)]
-struct Declaration<'a> {
+pub(crate) struct Declaration<'a> {
     /// The code that entries name it by.
-    code: u64,
+    pub code: u64,
     /// The bytes from the first of its attributes on.
-    attributes: &'a [u8],
+    pub attributes: &'a [u8],
 }
 
 /// The next attribute of an abbreviation, and what follows it.
@@ -67,7 +67,7 @@ fn after_attributes(bytes: &[u8]) -> Result<&[u8], Stop>
 
 /// The next abbreviation, which isn't the end of them, and what follows it.
 #[tactic(auto, unfolding(crate::specs::Abbreviations::declaration_at))]
-fn declaration_at(bytes: &[u8]) -> Result<(Declaration<'_>, &[u8]), Stop>
+pub(crate) fn declaration_at(bytes: &[u8]) -> Result<(Declaration<'_>, &[u8]), Stop>
     ensures declaration { seen (λ x. (declaration x.0, x.1.now)) result ≡ declaration_at bytes.entry.now }
     ensures whole { IfOk result (λ x. HasEnd x.0.attributes.now) }
 {

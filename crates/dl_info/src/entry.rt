@@ -5,8 +5,11 @@ ghost use Rattle.dl_info.specs.Front.{seen};
 ghost use Rattle.dl_info.specs.Forms.{told};
 ghost use Rattle.dl_info.specs.Abbreviations.{attributes_in, HasEnd};
 ghost use Rattle.dl_info.specs.Entries.{entry, entry_at, number_in, offset_in, text, text_in, values_at, without_values};
+ghost use Rattle.dl_info.specs.Kept.{Ends, list_of};
+ghost use Rattle.dl_info.specs.Section.{section_of};
 
-use crate::abbreviation::{attribute_at, declared_from};
+use crate::abbreviation::{Attribute, attribute_at};
+use crate::abbreviations::{Abbreviations, Attributes};
 use crate::form::{Encoding, Value};
 use crate::front::{Stop, number_of, uleb_at};
 use crate::head::head_at;
@@ -120,7 +123,7 @@ impl<'a> Entry<'a> {
 }
 
 /// The entry whose values are these bytes, with the attributes that these bytes have.
-fn values_at<'a>(
+fn declared_values_at<'a>(
     encoding: Encoding,
     attributes: &[u8],
     bytes: &'a [u8],
@@ -146,17 +149,55 @@ fn values_at<'a>(
     Err(Stop::Damaged)
 }
 
-/// The first entry of a unit, whose abbreviations stand in this section.
-#[tactic(auto, unfolding(crate::specs::Entries::entry_at))]
+/// The entry whose values are these bytes, with these attributes.
+fn kept_values_at<'a>(
+    encoding: Encoding,
+    attributes: &[Attribute],
+    bytes: &'a [u8],
+) -> Result<(Entry<'a>, &'a [u8]), Stop>
+    ensures { seen (λ x. (entry x.0, x.1.now)) result ≡ values_at encoding attributes.now
+        (without_values encoding.format) bytes.entry.now }
+{
+    let mut entry = Entry::new(encoding.format);
+    let mut rest = bytes;
+    for i in 0..attributes.len() {
+        let attribute = attributes[i];
+        let (value, after) = encoding.value_at(attribute.form, rest)?;
+        entry = entry.with_value(encoding.order, attribute.name, value);
+        rest = after;
+    }
+    Ok((entry, rest))
+}
+
+/// The entry whose values are these bytes, with the attributes of an abbreviation.
+fn values_at<'a>(
+    encoding: Encoding,
+    attributes: Attributes<'_>,
+    bytes: &'a [u8],
+) -> Result<(Entry<'a>, &'a [u8]), Stop>
+    requires { Ends attributes }
+    ensures { seen (λ x. (entry x.0, x.1.now)) result ≡ values_at encoding (list_of attributes.entry)
+        (without_values encoding.format) bytes.entry.now }
+{
+    match attributes {
+        Attributes::Declared(declared) => declared_values_at(encoding, declared, bytes),
+        Attributes::Kept(kept) => kept_values_at(encoding, kept, bytes),
+    }
+}
+
+/// The first entry of a unit, with its abbreviations.
 pub(crate) fn entry_at<'a>(
     order: Order,
     unit: &'a [u8],
-    abbreviations: &[u8],
+    abbreviations: &mut Abbreviations<'_>,
 ) -> Result<(Entry<'a>, &'a [u8]), Stop>
-    ensures { seen (λ x. (entry x.0, x.1.now)) result ≡ entry_at order abbreviations.now unit.entry.now }
+    ensures entry { seen (λ x. (entry x.0, x.1.now)) result
+        ≡ entry_at order (section_of abbreviations.old) unit.entry.now }
+    ensures section { section_of abbreviations.new ≡ section_of abbreviations.old }
 {
     let (head, rest) = head_at(order, unit)?;
     let (code, rest) = uleb_at(rest)?;
-    let attributes = declared_from(head.abbreviations, code, abbreviations)?;
+    abbreviations.turn_to(head.abbreviations);
+    let attributes = abbreviations.find(head.abbreviations, code)?;
     values_at(head.encoding, attributes, rest)
 }

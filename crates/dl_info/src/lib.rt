@@ -5,6 +5,7 @@
 #![tactic(auto)]
 
 mod abbreviation;
+mod abbreviations;
 mod entry;
 mod form;
 mod front;
@@ -12,6 +13,7 @@ mod head;
 pub mod laws;
 mod unit;
 
+pub use abbreviations::Abbreviations;
 pub use entry::{Entry, Text};
 pub use head::UnitLength;
 pub use unit::{Answer, first_entry, string_offset, string_place, unit_length};

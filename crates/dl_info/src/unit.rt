@@ -1,9 +1,11 @@
 //! Units of `.debug_info` by the bytes that are known of them, and texts by their indices. DWARF 5, sections 7.5.1 and 7.26.
 ghost use Rattle.std.specs.Prelude.{◌≡◌};
 ghost use Rattle.dl_info.specs.Entries.{entry};
+ghost use Rattle.dl_info.specs.Section.{section_of};
 ghost use Rattle.dl_info.specs.Units.{answer_map, first_entry, length_answer, settled, string_offset, string_place};
 ghost use Rattle.dl_info.specs.Units.{unit_length};
 
+use crate::abbreviations::Abbreviations;
 use crate::entry::{Entry, entry_at};
 use crate::front::{Stop, bytes_from, fixed_at};
 use crate::head::{UnitLength, length_at};
@@ -35,8 +37,13 @@ pub fn unit_length(order: Order, bytes: &[u8]) -> Answer<UnitLength>
 
 /// The first entry of a unit of `.debug_info`, from the first bytes of the unit, which more may follow, and all bytes of
 /// `.debug_abbrev`. Offsets of an object file are right only where its relocations are applied first. DWARF 5, section 7.5.
-pub fn first_entry<'a>(order: Order, bytes: &'a [u8], abbreviations: &[u8]) -> Answer<Entry<'a>>
-    ensures { answer_map entry result ≡ first_entry order abbreviations.now bytes.entry.now }
+pub fn first_entry<'a>(
+    order: Order,
+    bytes: &'a [u8],
+    abbreviations: &mut Abbreviations<'_>,
+) -> Answer<Entry<'a>>
+    ensures entry { answer_map entry result ≡ first_entry order (section_of abbreviations.old) bytes.entry.now }
+    ensures section { section_of abbreviations.new ≡ section_of abbreviations.old }
 {
     let size = match length_at(order, bytes) {
         Ok((length, _)) => length.size,

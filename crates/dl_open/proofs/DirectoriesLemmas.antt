@@ -136,13 +136,13 @@ none_found t order None n is found = by (bytes_had STRINGS_LIMIT t.abbreviations
     by (Some a) is found = without_info t n found
 
 -- those with the places that were found
-pub some_found : (t : InfoTable) (order : Order) (found : Option Places) (places : Places) (held texts : TextsData)
+pub some_found : (t : InfoTable) (order : Order) (found : Option Places) (places : Places) (held : TextsData)
     (f : ℕ → Option (List ℕ)) → found ≡ Some places → AreFound order t.abbreviations t.info found → order ≡ t.order
-    → ((a b : List ℕ) → AreOf places order a b → AreHad order a b t held) → texts ≡ held
-    → ((a b : List ℕ) → AreOf places order a b → (n : ℕ) → f n ≡ directory order a texts b n)
+    → ((a b : List ℕ) → AreOf places order a b → AreHad order a b t held)
+    → ((a b : List ℕ) → AreOf places order a b → (n : ℕ) → f n ≡ directory order a held b n)
     → (n : ℕ) → f n ≡ said_in t n
-some_found t order None places held texts f is found ordered had same directories = absurd (cc is)
-some_found t order (Some own) places held texts f is found ordered had same directories =
+some_found t order None places held f is found ordered had directories = absurd (cc is)
+some_found t order (Some own) places held f is found ordered had directories =
     by (bytes_had STRINGS_LIMIT t.abbreviations) refl found
   where
     by : (a : Option (List ℕ)) → bytes_had STRINGS_LIMIT t.abbreviations ≡ a
@@ -152,8 +152,7 @@ some_found t order (Some own) places held texts f is found ordered had same dire
     by (Some a) with_some (b, info, own_are) =
         let one : own ≡ places = cc is in
         let are = subst (λ (p : Places). AreOf p order a b) one own_are in
-        λ n. directories a b are n ∙ ap (λ (s : TextsData). directory order a s b n) same
-        ∙ with_both t order a b held n ordered (sym with_some) info (had a b are)
+        λ n. directories a b are n ∙ with_both t order a b held n ordered (sym with_some) info (had a b are)
 
 -- a file that was opened has units
 pub has_units : {S : Type 0} {g : _} (all_bytes : S → Option (List ℕ)) (bytes : List ℕ) (opened : Option (InfoFile S g))

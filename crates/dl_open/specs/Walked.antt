@@ -1,6 +1,6 @@
 -- What was read of the units of .debug_info and of their texts. No promise rests on how this is said.
 use Rattle.std.specs.Prelude.{◌≡◌, ℕ, List, Option, Some, None, MatchOption}
-use Rattle.std.specs.Option.{option_and_then, option_map}
+use Rattle.std.specs.Option.{option_and_then}
 use Rattle.dl_num.specs.declared.fixed.Order.{Order}
 use Rattle.dl_dirs.specs.declared.places.Places.{Places}
 use Rattle.dl_dirs.specs.declared.walk.Walk.{Walk}
@@ -11,7 +11,6 @@ use Rattle.dl_dirs.specs.Units.{entries, has_index, has_line_str, has_str, Stand
 use Rattle.dl_file.specs.LineTable.{Content}
 use Rattle.dl_file.specs.InfoTable.{InfoTable}
 use Rattle.dl_run.specs.declared.options.TheConstants.{SECTION_LIMIT}
-use Rattle.dl_open.specs.declared.directories.TextSections.{TextSections}
 use Rattle.dl_open.specs.declared.strings.TheConstants.{STRINGS_LIMIT}
 use Rattle.dl_open.specs.Directories.{bytes_had}
 
@@ -39,11 +38,3 @@ pub record AreHad (order : Order) (abbreviations b : List ℕ) (t : InfoTable) (
   pub str_offsets : IsHadWhere (Stands has_index (entries order abbreviations b)) t.str_offsets held.str_offsets
   pub str : IsHadWhere (Stands has_str (entries order abbreviations b)) t.str held.debug_str
   pub line_str : IsHadWhere (Stands has_line_str (entries order abbreviations b)) t.line_str held.debug_line_str
-
--- the bytes that are held
-abbrev pub sections_held : TextSections → TextsData
-sections_held s = record {
-  str_offsets = option_map (λ v. v.items) s.str_offsets;
-  debug_str = option_map (λ v. v.items) s.debug_str;
-  debug_line_str = option_map (λ v. v.items) s.debug_line_str;
-}

@@ -9,24 +9,16 @@ ghost use Rattle.dl_num.specs.declared.fixed.Order.{Order};
 ghost use Rattle.dl_file.specs.InfoTable.{GivesInfo, InfoTable};
 ghost use Rattle.dl_file.specs.LineTable.{Content, Gives, GivesLine, GivesOption};
 ghost use Rattle.dl_open.specs.Directories.{AreDirectories, RefusesDirectories, said_in};
-ghost use Rattle.dl_open.specs.Walked.{AreFound, AreHad, ArePlaces, IsHadWhere, IsWalked, sections_held};
+ghost use Rattle.dl_open.specs.Walked.{AreFound, AreHad, ArePlaces, IsHadWhere, IsWalked};
 
 use crate::section::{PIECE, Piece, Unread, next_piece, whole};
-use dl_dirs::{Directories, NoMemory, Places, Texts, Walk};
+use dl_dirs::{Directories, Places, Texts, Walk};
 use dl_elf::{ElfFault, ReadAt};
 use dl_file::{ContentReader, InfoFile, LineReader, open_info};
+use dl_memory::NoMemory;
 use dl_num::Order;
 use dl_run::SECTION_LIMIT;
 use std::alloc::Global;
-
-/// The bytes of the sections in which the texts of directories stand; None of one in which none stands, that the file
-/// lacks, or that can't be had.
-#[derive(Drop)]
-struct TextSections {
-    str_offsets: Option<Vec<u8>>,
-    debug_str: Option<Vec<u8>>,
-    debug_line_str: Option<Vec<u8>>,
-}
 
 /// All bytes of a section that the file may lack; None of one that isn't wanted, which isn't read.
 fn whole_where<S: ReadAt>(
@@ -108,38 +100,26 @@ fn places_of<S: ReadAt>(
     }
 }
 
-impl TextSections {
-    /// Those of a file, for the directories with these places.
-    fn read<S: ReadAt>(
-        alloc: Global,
-        places: &Places,
-        str_offsets: Option<ContentReader<'_, S>>,
-        debug_str: Option<ContentReader<'_, S>>,
-        debug_line_str: Option<ContentReader<'_, S>>,
-    ) -> Result<TextSections, Unread>
-        ensures { (order : Order) (abbreviations b : List ℕ) (t : InfoTable) → AreOf places.now order abbreviations b
-            → GivesOption S.all_bytes str_offsets.entry t.str_offsets
-            → GivesOption S.all_bytes debug_str.entry t.str
-            → GivesOption S.all_bytes debug_line_str.entry t.line_str
-            → IfOk result (λ s. AreHad order abbreviations b t (sections_held s)) }
-    {
-        Ok(TextSections {
-            str_offsets: whole_where(alloc, places.wants_str_offsets(), str_offsets)?,
-            debug_str: whole_where(alloc, places.wants_str(), debug_str)?,
-            debug_line_str: whole_where(alloc, places.wants_line_str(), debug_line_str)?,
-        })
-    }
-
-    /// Their bytes.
-    fn texts(&self) -> Texts<'_>
-        ensures { texts_of result ≡ sections_held self.now }
-    {
-        Texts {
-            str_offsets: self.str_offsets.as_ref().map(|bytes| bytes.as_slice()),
-            debug_str: self.debug_str.as_ref().map(|bytes| bytes.as_slice()),
-            debug_line_str: self.debug_line_str.as_ref().map(|bytes| bytes.as_slice()),
-        }
-    }
+/// The bytes of the sections of a file in which the texts of directories with these places stand; None of one in which none
+/// stands, that the file lacks, or that can't be had.
+fn texts_for<S: ReadAt>(
+    alloc: Global,
+    places: &Places,
+    str_offsets: Option<ContentReader<'_, S>>,
+    debug_str: Option<ContentReader<'_, S>>,
+    debug_line_str: Option<ContentReader<'_, S>>,
+) -> Result<Texts, Unread>
+    ensures { (order : Order) (abbreviations b : List ℕ) (t : InfoTable) → AreOf places.now order abbreviations b
+        → GivesOption S.all_bytes str_offsets.entry t.str_offsets
+        → GivesOption S.all_bytes debug_str.entry t.str
+        → GivesOption S.all_bytes debug_line_str.entry t.line_str
+        → IfOk result (λ texts. AreHad order abbreviations b t (texts_of texts)) }
+{
+    Ok(Texts {
+        str_offsets: whole_where(alloc, places.wants_str_offsets(), str_offsets)?,
+        debug_str: whole_where(alloc, places.wants_str(), debug_str)?,
+        debug_line_str: whole_where(alloc, places.wants_line_str(), debug_line_str)?,
+    })
 }
 
 /// The directories that the units of a file say; none, where its `.debug_info` or `.debug_abbrev` can't be had.
@@ -159,11 +139,8 @@ fn read_directories<S: ReadAt>(alloc: Global, file: InfoFile<'_, S>) -> Result<D
     let Some(places) = places_of(alloc, order, abbreviations, &mut info)? else {
         return Ok(Directories::none(alloc));
     };
-    let sections = TextSections::read(alloc, &places, str_offsets, debug_str, debug_line_str)?;
-    match places.directories(&sections.texts()) {
-        Ok(directories) => Ok(directories),
-        Err(NoMemory) => Err(Unread::NoMemory),
-    }
+    let texts = texts_for(alloc, &places, str_offsets, debug_str, debug_line_str)?;
+    Ok(places.directories(texts))
 }
 
 /// The directories that `.debug_info` of an open file says, by the offsets of line tables: none where the file has no such

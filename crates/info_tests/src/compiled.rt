@@ -1,7 +1,8 @@
 //! Units that compilers made.
 use crate::row::{Row, is_long, is_read};
 use crate::units::{CLANG_5, GCC_2, GCC_3, GCC_4_64, GCC_5, MIPS_5, PPC_4, SKELETON_5, TYPE_5};
-use dl_info::{Answer, Text, first_entry, string_offset, string_place};
+use dl_info::{Abbreviations, Answer, Text, first_entry, string_offset, string_place};
+use std::alloc::Global;
 use std::test::*;
 
 const ROWS: &[&Row<'static>] = &[
@@ -20,7 +21,7 @@ const ROWS: &[&Row<'static>] = &[
 fn compiled_units(rt: HostRuntime) {
     for row in ROWS {
         assert!(rt; is_long(row), "{}", row.name);
-        assert!(rt; is_read(row), "{}", row.name);
+        assert!(rt; is_read(rt.alloc(), row), "{}", row.name);
     }
 }
 
@@ -33,8 +34,9 @@ const STR_OFFSETS: &[u8] = &[
 ];
 
 /// Where the directory of a unit of clang stands in `.debug_str`, by its index.
-fn directory_offset(row: &Row<'_>) -> Option<u64> {
-    let Answer::Found(entry) = first_entry(row.order, row.bytes, row.abbreviations) else {
+fn directory_offset(alloc: Global, row: &Row<'_>) -> Option<u64> {
+    let abbreviations = &mut Abbreviations::new(alloc, row.abbreviations);
+    let Answer::Found(entry) = first_entry(row.order, row.bytes, abbreviations) else {
         return None;
     };
     let Some(Text::Index(index)) = entry.comp_dir else {
@@ -47,5 +49,5 @@ fn directory_offset(row: &Row<'_>) -> Option<u64> {
 /// GNU readelf prints `/tmp/units` at this offset.
 #[test]
 fn directory_of_an_index(rt: HostRuntime) {
-    assert_eq!(rt; directory_offset(&CLANG_5), Some(0x24));
+    assert_eq!(rt; directory_offset(rt.alloc(), &CLANG_5), Some(0x24));
 }

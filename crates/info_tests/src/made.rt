@@ -1,7 +1,7 @@
 //! Units that are made by hand.
 use crate::forms::{FORMS_2_64, FORMS_3_64, FORMS_5};
 use crate::row::{is_long, is_read};
-use dl_info::{Answer, Text, first_entry, string_offset, string_place};
+use dl_info::{Abbreviations, Answer, Text, first_entry, string_offset, string_place};
 use dl_num::Order;
 use dl_table::Format;
 use std::test::*;
@@ -10,7 +10,7 @@ use std::test::*;
 fn all_forms(rt: HostRuntime) {
     for row in [&FORMS_5, &FORMS_2_64, &FORMS_3_64] {
         assert!(rt; is_long(row), "{}", row.name);
-        assert!(rt; is_read(row), "{}", row.name);
+        assert!(rt; is_read(rt.alloc(), row), "{}", row.name);
     }
 }
 
@@ -31,7 +31,7 @@ enum Known {
     Damage,
 }
 
-fn told(bytes: &[u8], abbreviations: &[u8]) -> Known {
+fn told(bytes: &[u8], abbreviations: &mut Abbreviations<'_>) -> Known {
     match first_entry(Order::Little, bytes, abbreviations) {
         Answer::Found(_) => Known::Entry,
         Answer::More => Known::More,
@@ -206,11 +206,47 @@ const FRONTS: &[(&[u8], &[u8], Known)] = &[
 #[test]
 fn fronts(rt: HostRuntime) {
     for (bytes, abbreviations, want) in FRONTS {
-        assert_eq!(rt;
-            told(bytes, abbreviations),
-            *want,
-            "{bytes:?} {abbreviations:?}"
-        );
+        let abbreviations = &mut Abbreviations::new(rt.alloc(), abbreviations);
+        assert_eq!(rt; told(bytes, abbreviations), *want, "{bytes:?}");
+        // The table is asked again, and kept then.
+        assert_eq!(rt; told(bytes, abbreviations), *want, "{bytes:?}");
+        assert_eq!(rt; told(bytes, abbreviations), *want, "{bytes:?}");
+    }
+}
+
+/// Two tables: of code 1 and of code 2, whose attributes are DW_AT_stmt_list in four bytes, and before that of the other one
+/// a value that has no bytes.
+const TABLES: &[u8] = b"\x01\x11\x00\x10\x06\x00\x00\x02\x11\x00\x3f\x19\x10\x06\x00\x00\x00\
+\x02\x11\x00\x03\x21\x05\x10\x06\x00\x00\x01\x11\x00\x10\x0b\x10\x06\x00\x00\x00";
+
+/// Where tables begin, the codes of units, and the offsets that these say, one after the other.
+const TURNS: &[(u8, u8, Option<u64>)] = &[
+    (0, 1, Some(0x0403_0201)),
+    (0, 2, Some(0x0403_0201)),
+    (0, 3, None),
+    (0, 1, Some(0x0403_0201)),
+    (17, 1, Some(0x0504_0302)),
+    (17, 1, Some(0x0504_0302)),
+    (0, 1, Some(0x0403_0201)),
+    (17, 1, Some(0x0504_0302)),
+    (17, 2, Some(0x0403_0201)),
+    (7, 1, None),
+    (7, 1, None),
+    (7, 2, Some(0x0403_0201)),
+];
+
+#[test]
+fn tables_by_turns(rt: HostRuntime) {
+    let abbreviations = &mut Abbreviations::new(rt.alloc(), TABLES);
+    for (table, code, want) in TURNS {
+        let unit = [
+            14, 0, 0, 0, 4, 0, *table, 0, 0, 0, 8, *code, 1, 2, 3, 4, 5, 6,
+        ];
+        let offset = match first_entry(Order::Little, &unit, abbreviations) {
+            Answer::Found(entry) => entry.stmt_list,
+            _ => None,
+        };
+        assert_eq!(rt; offset, *want, "{table} {code}");
     }
 }
 
@@ -234,7 +270,9 @@ const INDICES: &[(u8, u64)] = &[
 #[test]
 fn indices(rt: HostRuntime) {
     for (form, want) in INDICES {
-        let entry = match first_entry(Order::Big, UNIT, &directory_of(*form)) {
+        let directory = directory_of(*form);
+        let abbreviations = &mut Abbreviations::new(rt.alloc(), &directory);
+        let entry = match first_entry(Order::Big, UNIT, abbreviations) {
             Answer::Found(entry) => entry.comp_dir,
             _ => None,
         };

@@ -1,6 +1,7 @@
 //! A row: a unit, and what its first entry says.
-use dl_info::{Answer, Entry, Text, UnitLength, first_entry, unit_length};
+use dl_info::{Abbreviations, Answer, Entry, Text, UnitLength, first_entry, unit_length};
 use dl_num::Order;
+use std::alloc::Global;
 
 /// A unit, as far as its first entry or beyond, and what it says.
 #[derive(Clone, Copy)]
@@ -43,10 +44,12 @@ fn is_entry(row: &Row<'_>, entry: &Entry<'_>) -> bool {
         && is_same_directory(entry.comp_dir, row.comp_dir)
 }
 
-/// Whether the entry is read of each front of the bytes that has it, and more bytes are wanted of each shorter one.
-pub fn is_read(row: &Row<'_>) -> bool {
+/// Whether the entry is read of each front of the bytes that has it, and more bytes are wanted of each shorter one. The
+/// abbreviations are read where they stand for the first front that has the code, and kept for those after it.
+pub fn is_read(alloc: Global, row: &Row<'_>) -> bool {
+    let abbreviations = &mut Abbreviations::new(alloc, row.abbreviations);
     for end in 0..=row.bytes.len() {
-        let is_right = match first_entry(row.order, &row.bytes[..end], row.abbreviations) {
+        let is_right = match first_entry(row.order, &row.bytes[..end], abbreviations) {
             Answer::Found(entry) => row.entry_end <= end && is_entry(row, &entry),
             Answer::More => end < row.entry_end,
             Answer::Unreadable => false,

@@ -1,7 +1,7 @@
 //! A unit of version 2, copied as one of version 5.
 
 use crate::vectors::FREE_PASCAL;
-use dl_dirs::{CompilationDirectories, Directories, NoMemory, Texts, Walk};
+use dl_dirs::{CompilationDirectories, Directories, Texts, Walk};
 use dl_head::{AddressSize, Dialect, Older};
 use dl_num::Order;
 use dl_run::{Options, RunFault, SECTION_LIMIT, Summary, copy_to_5, dump};
@@ -48,12 +48,6 @@ const INFO: &[u8] = &[
 /// Its abbreviation: DW_AT_comp_dir in DW_FORM_string, and DW_AT_stmt_list in DW_FORM_data4.
 const ABBREVIATIONS: &[u8] = &[0x01, 0x11, 0x00, 0x1b, 0x08, 0x10, 0x06, 0x00, 0x00, 0x00];
 
-const NO_TEXTS: Texts<'static> = Texts {
-    str_offsets: None,
-    debug_str: None,
-    debug_line_str: None,
-};
-
 const COUNTS: Summary = Summary {
     units: 1,
     skipped: 0,
@@ -84,7 +78,7 @@ fn assert_dump(rt: &impl Abort, alloc: Global, section: &[u8], header: &[u8]) {
 /// The directories that `INFO` says.
 fn directories(alloc: Global) -> Result<Directories, NoMemory> {
     let walk = Walk::new(alloc, Order::Little, ABBREVIATIONS).feed(INFO)?;
-    walk.end()?.directories(&NO_TEXTS)
+    Ok(walk.end()?.directories(Texts::none()))
 }
 
 /// What the copy of a section without directories answers.

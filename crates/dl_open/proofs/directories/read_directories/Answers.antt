@@ -8,9 +8,9 @@ returns-in_default g c t gives n =
     c.none.ensures n ∙ sym (none_found t c.args.file.order c.in_ok-places.field-0 n c.in_default.is
     (c.in_ok-places.ensures t.abbreviations t.info gives.abbreviations gives.info))
 
-pub returns-in-Ok : goal.returns-in-Ok
-returns-in-Ok g c t gives = some_found t c.args.file.order c.in_ok-places.field-0 c.in-Some.places _ _
-    (directory_at c.in-Ok.directories) c.in-Some.is
+pub returns : goal.returns
+returns g c t gives = some_found t c.args.file.order c.in_ok-places.field-0 c.in-Some.places _
+    (directory_at c.directories.result) c.in-Some.is
     (c.in_ok-places.ensures t.abbreviations t.info gives.abbreviations gives.info) gives.order
-    (λ a b are. c.in_ok-sections.ensures _ a b t are gives.str_offsets gives.str gives.line_str)
-    c.texts.ensures (λ a b are. c.in-Ok.ensures.found _ a b are)
+    (λ a b are. c.in_ok-texts.ensures _ a b t are gives.str_offsets gives.str gives.line_str)
+    (λ a b are. c.directories.ensures _ a b are)

@@ -1,4 +1,5 @@
 use Rattle.std.proofs.Common.{◌∙◌, ◌++◌, arith, length, refl, sym, take, []}
+use Rattle.dl_info.specs.Section.{section_of}
 use Rattle.dl_info.specs.declared.unit.Answer.TheVariants.{Found, More, Unreadable}
 use Rattle.dl_dirs.proofs.UnitLemmas.{wants_more}
 use Rattle.dl_dirs.proofs.WalkLemmas.{after_more, after_unit, begins, begins_more, begins_none, moved, some_size}
@@ -17,13 +18,13 @@ returns-in-Found-clause-stands c order abbreviations b g =
     }) in
     let four = some_size order abbreviations piece l m.told in (
       omega (arith, four, c.requires, c.min-used.ensures),
-      after_unit walk order abbreviations b [] g _ refl piece (b ++ take used piece) (Found l) m
+      after_unit walk order abbreviations b [] g _ c.read.ensures.abbreviations piece (b ++ take used piece) (Found l) m
           (begins order abbreviations b g.es piece walk.front.items l used g.onward m.told c.min-used.ensures),
     )
 
 pub keep-requires : goal.keep-requires
 keep-requires c l is =
-    wants_more c.args.self.now.places.order c.args.self.now.abbreviations.now c.args.piece.now
+    wants_more c.args.self.now.places.order (section_of c.args.self.now.abbreviations) c.args.piece.now
     (sym c.in_ok-unit.ensures.length ∙ c.in-More.is) l (rw (← c.read.ensures.order) is)
 
 pub returns-in_ok-keep-in-More-clause-stands : goal.returns-in_ok-keep-in-More-clause-stands
@@ -39,12 +40,12 @@ returns-in_ok-keep-in-More-clause-stands c order abbreviations b g =
       c.in_ok-keep-in-More.ensures order abbreviations (b ++ take (length piece) piece)
           (after_more walk order abbreviations b [] g
           (record {
-            abbreviations = walk.abbreviations;
+            abbreviations = c.read.new.abbreviations;
             state = walk.state;
             front = walk.front;
             places = c.read.new.places;
           })
-          refl piece (b ++ take (length piece) piece) More m piece refl
+          c.read.ensures.abbreviations piece (b ++ take (length piece) piece) More m piece refl
           (begins_more order abbreviations b g.es piece g.onward)),
     )
 
@@ -58,6 +59,6 @@ returns-in-Unreadable-clause-stands c order abbreviations b g =
       holds = c.in_ok-unit.ensures.holds;
     }) in (
       c.requires,
-      after_unit walk order abbreviations b [] g _ refl piece (b ++ take (length piece) piece) Unreadable m
+      after_unit walk order abbreviations b [] g _ c.read.ensures.abbreviations piece (b ++ take (length piece) piece) Unreadable m
           (begins_none order abbreviations b g.es piece walk.front.items g.onward m.told),
     )

@@ -4,6 +4,7 @@ use Rattle.dl_dirs.specs.declared.walk.State.{State}
 use Rattle.dl_dirs.specs.Holding.{Holds}
 use Rattle.dl_dirs.specs.Standing.{GoesOn, StandsAt}
 use Rattle.dl_dirs.specs.Units.{HasDirectory, entries, found_in}
+use Rattle.dl_info.specs.Section.{section_of}
 use Rattle.dl_info.specs.Units.{first_entry}
 use Rattle.dl_num.specs.declared.fixed.Order.{Order}
 use Rattle.dl_dirs.proofs.HoldLemmas.{has_more, if_err}
@@ -48,7 +49,7 @@ returns-in_err-read-clause-memory c order abbreviations b s =
     let front = walk.front.items in
     let begun = subst (λ (x : State). StandsAt order abbreviations x front b s.es) c.in-Begun.is s.stands in
     let of_front = subst
-    (λ (u : List ℕ). HasDirectory (found_in (first_entry walk.places.order walk.abbreviations.now u)))
+    (λ (u : List ℕ). HasDirectory (found_in (first_entry walk.places.order (section_of walk.abbreviations) u)))
     c.deref.ensures.value c.in_err-read.ensures.memory in
     let said = subst (λ (o : Order). HasDirectory (found_in (first_entry o abbreviations front))) s.order_is
     (subst (λ (a : List ℕ). HasDirectory (found_in (first_entry walk.places.order a front))) s.abbreviations_are

@@ -1,5 +1,6 @@
 use Rattle.std.proofs.Common.{◌≡◌, ◌-◌, ◌∙◌, List, ℕ, ap, length, refl, rules, subst, sym}
 use Rattle.dl_num.specs.declared.fixed.Order.{Order}
+use Rattle.dl_info.specs.Section.{section_of}
 use Rattle.dl_info.specs.declared.head.UnitLength.{UnitLength}
 use Rattle.dl_info.specs.declared.unit.Answer.{Answer}
 use Rattle.dl_info.specs.declared.unit.Answer.TheVariants.{Found, More, Unreadable}
@@ -15,11 +16,11 @@ use Rattle.dl_dirs.proofs.walk.Walk.read_front.Goals.{in-Found, in-More, in-Unre
 pub awaited-requires : goal.awaited-requires
 awaited-requires c l is =
     let walk = c.args.self.now in
-    let told : told_length walk.places.order walk.abbreviations.now walk.front.items ≡ More =
-    ap (told_length walk.places.order walk.abbreviations.now) (sym c.deref.ensures.value)
+    let told : told_length walk.places.order (section_of walk.abbreviations) walk.front.items ≡ More =
+    ap (told_length walk.places.order (section_of walk.abbreviations)) (sym c.deref.ensures.value)
     ∙ (sym c.in_ok-unit.ensures.length ∙ c.in-More.is) in
     rw c.deref-in-More.ensures.value
-    (wants_more walk.places.order walk.abbreviations.now walk.front.items told l
+    (wants_more walk.places.order (section_of walk.abbreviations) walk.front.items told l
     (rw (← c.read.ensures.order, ← c.deref-in-More.ensures.value) is))
 
 pub returns : goal.returns
@@ -28,7 +29,7 @@ returns c order abbreviations b g fits =
     let front = walk.front.items in
     let places = c.read.new.places in
     let new : Walk = record {
-      abbreviations = walk.abbreviations;
+      abbreviations = c.read.new.abbreviations;
       state = c.match-branch-2.self;
       front = walk.front;
       places = places;
@@ -42,7 +43,7 @@ returns c order abbreviations b g fits =
           let m = moved walk order abbreviations b front g places front (Found l) (read (Found l) w.in-Found.is) in
           let within = fits l (told_found order abbreviations front (Found l) (λ more. absurd cc) m.told).length in
           let left : w.saturating_sub.result ≡ l.size - length front = search rules in
-          after_unit walk order abbreviations b front g new refl front b (Found l) m
+          after_unit walk order abbreviations b front g new c.read.ensures.abbreviations front b (Found l) m
           (subst
           (λ (x : State). StandsAt order abbreviations x front b (more_in walk order abbreviations b front g front))
           (sym (w.self-is ∙ ap state.Body left))
@@ -50,7 +51,7 @@ returns c order abbreviations b g fits =
       | in-More w ↦
           let m = moved walk order abbreviations b front g places front More (read More w.in-More.is) in
           let before : Walk = record {
-            abbreviations = walk.abbreviations;
+            abbreviations = c.read.new.abbreviations;
             state = walk.state;
             front = walk.front;
             places = places;
@@ -59,11 +60,11 @@ returns c order abbreviations b g fits =
           w.awaited.ensures in
           begun before new order abbreviations b w.awaited.result refl refl w.self-is
           (subst (λ (o : Order). Awaits o front w.awaited.result) m.order_is awaits)
-          (after_more walk order abbreviations b front g before refl front b More m front refl g.onward)
+          (after_more walk order abbreviations b front g before c.read.ensures.abbreviations front b More m front refl g.onward)
       | in-Unreadable w ↦
           let m = moved walk order abbreviations b front g places front Unreadable
           (read Unreadable w.in-Unreadable.is) in
-          after_unit walk order abbreviations b front g new refl front b Unreadable m
+          after_unit walk order abbreviations b front g new c.read.ensures.abbreviations front b Unreadable m
           (subst
           (λ (x : State). StandsAt order abbreviations x front b (more_in walk order abbreviations b front g front))
           (sym w.self-is) (ends_over order abbreviations b g.es front front g.onward m.told))

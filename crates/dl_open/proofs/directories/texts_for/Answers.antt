@@ -1,5 +1,5 @@
 use Rattle.dl_open.proofs.DirectoriesLemmas.{had_for}
-use Rattle.dl_open.proofs.directories.TextSections.read.Goals as goal
+use Rattle.dl_open.proofs.directories.texts_for.Goals as goal
 
 pub returns : goal.returns
 returns g c order abbreviations b t placed offsets str line = record {

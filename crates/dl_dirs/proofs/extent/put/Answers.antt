@@ -1,6 +1,6 @@
 use Rattle.std.proofs.Common.{◌≡◌, length, rules}
 use Rattle.dl_dirs.proofs.HoldLemmas.{ends_extent}
-use Rattle.dl_dirs.proofs.directories.put.Goals as goal
+use Rattle.dl_dirs.proofs.extent.put.Goals as goal
 
 pub returns-then-ends_with-clause-extent : goal.returns-then-ends_with-clause-extent
 returns-then-ends_with-clause-extent c =
