@@ -131,6 +131,11 @@ def parts_of_files():
     yield over_file("blocks", 40_000, ["check", "elf"], inputs.blocks)
     yield over_file("directories in .debug_info", 1500, ADDR, inputs.own_directories)
     yield over_file("directories in .debug_str", 1500, MAKE, inputs.lent_directories)
+    for words in (ADDR, MAKE):
+        yield over_file("far abbreviations", 1500, words, inputs.far_abbreviations)
+        yield over_file("attributes without values", 1500, words, inputs.empty_attributes)
+    yield over_file("one long directory", 1500, ADDR, inputs.one_directory)
+    yield over_file("two long directories", 1500, ADDR, lambda n: inputs.one_directory(n, 2))
 
 
 CASES = [case for group in (

@@ -234,6 +234,26 @@ def lent_directories(count):
                      Section(".debug_str", texts))
 
 
+def far_abbreviations(count):
+    """Units whose abbreviation is the last one of as many."""
+    before = b"".join(abbreviation(number, STRING) for number in range(1, count + 1))
+    return with_info(count, count, STRING, lambda part: b"/build\0", before + b"\0")
+
+
+def empty_attributes(count):
+    """Units whose abbreviation has as many attributes without a value (DW_FORM_flag_present)."""
+    many = uleb(1) + b"\x11\0" + b"\x34\x19" * count + b"\x10\x17\x1b" + bytes([STRING]) + b"\0\0\0"
+    return with_info(count, 1, STRING, lambda part: b"/build\0", many)
+
+
+def one_directory(count, texts=1):
+    """Units whose directories are texts by turns, with as many bytes together as the units."""
+    size = 20 * count // texts
+    strings = b"".join(b"/%d" % text + b"d" * (size - 3) + b"\0" for text in range(texts))
+    return with_info(count, 1, STRP, lambda part: struct.pack("<I", size * (part % texts)), abbreviation(1, STRP) + b"\0",
+                     Section(".debug_str", strings))
+
+
 def wide_units(count):
     """Units of 1024 bytes with 16 rows each; most of a unit is an operation that is passed over."""
     names, operations = tables(b"/src", b"NUMBER##.c"), sequence(BASE)

@@ -76,6 +76,11 @@ def texts():
     ])
 
 
+def compilations():
+    """Units of `.debug_info` with two long directories by turns, which stand in `.debug_str` alone."""
+    yield Room("two long directories", 2000, 50, lambda n: inputs.one_directory(n, 2), [(ADDR, lambda n: 200 * n, 0)])
+
+
 def questions():
     """Lines of the input, of which none is held."""
     for text, status in ((b"1", 1), (b"x", 1), (b" ", 0), (b"\n", 0)):
@@ -95,4 +100,4 @@ def objects():
     ])
 
 
-ROOMS = [room for group in (streams, texts, questions, objects) for room in group()]
+ROOMS = [room for group in (streams, texts, compilations, questions, objects) for room in group()]
