@@ -30,6 +30,9 @@ use dl_open::{FileFault, FileSource, open_file};
 use std::alloc::Global;
 use std::io::{Read, Write};
 
+/// From how many addresses among the words on an index is read whole: each takes some fifteen reads of a few bytes.
+const FEW: usize = 64;
+
 /// Answers from the index at this path, which is open.
 pub fn in_index<'a, F: FileSource, S: ReadAt, R: Read, W: Write>(
     alloc: Global,
@@ -60,8 +63,15 @@ pub fn in_index<'a, F: FileSource, S: ReadAt, R: Read, W: Write>(
     )
 }
 
-/// Answers from an index. Where addresses come on the input it is read whole before, unless it is long or memory is refused
-/// for that.
+/// Whether so few addresses are among the words that small reads for each of them take less than all of an index; none is where
+/// they come on the input.
+fn are_few(understood: &AskedWords) -> bool {
+    let count = understood.asked.len();
+    1 <= count && count < FEW
+}
+
+/// Answers from an index. Where many addresses are asked for, or they come on the input, it is read whole before, unless it is
+/// long or memory is refused for that.
 fn answer_from<S: ReadAt, R: Read, W: Write>(
     alloc: Global,
     words: &AddrWords<'_>,
@@ -76,7 +86,7 @@ fn answer_from<S: ReadAt, R: Read, W: Write>(
         (ReadFails (Some b) (S.fails_with (source_of index.now))) bytes (R.remaining input.new) (W.contents output.old)
         (W.contents output.new) result)) }
 {
-    if !understood.asked.is_empty() {
+    if are_few(understood) {
         return answer_asked(alloc, words, understood, index, input, output);
     }
     match index.whole(&System::new(alloc)) {

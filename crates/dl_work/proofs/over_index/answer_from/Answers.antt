@@ -8,8 +8,8 @@ use Rattle.dl_work.specs.OverIndex.{location_in}
 use Rattle.dl_work.proofs.ReadsLemmas.{answers_wider}
 use Rattle.dl_work.proofs.over_index.answer_from.Goals as goal
 
-pub returns-then-not-is_empty : goal.returns-then-not-is_empty
-returns-then-not-is_empty g c =
+pub returns-then-are_few : goal.returns-then-are_few
+returns-then-are_few g c =
     let w = addr_words_made c.args.words.now in
     let e = c.answer_asked.ensures in (
       e.0,
