@@ -9,6 +9,7 @@
  * - the pointer to bytes or elements is valid for their number, a pointer to a room for as many elements as the room is
  *   said to have, and each is aligned for its type. Where the number is 0 the pointer isn't looked at, and may be null;
  * - each pointer to one struct or number is valid and aligned for its type;
+ * - the layout of a dl_index is as dl_index_open or dl_index_open_unchecked wrote it;
  * - what a call writes overlaps nothing else that the same call is given;
  * - malloc, realloc and free are those of one allocator, and no call comes from a signal handler, nor from the child
  *   of a process with several threads before it runs another program.
@@ -234,9 +235,21 @@ uint32_t dl_copy(const uint8_t *section, size_t len, uint8_t how, uint8_t *out, 
 /*
  * An index: bytes, made once of a file, that tell of each address what `dwline addr` tells of it, in the time of one
  * search. `dwline index` writes them, and dl_index_build makes them. They are read where they stand, which may be a
- * mapped file: none is copied, no call over an index takes memory, and none keeps anything, so that threads may share
- * one. They stay where and as they are while a dl_index, or a text that was told, is used.
+ * mapped file: none is copied, no call over an index takes memory, and none writes to a dl_index but dl_index_open and
+ * dl_index_open_unchecked, so that threads may share one. They stay where and as they are while a dl_index, or a text
+ * that was told, is used.
  */
+
+/* The numbers of the header of an index, and where its parts stand. It is for the library, which finds the parts by it. */
+typedef struct {
+    uint64_t base;
+    size_t len;
+    size_t counts[4];
+    size_t places[8];
+    uint8_t widths[5];
+} dl_index_layout;
+
+/* An index that was opened. */
 typedef struct {
     const uint8_t *bytes;
     size_t len;
@@ -244,6 +257,7 @@ typedef struct {
     const uint8_t *build_id; /* of the file that it was made of; the first 32 bytes of a longer one */
     size_t build_id_len;     /* 0 where the file has none */
     bool all;                /* each sequence counts, one that begins where there is no code too */
+    dl_index_layout layout;
 } dl_index;
 
 /* Why bytes aren't an index: the first check that fails. */
@@ -303,8 +317,8 @@ typedef struct {
 
 /*
  * Looks an address up.
- * DL_DONE: *location is what is told of it. DL_NO_ANSWER: nothing is. DL_FAULT: *index is none that was opened, or its
- * bytes are others now.
+ * DL_DONE: *location is what is told of it. DL_NO_ANSWER: nothing is. DL_FAULT: the bytes are others now, with another
+ * length or another header than those that were opened.
  */
 uint32_t dl_index_find(const dl_index *index, uint64_t address, dl_location *location);
 

@@ -32,7 +32,13 @@ struct index_record {
     uint64_t stretches;
     uint64_t build_id_len;
     uint8_t is_all;
+    dl_index_layout layout;
 };
+
+/* The numbers of an index with no stretches. A record has them before it is written, since each layout that is handed in is
+   one of an index. */
+static const struct index_record no_stretches = {
+    .layout = {.len = 128, .places = {128, 128, 128, 128, 128, 128, 128, 128}, .widths = {1, 1, 1, 1, 1}}};
 
 /* What an index tells of an address, with the places of the texts in its bytes. */
 struct location_record {
@@ -52,11 +58,13 @@ struct location_record {
 uint32_t boxantrel_index_open(const uint8_t *bytes, size_t len, struct index_record *index, dl_index_fault *fault);
 uint32_t boxantrel_index_open_unchecked(const uint8_t *bytes, size_t len, struct index_record *index,
                                         dl_index_fault *fault);
-uint32_t boxantrel_index_find(const uint8_t *bytes, size_t len, uint64_t address, struct location_record *location);
-uint32_t boxantrel_index_find_many(const uint8_t *bytes, size_t len, const uint64_t *addresses, size_t addresses_count,
-                                   struct location_record *locations, size_t locations_count);
-uint32_t boxantrel_index_stretch(const uint8_t *bytes, size_t len, size_t number, uint64_t *start, uint64_t *last,
-                                 struct location_record *location);
+uint32_t boxantrel_index_find(const uint8_t *bytes, size_t len, const dl_index_layout *layout, uint64_t address,
+                              struct location_record *location);
+uint32_t boxantrel_index_find_many(const uint8_t *bytes, size_t len, const dl_index_layout *layout,
+                                   const uint64_t *addresses, size_t addresses_count, struct location_record *locations,
+                                   size_t locations_count);
+uint32_t boxantrel_index_stretch(const uint8_t *bytes, size_t len, const dl_index_layout *layout, size_t number,
+                                 uint64_t *start, uint64_t *last, struct location_record *location);
 size_t boxantrel_index_path(const uint8_t *bytes, size_t len, const struct location_record *location, uint8_t *path,
                             size_t room);
 size_t boxantrel_index_fault_text(const dl_index_fault *fault, uint8_t *text, size_t room);
@@ -159,11 +167,12 @@ static void tell_index(const uint8_t *bytes, size_t len, const struct index_reco
     index->build_id = bytes + BUILD_ID_PLACE;
     index->build_id_len = record->build_id_len;
     index->all = record->is_all != 0;
+    index->layout = record->layout;
 }
 
 uint32_t dl_index_open(const uint8_t *bytes, size_t len, dl_index *index, dl_index_fault *fault)
 {
-    struct index_record record;
+    struct index_record record = no_stretches;
     uint32_t status = boxantrel_index_open(from(bytes, len), len, &record, fault);
     if (status == DL_DONE)
         tell_index(bytes, len, &record, index);
@@ -172,7 +181,7 @@ uint32_t dl_index_open(const uint8_t *bytes, size_t len, dl_index *index, dl_ind
 
 uint32_t dl_index_open_unchecked(const uint8_t *bytes, size_t len, dl_index *index, dl_index_fault *fault)
 {
-    struct index_record record;
+    struct index_record record = no_stretches;
     uint32_t status = boxantrel_index_open_unchecked(from(bytes, len), len, &record, fault);
     if (status == DL_DONE)
         tell_index(bytes, len, &record, index);
@@ -203,7 +212,7 @@ static void point(const dl_index *index, dl_location *location)
 uint32_t dl_index_find(const dl_index *index, uint64_t address, dl_location *location)
 {
     uint32_t status =
-        boxantrel_index_find(from(index->bytes, index->len), index->len, address, record_at(location));
+        boxantrel_index_find(from(index->bytes, index->len), index->len, &index->layout, address, record_at(location));
     if (status == DL_DONE)
         point(index, location);
     return status;
@@ -215,8 +224,8 @@ uint32_t dl_index_find_many(const dl_index *index, const uint64_t *addresses, si
     uint32_t status = DL_DONE;
     for (size_t done = 0; done < count && status == DL_DONE; done += AT_ONCE) {
         size_t some = count - done < AT_ONCE ? count - done : AT_ONCE;
-        status = boxantrel_index_find_many(from(index->bytes, index->len), index->len, addresses + done, some,
-                                           record_at(locations + done), some);
+        status = boxantrel_index_find_many(from(index->bytes, index->len), index->len, &index->layout,
+                                           addresses + done, some, record_at(locations + done), some);
         for (size_t i = 0; i < some && status == DL_DONE; i++)
             point(index, &locations[done + i]);
     }
@@ -235,8 +244,8 @@ size_t dl_index_path(const dl_index *index, const dl_location *location, uint8_t
 
 uint32_t dl_index_stretch(const dl_index *index, size_t number, uint64_t *start, uint64_t *last, dl_location *location)
 {
-    uint32_t status = boxantrel_index_stretch(from(index->bytes, index->len), index->len, number, start, last,
-                                              record_at(location));
+    uint32_t status = boxantrel_index_stretch(from(index->bytes, index->len), index->len, &index->layout, number, start,
+                                              last, record_at(location));
     if (status == DL_DONE)
         point(index, location);
     return status;

@@ -162,6 +162,28 @@ static void check_stretches(const dl_index *index)
     }
 }
 
+/* Asks with a layout in bytes of another length, and in bytes of the same length, of which the header may be another one. */
+static void check_other(const dl_index *index, const uint8_t *bytes, size_t len)
+{
+    dl_index other = *index;
+    uint64_t asked[5] = {0x401000, next(), 0, 0x401008, next()};
+    other.bytes = or_null((void *)bytes, len);
+    other.len = len;
+    memset(locations_end - 5, FILL, 5 * sizeof *location);
+    memset(location, FILL, sizeof *location);
+    uint32_t status = dl_index_find(&other, asked[0], location), many = dl_index_find_many(&other, asked, 5, locations_end - 5);
+    bool is_same = len == index->len && memcmp(bytes, index->bytes, 128) == 0;
+    wanted((status == DL_FAULT) == (many == DL_FAULT), "another end than that of many");
+    wanted(!is_same || status != DL_FAULT, "a fault of bytes that were opened");
+    wanted(len == index->len || status == DL_FAULT, "an answer of bytes of another length");
+    wanted(status == DL_DONE || is_filled(location, sizeof *location), "a location that isn't told");
+    wanted(many != DL_FAULT || is_filled(locations_end - 5, 5 * sizeof *location), "locations that aren't told");
+    if (status == DL_DONE)
+        for (int i = 0; i < 3; i++)
+            check_text(&other, &location->texts[i]);
+    wanted(dl_index_stretch(&other, 0, start, last, location) == DL_FAULT || status != DL_FAULT, "another end of a stretch");
+}
+
 /* Writes the text of a fault of an index into a room. */
 static void check_fault_text(size_t room)
 {
@@ -230,7 +252,7 @@ static size_t check_build(const uint8_t *file, size_t len, uint8_t how, size_t r
     return made;
 }
 
-/* Changes an index that ends at its page, and may cut it. */
+/* Changes an index that ends at its page, and may cut it. It is asked with its layout from before, and by itself. */
 static void change_index(size_t made)
 {
     size_t len = below(8) ? made : below(made + 1);
@@ -242,6 +264,9 @@ static void change_index(size_t made)
     }
     if (below(4))
         mend(index, len);
+    dl_index opened;
+    wanted(dl_index_open(out_end - made, made, &opened, why) == DL_DONE, "an index that doesn't open");
+    check_other(&opened, index, len);
     check_index(index, len);
 }
 

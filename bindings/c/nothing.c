@@ -58,7 +58,7 @@ static void without_section(void)
 /* No index, no file, and no room. */
 static void without_index(void)
 {
-    dl_index index = {.bytes = NULL};
+    dl_index index;
     dl_index_fault why;
     dl_location location = {.is_found = false};
     dl_bytes made;
@@ -69,10 +69,6 @@ static void without_index(void)
     wanted(dl_index_open_unchecked(NULL, 0, &index, &why) == DL_FAULT && why.kind == DL_INDEX_MAGIC,
            "an unchecked index of nothing");
     wanted(dl_index_fault_text(&why, NULL, 0) == 12, "the text of no index");
-    wanted(dl_index_find(&index, 0, &location) == DL_FAULT, "dl_index_find in nothing");
-    wanted(dl_index_find_many(&index, NULL, 0, NULL) == DL_DONE, "dl_index_find_many of nothing");
-    wanted(dl_index_stretch(&index, 0, &start, &last, &location) == DL_FAULT, "a stretch of nothing");
-    wanted(dl_index_path(&index, &location, NULL, 0) == 2, "the path of nothing");
     wanted(dl_index_build(NULL, 0, 0, &made, &fault) == DL_FAULT && fault.kind == DL_NOT_ELF && made.bytes == NULL,
            "the index of no file");
     wanted(dl_fault_text(&fault, NULL, 0) == 15, "the text of no file");
@@ -83,6 +79,12 @@ static void without_index(void)
     wanted(dl_index_open(made.bytes, made.len, &index, &why) == DL_DONE && index.stretches == 0 && !index.all,
            "an index without stretches");
     wanted(dl_index_find(&index, 0x401008, &location) == DL_NO_ANSWER, "an answer of none");
+    index.bytes = NULL;
+    index.len = 0;
+    wanted(dl_index_find(&index, 0, &location) == DL_FAULT, "dl_index_find in nothing");
+    wanted(dl_index_find_many(&index, NULL, 0, NULL) == DL_DONE, "dl_index_find_many of nothing");
+    wanted(dl_index_stretch(&index, 0, &start, &last, &location) == DL_FAULT, "a stretch of nothing");
+    wanted(dl_index_path(&index, &location, NULL, 0) == 2, "the path of nothing");
     wanted(dl_index_build_section_into(NULL, 0, 0, NULL, 0, NULL, 0, NULL, 0, NULL, 0, &length, &fault) == DL_NO_ROOM &&
                length == made.len,
            "an index in no room");

@@ -82,6 +82,16 @@ class _Unit(ctypes.Structure):
     ]
 
 
+class _Layout(ctypes.Structure):
+    _fields_ = [
+        ("base", ctypes.c_uint64),
+        ("len", ctypes.c_size_t),
+        ("counts", ctypes.c_size_t * 4),
+        ("places", ctypes.c_size_t * 8),
+        ("widths", ctypes.c_uint8 * 5),
+    ]
+
+
 class _Index(ctypes.Structure):
     _fields_ = [
         ("bytes", ctypes.c_void_p),
@@ -90,6 +100,7 @@ class _Index(ctypes.Structure):
         ("build_id", ctypes.c_void_p),
         ("build_id_len", ctypes.c_size_t),
         ("all", ctypes.c_bool),
+        ("layout", _Layout),
     ]
 
 

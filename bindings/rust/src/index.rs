@@ -8,6 +8,7 @@ use std::ops::Range;
 #[derive(Clone, Copy, Debug)]
 pub struct Index<B> {
     bytes: B,
+    layout: raw::Layout,
 }
 
 /// Why bytes aren't an index: the first check that fails.
@@ -49,6 +50,7 @@ pub struct Stretch<'a> {
 #[derive(Clone, Debug)]
 pub struct Stretches<'a> {
     bytes: &'a [u8],
+    layout: raw::Layout,
     numbers: Range<usize>,
 }
 
@@ -63,24 +65,24 @@ impl<B: AsRef<[u8]>> Index<B> {
     /// An index whose bytes are checked whole, in one pass.
     pub fn open(bytes: B) -> Result<Index<B>, IndexError> {
         // SAFETY: as `opened` wants it.
-        unsafe { opened(raw::dl_index_open, bytes.as_ref())? };
-        Ok(Index { bytes })
+        let layout = unsafe { opened(raw::dl_index_open, bytes.as_ref())? }.layout;
+        Ok(Index { bytes, layout })
     }
 
     /// An index of whose bytes only the first 128 are checked. Where others are damaged the answers are wrong, or none; none
     /// outside is read.
     pub fn open_unchecked(bytes: B) -> Result<Index<B>, IndexError> {
         // SAFETY: as `opened` wants it.
-        unsafe { opened(raw::dl_index_open_unchecked, bytes.as_ref())? };
-        Ok(Index { bytes })
+        let layout = unsafe { opened(raw::dl_index_open_unchecked, bytes.as_ref())? }.layout;
+        Ok(Index { bytes, layout })
     }
 
     /// What is told of an address; None in a gap, and before the first stretch.
     pub fn find(&self, address: u64) -> Option<Location<'_>> {
         let bytes = self.bytes.as_ref();
         let mut location = nothing();
-        // SAFETY: the index is over a slice, and the location is a local.
-        let status = unsafe { raw::dl_index_find(&over(bytes), address, &mut location) };
+        // SAFETY: the index is over a slice, its layout was written by a call that opened one, and the location is a local.
+        let status = unsafe { raw::dl_index_find(&over(bytes, self.layout), address, &mut location) };
         // SAFETY: its texts lie in the slice.
         (status == raw::DONE).then(|| unsafe { told(&location) })
     }
@@ -91,7 +93,8 @@ impl<B: AsRef<[u8]>> Index<B> {
         let mut locations = vec![nothing(); addresses.len()];
         // SAFETY: as in `find`; there are as many locations as addresses.
         unsafe {
-            raw::dl_index_find_many(&over(bytes), addresses.as_ptr(), addresses.len(), locations.as_mut_ptr());
+            let index = over(bytes, self.layout);
+            raw::dl_index_find_many(&index, addresses.as_ptr(), addresses.len(), locations.as_mut_ptr());
         }
         // SAFETY: as in `find`; one that isn't written tells nothing.
         locations.iter().map(|location| location.is_found.then(|| unsafe { told(location) })).collect()
@@ -100,7 +103,7 @@ impl<B: AsRef<[u8]>> Index<B> {
     /// The stretches, one after the other.
     pub fn stretches(&self) -> Stretches<'_> {
         let bytes = self.bytes.as_ref();
-        Stretches { bytes, numbers: 0..self.about().map_or(0, |index| index.stretches) }
+        Stretches { bytes, layout: self.layout, numbers: 0..self.about().map_or(0, |index| index.stretches) }
     }
 
     /// The build ID of the file that it was made of; of a longer one the first 32 bytes, and none where the file has none.
@@ -137,7 +140,9 @@ impl<B: AsRef<[u8]>> Index<B> {
 impl Index<Vec<u8>> {
     /// An index that the library has just made.
     pub(crate) fn made(bytes: Vec<u8>) -> Index<Vec<u8>> {
-        Index { bytes }
+        // SAFETY: as `opened` wants it.
+        let opened = unsafe { opened(raw::dl_index_open_unchecked, &bytes) };
+        Index { bytes, layout: opened.map_or(raw::NO_STRETCHES, |index| index.layout) }
     }
 }
 
@@ -148,8 +153,9 @@ impl<'a> Iterator for Stretches<'a> {
         let number = self.numbers.next()?;
         let (mut start, mut last, mut location) = (0, 0, nothing());
         // SAFETY: as in `Index::find`.
-        let status =
-            unsafe { raw::dl_index_stretch(&over(self.bytes), number, &mut start, &mut last, &mut location) };
+        let status = unsafe {
+            raw::dl_index_stretch(&over(self.bytes, self.layout), number, &mut start, &mut last, &mut location)
+        };
         (status == raw::DONE).then(|| Stretch {
             start,
             last,
@@ -180,7 +186,7 @@ type Open = unsafe extern "C" fn(*const u8, usize, *mut raw::Index, *mut raw::In
 
 /// What a call opens, which has to be one of both.
 unsafe fn opened(open: Open, bytes: &[u8]) -> Result<raw::Index, IndexError> {
-    let mut index = over(bytes);
+    let mut index = over(bytes, raw::NO_STRETCHES);
     let mut fault = raw::IndexFault::default();
     match open(bytes.as_ptr(), bytes.len(), &mut index, &mut fault) {
         raw::DONE => Ok(index),
@@ -188,8 +194,8 @@ unsafe fn opened(open: Open, bytes: &[u8]) -> Result<raw::Index, IndexError> {
     }
 }
 
-/// The bytes of an index as the calls take them: they look at nothing else of it.
-fn over(bytes: &[u8]) -> raw::Index {
+/// The bytes of an index with a layout, as the calls take them: they look at nothing else of it.
+fn over(bytes: &[u8], layout: raw::Layout) -> raw::Index {
     raw::Index {
         bytes: bytes.as_ptr(),
         len: bytes.len(),
@@ -197,6 +203,7 @@ fn over(bytes: &[u8]) -> raw::Index {
         build_id: bytes.as_ptr(),
         build_id_len: 0,
         all: false,
+        layout,
     }
 }
 

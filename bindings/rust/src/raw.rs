@@ -63,7 +63,21 @@ pub struct Unit {
     pub is_dwarf64: u8,
 }
 
-/// An index that was opened. The calls that take one read its bytes, and nothing else of it.
+/// By which the calls find the parts of an index.
+#[repr(C)]
+#[derive(Clone, Copy, Debug, PartialEq, Eq)]
+pub struct Layout {
+    pub base: u64,
+    pub len: usize,
+    pub counts: [usize; 4],
+    pub places: [usize; 8],
+    pub widths: [u8; 5],
+}
+
+/// The layout of an index with no stretches.
+pub const NO_STRETCHES: Layout = Layout { base: 0, len: 128, counts: [0; 4], places: [128; 8], widths: [1; 5] };
+
+/// An index that was opened. The calls that take one read its bytes and its layout, and nothing else of it.
 #[repr(C)]
 #[derive(Clone, Copy, Debug)]
 pub struct Index {
@@ -73,6 +87,7 @@ pub struct Index {
     pub build_id: *const u8,
     pub build_id_len: usize,
     pub all: bool,
+    pub layout: Layout,
 }
 
 #[repr(C)]

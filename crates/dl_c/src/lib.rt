@@ -25,7 +25,7 @@ ghost use Rattle.dl_index_calls.specs.StretchCalls.{ListsStretch};
 
 use dl_building::CodeRange;
 use dl_calls::{Counts, FaultRecord, Place, RowRecord, UnitRecord};
-use dl_index_calls::{IndexFaultRecord, IndexRecord, LocationRecord};
+use dl_index_calls::{IndexFaultRecord, IndexRecord, Layout, LocationRecord};
 use std::alloc::Global;
 
 /// As `dl_calls::check`.
@@ -219,41 +219,44 @@ pub extern "C" fn boxantrel_index_open_unchecked(
 #[unsafe(no_mangle)]
 pub extern "C" fn boxantrel_index_find(
     bytes: &[u8],
+    layout: &Layout,
     address: u64,
     location: &mut LocationRecord,
 ) -> u32
     ensures { (status : Status) × (result ≡ status_code status)
-        × FindsOne bytes.now address location.old location.new status }
+        × FindsOne layout.now bytes.now address location.old location.new status }
 {
-    dl_index_calls::find(bytes, address, location).code()
+    dl_index_calls::find(bytes, layout, address, location).code()
 }
 
 /// As `dl_index_calls::find_many`. `dl_index_find_many` hands in one number of addresses and locations.
 #[unsafe(no_mangle)]
 pub extern "C" fn boxantrel_index_find_many(
     bytes: &[u8],
+    layout: &Layout,
     addresses: &[u64],
     locations: &mut [LocationRecord],
 ) -> u32
     ensures { (status : Status) × (result ≡ status_code status)
-        × FindsMany bytes.now addresses.now locations.old locations.new status }
+        × FindsMany layout.now bytes.now addresses.now locations.old locations.new status }
 {
-    dl_index_calls::find_many(bytes, addresses, locations).code()
+    dl_index_calls::find_many(bytes, layout, addresses, locations).code()
 }
 
 /// As `dl_index_calls::stretch`.
 #[unsafe(no_mangle)]
 pub extern "C" fn boxantrel_index_stretch(
     bytes: &[u8],
+    layout: &Layout,
     k: usize,
     start: &mut u64,
     last: &mut u64,
     location: &mut LocationRecord,
 ) -> u32
     ensures { (status : Status) × (result ≡ status_code status)
-        × ListsStretch bytes.now k start.old start.new last.old last.new location.old location.new status }
+        × ListsStretch layout.now bytes.now k start.old start.new last.old last.new location.old location.new status }
 {
-    dl_index_calls::stretch(bytes, k, start, last, location).code()
+    dl_index_calls::stretch(bytes, layout, k, start, last, location).code()
 }
 
 /// As `dl_index_calls::path`.

@@ -4,7 +4,7 @@ use Rattle.std.proofs.lemmas.List.{drop-take, get_or-take, take-take, take_min}
 use Rattle.std.specs.List.{list_all}
 use Rattle.dl_num.specs.Fixed.{little, is_number_size}
 use Rattle.dl_crc.specs.Crc32.{crc_32}
-use Rattle.dl_index.specs.Layout.{field, rounded, sizes, build_id_len_in}
+use Rattle.dl_index.specs.Layout.{field, rounded, build_id_len_in}
 use Rattle.dl_index.specs.IsIndex.{HasMagic, IsPlaced, widths, HeaderAgrees, summed_header}
 use Rattle.dl_index.specs.Parts.{HasWidths, Reads, header_sizes}
 use Rattle.dl_index.specs.declared.header.Widths.{Widths}
@@ -81,12 +81,6 @@ module _ (front b : List ℕ) (same : front ≡ take 128 b) where
       → 128 + sum (map rounded (header_sizes h)) ≡ length b → IsPlaced b
   placed_all r small end =
       placed_by (reads_all r) (subst (λ n. n ≤ 32) (byte_is 80 (omega arith)) small) end
-
-  -- the same of the sizes that the bytes have
-  pub placed_cut : {h : Header} → Reads h front → build_id_len_in front ≤ 32
-      → 128 + sum (map rounded (sizes b)) ≡ length b → IsPlaced b
-  placed_cut r small end =
-      placed_all r small (ap (λ s. 128 + sum (map rounded s)) (sizes_are (reads_all r)) ∙ end)
 
   pub too_long_build_id : 32 < build_id_len_in front → ¬ (IsPlaced b)
   too_long_build_id long placed =

@@ -2,6 +2,7 @@ pub mod CheckLemmas
 pub mod ColumnLemmas
 pub mod FindLemmas
 pub mod HeaderLemmas
+pub mod LayoutLemmas
 pub mod ManyLemmas
 pub mod PartLemmas
 pub mod SearchLemmas

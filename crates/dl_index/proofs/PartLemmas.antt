@@ -33,7 +33,7 @@ is_size Two = refl
 is_size Four = refl
 is_size Eight = refl
 
-size_said : (w : Width) (n : ℕ) → size_of w ≡ n → is_number_size n ≡ true
+pub size_said : (w : Width) (n : ℕ) → size_of w ≡ n → is_number_size n ≡ true
 size_said w n is = rw (← is) (is_size w)
 
 pub placed_by : {h : Header} {b : List ℕ} → Reads h b → build_id_len_in b ≤ 32

@@ -1,8 +1,8 @@
 -- Where the texts of an index stand in its bytes.
-use Rattle.std.proofs.Common.{◌≡◌, ℕ, ◌+◌, ◌-◌, ◌*◌, ◌/◌, ◌<◌, ◌≤◌, List, [], ◌∷◌, take, drop, length, length-drop, Option, Some, None, refl, sym, ap, subst, ◌∙◌, arith}
+use Rattle.std.proofs.Common.{◌≡◌, ℕ, ◌+◌, ◌-◌, ◌<◌, ◌≤◌, List, [], ◌∷◌, take, drop, length, length-drop, Option, Some, None, sym, ap, subst, ◌∙◌, arith}
 use Rattle.std.proofs.lemmas.List.{drop-drop, drop-take, take-take, length-take-le}
 use Rattle.std.proofs.lemmas.Bool.Decides.{nat_tests}
-use Rattle.dl_index.specs.Layout.{texts_in, text_bytes_in, text_place_in, text_len_in, part}
+use Rattle.dl_index.specs.Layout.{texts_in, text_bytes_in, text_place_in, text_len_in}
 use Rattle.dl_index.specs.Telling.{text_bytes, text_in}
 use Rattle.std.specs.Borrow.{Bor}
 use Rattle.std.specs.Prelude.{IfSome}
@@ -11,11 +11,6 @@ use Rattle.dl_index.specs.TextPlaces.{AreAt, StandsAt}
 use Rattle.dl_index.specs.TextsOf.{ArePlacesOf, AreTextsOf, IsPlaceOf}
 use Rattle.dl_index.specs.declared.index.Found.{Found}
 use Rattle.dl_index.specs.declared.index.PathTexts.{PathTexts}
-use Rattle.dl_index.specs.Columns.{size_of}
-use Rattle.dl_index.specs.Layout.{rounded}
-use Rattle.dl_index.specs.Parts.{Reads}
-use Rattle.dl_index.specs.declared.header.Header.{Header}
-use Rattle.dl_index.proofs.PartLemmas.{part_by}
 
 -- the number of a text that there is stands for one that lies inside
 pub some_text : (b : List ℕ) (n : ℕ) (text : List ℕ) → text_in b n ≡ Some (text ∷ [])
@@ -53,47 +48,6 @@ bytes_of_part b p at all place len is within inside =
       within = omega arith;
       bytes = same ∙ ap (λ n. take n (drop (at + place) b)) (sym long);
     }
-
--- the bytes after the first eight parts
-abbrev pub after_eight : Header → List ℕ → List ℕ
-after_eight h b =
-    drop (rounded (h.texts * 16)) (drop (rounded (h.files * 24)) (drop (rounded ((h.count + 7) / 8))
-    (drop (rounded (h.count * size_of h.widths.discriminators)) (drop (rounded (h.count * size_of h.widths.columns))
-    (drop (rounded (h.count * size_of h.widths.lines)) (drop (rounded (h.count * size_of h.widths.files))
-    (drop (rounded (h.count * size_of h.widths.starts)) (drop 128 b))))))))
-
--- how many bytes come before these
-abbrev pub before_texts : Header → ℕ
-before_texts h =
-    128 + rounded (h.count * size_of h.widths.starts) + rounded (h.count * size_of h.widths.files)
-    + rounded (h.count * size_of h.widths.lines) + rounded (h.count * size_of h.widths.columns)
-    + rounded (h.count * size_of h.widths.discriminators) + rounded ((h.count + 7) / 8) + rounded (h.files * 24)
-    + rounded (h.texts * 16)
-
-one_more : (n at : ℕ) (x b : List ℕ) → x ≡ drop at b → drop n x ≡ drop (at + n) b
-one_more n at x b is = ap (drop n) is ∙ drop-drop n at b
-
-pub after_is : (h : Header) (b : List ℕ) → after_eight h b ≡ drop (before_texts h) b
-after_is h b =
-    one_more (rounded (h.texts * 16)) _ _ b
-    (one_more (rounded (h.files * 24)) _ _ b
-    (one_more (rounded ((h.count + 7) / 8)) _ _ b
-    (one_more (rounded (h.count * size_of h.widths.discriminators)) _ _ b
-    (one_more (rounded (h.count * size_of h.widths.columns)) _ _ b
-    (one_more (rounded (h.count * size_of h.widths.lines)) _ _ b
-    (one_more (rounded (h.count * size_of h.widths.files)) _ _ b
-    (one_more (rounded (h.count * size_of h.widths.starts)) 128 _ b refl)))))))
-
--- the bytes of texts stand at the end
-pub texts_stand : (h : Header) (b : List ℕ) (at : ℕ) → Reads h b → at ≡ before_texts h → at + rounded h.text_bytes ≤ length b
-    → (part b 8 ≡ take (text_bytes_in b) (drop at b)) × (at + text_bytes_in b ≤ length b)
-texts_stand h b at r from within =
-    let last : take h.text_bytes (after_eight h b) ≡ part b 8 = part_by r 8 in
-    let said = r.text_bytes in (
-      sym last ∙ ap (take h.text_bytes) (after_is h b) ∙ ap (λ n. take h.text_bytes (drop n b)) (sym from)
-          ∙ ap (λ n. take n (drop at b)) said,
-      omega arith,
-    )
 
 -- what is left of bytes after a part
 pub next_is : (b x : List ℕ) (at n next : ℕ) → next ≡ at + n → drop at b ≡ x → drop next b ≡ drop n x

@@ -10,6 +10,7 @@ pub mod TextPlaces
 pub mod IsIndex
 pub mod Parts
 pub mod HeaderIs
+pub mod LayoutOf
 pub mod Finds
 pub mod FaultText
 -- For what a value stands; public contracts name this, and don't rest on how it is said.

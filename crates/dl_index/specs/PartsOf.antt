@@ -13,9 +13,6 @@ pub record IsColumn (c : Numbers) (b : List ℕ) (k : ℕ) : Type 0 where
 pub record ArePartsOf (p : Parts) (b : List ℕ) : Type 0 where
   pub starts : IsColumn p.starts b 0
   pub files : IsColumn p.files b 1
-  pub lines : IsColumn p.lines b 2
-  pub columns : IsColumn p.columns b 3
-  pub discriminators : IsColumn p.discriminators b 4
   pub statements : p.statements.now ≡ part b 5
   pub file_table : p.file_table.now ≡ part b 6
   pub text_table : p.text_table.now ≡ part b 7

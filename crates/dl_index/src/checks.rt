@@ -52,7 +52,7 @@ fn is_ordered(index: &IndexRef<'_>) -> bool
     if starts.get(0) != 0 || !starts_rise(index) {
         return false;
     }
-    starts.get(starts.len - 1) <= u64::MAX - index.base
+    starts.get(starts.len - 1) <= u64::MAX - index.layout.base
 }
 
 /// Whether starts rise.

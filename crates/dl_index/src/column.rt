@@ -1,7 +1,9 @@
 //! Columns of numbers, read in place.
 
-ghost use Rattle.std.specs.Prelude.{◌≡◌, ◌≤◌, ◌*◌, ◌+◌, length};
+ghost use Rattle.std.specs.Prelude.{◌≡◌, ◌≤◌, ◌*◌, ◌+◌, length, true};
+ghost use Rattle.dl_num.specs.Fixed.{is_number_size};
 ghost use Rattle.dl_index.specs.Columns.{number_at, size_of};
+ghost use Rattle.dl_index.specs.Layout.{field};
 
 use crate::search::Starts;
 use crate::width::Width;
@@ -18,6 +20,21 @@ pub fn number_at(width: Width, column: &[u8], k: usize) -> u64
         Width::Two => u64::from(LittleEndian::read_u16(&column[k * 2..])),
         Width::Four => u64::from(LittleEndian::read_u32(&column[k * 4..])),
         Width::Eight => LittleEndian::read_u64(&column[k * 8..]),
+    }
+}
+
+/// Number `k` of the column at a place, of numbers of `size` bytes.
+#[inline(always)]
+pub fn number_in(bytes: &[u8], at: usize, size: u8, k: usize) -> u64
+    requires size { is_number_size size ≡ true }
+    requires there { at + k * size + size ≤ length bytes.now }
+    ensures { result ≡ field (at + k * size) size bytes.now }
+{
+    match size {
+        1 => u64::from(bytes[at + k]),
+        2 => u64::from(LittleEndian::read_u16(&bytes[at + k * 2..])),
+        4 => u64::from(LittleEndian::read_u32(&bytes[at + k * 4..])),
+        _ => LittleEndian::read_u64(&bytes[at + k * 8..]),
     }
 }
 

@@ -1,12 +1,13 @@
 //! An index, read in place.
 
 ghost use Rattle.std.specs.Prelude.{◌≡◌};
-ghost use Rattle.dl_index.specs.Layout.{base_in};
-ghost use Rattle.dl_index.specs.IsIndex.{IsLaidOut};
+ghost use Rattle.dl_index.specs.LayoutOf.{IsLayoutOf};
 ghost use Rattle.dl_index.specs.PartsOf.{ArePartsOf};
 
+use crate::column::number_in;
 use crate::four::Four;
 use crate::header::{long_at, number_at};
+use crate::layout::Layout;
 use crate::parts::Parts;
 
 /// The texts that a path is made of, in order, at most three; none where the path is unknown.
@@ -71,10 +72,9 @@ pub struct Listed<'a> {
 #[derive(Clone, Copy)]
 pub struct IndexRef<'a> {
     pub(crate) bytes: &'a [u8],
-    pub(crate) base: u64,
+    pub(crate) layout: Layout,
     pub(crate) parts: Parts<'a>,
-    ghost laid_out: { IsLaidOut bytes.now },
-    ghost based: { base ≡ base_in bytes.now },
+    ghost laid_out: { IsLayoutOf layout bytes.now },
     ghost cut: { ArePartsOf parts bytes.now },
 }
 
@@ -85,6 +85,7 @@ impl<'a> IndexRef<'a> {
     ghost use Rattle.std.specs.Option.{option_map};
     ghost use Rattle.dl_index.specs.Layout.{flags_in, build_id_in, base_in, count_in, files_in, start_in};
     ghost use Rattle.dl_index.specs.Layout.{is_stmt_in};
+    ghost use Rattle.dl_index.specs.LayoutOf.{IsLayoutOf};
     ghost use Rattle.dl_index.specs.LookUp.{Rise, IsLastUpto, FindsLast};
     ghost use Rattle.dl_index.specs.Finds.{FindStretches, Finds};
     ghost use Rattle.dl_index.specs.Telling.{text_in, texts_of, told_in, find_in, IsStart};
@@ -98,6 +99,13 @@ impl<'a> IndexRef<'a> {
         ensures { result.now ≡ bytes_of self.now }
     {
         self.bytes
+    }
+
+    /// Its layout, by which [`reopen`](crate::reopen) finds its parts.
+    pub fn layout(&self) -> Layout
+        ensures { IsLayoutOf result (bytes_of self.now) }
+    {
+        self.layout
     }
 
     /// Whether each sequence counts, a dead one too.
@@ -195,7 +203,7 @@ impl<'a> IndexRef<'a> {
         if self.parts.starts.len == 0 {
             return None;
         }
-        let base = self.base;
+        let base = self.layout.base;
         Some(
             self.parts.starts.last_upto_four(Four {
                 first: addresses.first.saturating_sub(base),
@@ -212,7 +220,7 @@ impl<'a> IndexRef<'a> {
         requires { let b = bytes_of self.now in FindsLast (start_in b) (count_in b) (address - base_in b) k }
         ensures { Finds (bytes_of self.now) address result }
     {
-        if address < self.base {
+        if address < self.layout.base {
             return None;
         }
         self.found(k)
@@ -226,7 +234,7 @@ impl<'a> IndexRef<'a> {
         ensures last { let b = bytes_of self.now in IfSome result (λ k. Rise (start_in b) (count_in b)
             → start_in b 0 ≡ 0 → IsLastUpto (start_in b) (count_in b) (address - base_in b) k) }
     {
-        let offset = address.checked_sub(self.base)?;
+        let offset = address.checked_sub(self.layout.base)?;
         if self.parts.starts.len == 0 {
             return None;
         }
@@ -257,7 +265,7 @@ impl<'a> IndexRef<'a> {
         if k >= self.parts.starts.len {
             return None;
         }
-        self.base.checked_add(self.parts.starts.get(k))
+        self.layout.base.checked_add(self.parts.starts.get(k))
     }
 
     /// What stretch `k` tells.
@@ -267,8 +275,8 @@ impl<'a> IndexRef<'a> {
         ensures told { option_map told result ≡ told_in (bytes_of self.now) k }
         ensures places { IfSome result (AreAt (bytes_of self.now)) }
     {
-        let file = self.parts.files.get(k);
-        if file == 0 || file > (self.parts.file_table.len() / 24) as u64 {
+        let file = number_in(self.bytes, self.layout.files_at, self.layout.files_width, k);
+        if file == 0 || file > self.layout.files as u64 {
             return None;
         }
         let file = (file - 1) as usize;
@@ -277,9 +285,19 @@ impl<'a> IndexRef<'a> {
             unit: long_at(self.parts.file_table, file * 24),
             texts: path.texts,
             places: path.places,
-            line: self.parts.lines.get(k),
-            column: self.parts.columns.get(k),
-            discriminator: self.parts.discriminators.get(k),
+            line: number_in(self.bytes, self.layout.lines_at, self.layout.lines_width, k),
+            column: number_in(
+                self.bytes,
+                self.layout.columns_at,
+                self.layout.columns_width,
+                k,
+            ),
+            discriminator: number_in(
+                self.bytes,
+                self.layout.discriminators_at,
+                self.layout.discriminators_width,
+                k,
+            ),
             is_stmt: self.is_stmt(k),
         })
     }
@@ -339,7 +357,7 @@ impl<'a> IndexRef<'a> {
         ensures told { option_map placed_told result ≡ text_in (bytes_of self.now) (index + 1) }
         ensures place { IfSome result (λ placed. IsPlaceOf (bytes_of self.now) (index + 1) placed.place) }
     {
-        if index >= self.parts.text_table.len() / 16 {
+        if index >= self.layout.texts {
             return None;
         }
         let place = long_at(self.parts.text_table, index * 16);

@@ -2,7 +2,8 @@
 
 ghost use Rattle.std.specs.Prelude.{◌≡◌, ℕ, ◌≤◌, List, length, take, MatchBool, IfOk, IfErr, OnOk, IsOk, IfSome, OnSome, IsSome};
 ghost use Rattle.dl_index.specs.Layout.{length_in};
-ghost use Rattle.dl_index.specs.IsIndex.{HasMagic, IsHeaded, IsLaidOut, HeaderAgrees, IsIndex, HasFault};
+ghost use Rattle.dl_index.specs.IsIndex.{HasMagic, IsHeaded, HeaderAgrees, IsIndex, HasFault};
+ghost use Rattle.dl_index.specs.LayoutOf.{IsLayoutOf};
 ghost use Rattle.dl_index.specs.HeaderIs.{LengthIs, HeaderIs, LayoutIs};
 ghost use Rattle.dl_index.specs.Parts.{Fits};
 ghost use Rattle.dl_index.specs.Shown.{bytes_of};
@@ -11,7 +12,8 @@ use crate::checks::check;
 use crate::fault::{IndexFault, IndexPart};
 use crate::header::{HEADER_LEN, Header, long_at, number_at, read_header};
 use crate::index::IndexRef;
-use crate::parts::{cut, whole_len};
+use crate::layout::Layout;
+use crate::parts::{parts_at, whole_len};
 use dl_crc::Crc32;
 
 /// The bytes that an index begins with.
@@ -39,37 +41,29 @@ pub fn open_unchecked(bytes: &[u8]) -> Result<IndexRef<'_>, IndexFault>
 {
     let front = &bytes[..bytes.len().min(HEADER_LEN)];
     let header = header_of(front, bytes.len() as u64)?;
-    let Some(parts) = cut(bytes, &header) else {
-        return Err(IndexFault::Damaged(IndexPart::Place));
-    };
+    let layout = Layout::of(&header, bytes.len());
     Ok(IndexRef {
         bytes,
-        base: header.base,
-        parts,
+        layout,
+        parts: parts_at(bytes, &layout),
     })
 }
 
-/// The same of bytes that were opened before: the sum of the header isn't compared either. None where the bytes aren't laid
-/// out as an index is, which is so of none that was opened.
+/// The index that was opened with this layout, over its bytes: no part is looked for again, and no sum is compared. None
+/// where the bytes aren't laid out so.
 #[inline(always)]
-pub fn reopen(bytes: &[u8]) -> Option<IndexRef<'_>>
+pub fn reopen<'a>(bytes: &'a [u8], layout: &Layout) -> Option<IndexRef<'a>>
     ensures bytes { IfSome result (λ index. bytes_of index ≡ bytes.entry.now) }
-    ensures laid_out { OnSome result (IsLaidOut bytes.entry.now) }
-    ensures some { IsLaidOut bytes.entry.now → IsSome result }
+    ensures laid_out { OnSome result (IsLayoutOf layout.now bytes.entry.now) }
+    ensures some { IsLayoutOf layout.now bytes.entry.now → IsSome result }
 {
-    let front = &bytes[..bytes.len().min(HEADER_LEN)];
-    let Ok(len) = length_told(front) else {
-        return None;
-    };
-    if len != bytes.len() as u64 || front[80] > 32 {
+    if !layout.is_of(bytes) {
         return None;
     }
-    let header = read_header(front)?;
-    let parts = cut(bytes, &header)?;
     Some(IndexRef {
         bytes,
-        base: header.base,
-        parts,
+        layout: *layout,
+        parts: parts_at(bytes, layout),
     })
 }
 
@@ -124,6 +118,7 @@ pub fn length_told(front: &[u8]) -> Result<u64, IndexFault>
 }
 
 /// Whether bytes begin as those of an index do, with `dlineidx`.
+#[inline(always)]
 pub fn has_magic(bytes: &[u8]) -> bool
     ensures { MatchBool result (HasMagic bytes.now) (¬ (HasMagic bytes.now)) }
 {

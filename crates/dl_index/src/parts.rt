@@ -1,24 +1,23 @@
 //! The parts of an index, which stand one after the other, each from a multiple of 8 on.
 
-ghost use Rattle.std.specs.Prelude.{◌≡◌, ◌+◌, ◌*◌, ◌/◌, ◌<◌, ◌≤◌, ◌^◌, length, take, drop, map, sum};
-ghost use Rattle.std.specs.Prelude.{IfNone, IfSome, IsSome, OnSome};
+ghost use Rattle.std.specs.Prelude.{◌≡◌, ◌+◌, ◌*◌, ◌/◌, ◌<◌, ◌≤◌, ◌^◌, length, take, drop, map, sum, true};
+ghost use Rattle.dl_num.specs.Fixed.{is_number_size};
 ghost use Rattle.dl_index.specs.Columns.{size_of};
-ghost use Rattle.dl_index.specs.Layout.{rounded, sizes};
-ghost use Rattle.dl_index.specs.Parts.{Reads, header_sizes};
+ghost use Rattle.dl_index.specs.Layout.{rounded};
+ghost use Rattle.dl_index.specs.LayoutOf.{IsLayoutOf};
+ghost use Rattle.dl_index.specs.Parts.{header_sizes};
 ghost use Rattle.dl_index.specs.PartsOf.{ArePartsOf};
 
 use crate::header::{HEADER_LEN, Header};
+use crate::layout::Layout;
 use crate::numbers::Numbers;
-use crate::width::Width;
+use crate::width::{Width, width_by};
 
-/// The parts of an index.
+/// The parts of an index, but for the columns of which a look-up reads a single number.
 #[derive(Clone, Copy)]
 pub struct Parts<'a> {
     pub starts: Numbers<'a>,
     pub files: Numbers<'a>,
-    pub lines: Numbers<'a>,
-    pub columns: Numbers<'a>,
-    pub discriminators: Numbers<'a>,
     pub statements: &'a [u8],
     pub file_table: &'a [u8],
     pub text_table: &'a [u8],
@@ -77,90 +76,48 @@ pub fn whole_len(header: &Header) -> u128
         + rounded_up(u128::from(header.text_bytes))
 }
 
-/// The part of `len` bytes at a place, and the place of the next one, which is the next multiple of 8 from there. None where
-/// there are fewer bytes.
+/// So many bytes from a place on.
 #[inline(always)]
-fn part_at(bytes: &[u8], at: usize, len: usize) -> Option<(&[u8], usize)>
-    requires { at ≤ length bytes.now }
-    ensures part { IfSome result (λ cut. cut.0.now ≡ take len (drop at bytes.entry.now)) }
-    ensures len { IfSome result (λ cut. length cut.0.now ≡ len) }
-    ensures next { IfSome result (λ cut. cut.1 ≡ at + rounded len) }
-    ensures within { IfSome result (λ cut. cut.1 ≤ length bytes.entry.now) }
-    ensures none { IfNone result (length bytes.entry.now < at + rounded len) }
+fn part_at(bytes: &[u8], at: usize, len: usize) -> &[u8]
+    requires { at + len ≤ length bytes.now }
+    ensures part { result.now ≡ take len (drop at bytes.entry.now) }
+    ensures len { length result.now ≡ len }
 {
-    if len > bytes.len() {
-        return None;
-    }
-    let next = at + (len + 7) / 8 * 8;
-    if next > bytes.len() {
-        return None;
-    }
     let rest = &bytes[at..];
-    Some((&rest[..len], next))
+    &rest[..len]
 }
 
-/// The column of `len` numbers at a place, and the place of the next part. None where there are fewer bytes.
+/// The column of `len` numbers at a place, each of so many bytes.
 #[inline(always)]
-fn column_at(bytes: &[u8], at: usize, width: Width, len: usize) -> Option<(Numbers<'_>, usize)>
-    requires { at ≤ length bytes.now }
-    ensures len { IfSome result (λ cut. cut.0.len ≡ len) }
-    ensures width { IfSome result (λ cut. cut.0.width ≡ width) }
-    ensures column { IfSome result (λ cut. cut.0.bytes.now ≡ take (len * size_of width) (drop at bytes.entry.now)) }
-    ensures next { IfSome result (λ cut. cut.1 ≡ at + rounded (len * size_of width)) }
-    ensures within { IfSome result (λ cut. cut.1 ≤ length bytes.entry.now) }
-    ensures none { IfNone result (length bytes.entry.now < at + rounded (len * size_of width)) }
+fn column_at(bytes: &[u8], at: usize, size: u8, len: usize) -> Numbers<'_>
+    requires size { is_number_size size ≡ true }
+    requires within { at + len * size ≤ length bytes.now }
+    ensures len { result.len ≡ len }
+    ensures width { size_of result.width ≡ size }
+    ensures column { result.bytes.now ≡ take (len * size) (drop at bytes.entry.now) }
 {
-    let size = len.checked_mul(width.size())?;
-    let (bytes, next) = part_at(bytes, at, size)?;
-    Some((Numbers { bytes, width, len }, next))
-}
-
-/// The table of `len` rows at a place, each of `size` bytes, and the place of the next part. None where there are fewer bytes.
-#[inline(always)]
-fn table_at(bytes: &[u8], at: usize, size: usize, len: usize) -> Option<(&[u8], usize)>
-    requires { at ≤ length bytes.now }
-    ensures part { IfSome result (λ cut. cut.0.now ≡ take (len * size) (drop at bytes.entry.now)) }
-    ensures len { IfSome result (λ cut. length cut.0.now ≡ len * size) }
-    ensures next { IfSome result (λ cut. cut.1 ≡ at + rounded (len * size)) }
-    ensures within { IfSome result (λ cut. cut.1 ≤ length bytes.entry.now) }
-    ensures none { IfNone result (length bytes.entry.now < at + rounded (len * size)) }
-{
-    part_at(bytes, at, len.checked_mul(size)?)
-}
-
-/// The parts of bytes with this header; None where they don't fill what follows it.
-#[inline(always)]
-pub fn cut<'a>(bytes: &'a [u8], header: &Header) -> Option<Parts<'a>>
-    requires reads { Reads header.now bytes.now }
-    requires enough { 128 ≤ length bytes.now }
-    ensures parts { IfSome result (λ parts. ArePartsOf parts bytes.entry.now) }
-    ensures fill { OnSome result (128 + sum (map rounded (sizes bytes.entry.now)) ≡ length bytes.entry.now) }
-    ensures some { 128 + sum (map rounded (sizes bytes.entry.now)) ≡ length bytes.entry.now → IsSome result }
-{
-    let count = header.count as usize;
-    let widths = header.widths;
-    let (starts, at) = column_at(bytes, HEADER_LEN, widths.starts, count)?;
-    let (files, at) = column_at(bytes, at, widths.files, count)?;
-    let (lines, at) = column_at(bytes, at, widths.lines, count)?;
-    let (columns, at) = column_at(bytes, at, widths.columns, count)?;
-    let (discriminators, at) = column_at(bytes, at, widths.discriminators, count)?;
-    let (statements, at) = part_at(bytes, at, count.div_ceil(8))?;
-    let (file_table, at) = table_at(bytes, at, 24, header.files as usize)?;
-    let (text_table, texts_at) = table_at(bytes, at, 16, header.texts as usize)?;
-    let (texts, end) = part_at(bytes, texts_at, header.text_bytes as usize)?;
-    if end != bytes.len() {
-        return None;
+    let width = width_by(size);
+    Numbers {
+        bytes: part_at(bytes, at, len * width.size()),
+        width,
+        len,
     }
-    Some(Parts {
-        starts,
-        files,
-        lines,
-        columns,
-        discriminators,
-        statements,
-        file_table,
-        text_table,
-        texts,
-        texts_at,
-    })
+}
+
+/// The parts of bytes that are laid out so.
+#[inline(always)]
+pub fn parts_at<'a>(bytes: &'a [u8], layout: &Layout) -> Parts<'a>
+    requires { length bytes.now ≡ layout.now.len }
+    ensures { IsLayoutOf layout.now bytes.entry.now → ArePartsOf result bytes.entry.now }
+{
+    let count = layout.count;
+    Parts {
+        starts: column_at(bytes, HEADER_LEN, layout.starts_width, count),
+        files: column_at(bytes, layout.files_at, layout.files_width, count),
+        statements: part_at(bytes, layout.statements_at, count.div_ceil(8)),
+        file_table: part_at(bytes, layout.file_table_at, layout.files * 24),
+        text_table: part_at(bytes, layout.text_table_at, layout.texts * 16),
+        texts: part_at(bytes, layout.texts_at, layout.text_bytes),
+        texts_at: layout.texts_at,
+    }
 }

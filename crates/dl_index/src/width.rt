@@ -1,6 +1,6 @@
 //! The widths of columns.
 
-ghost use Rattle.std.specs.Prelude.{◌≡◌, false, MatchOption};
+ghost use Rattle.std.specs.Prelude.{◌≡◌, true, false, MatchOption};
 ghost use Rattle.dl_num.specs.Fixed.{is_number_size};
 ghost use Rattle.dl_index.specs.Columns.{size_of};
 
@@ -29,6 +29,18 @@ impl Width {
             Width::Eight => 8,
         }
     }
+
+    /// The same as a byte.
+    pub(crate) fn bytes(self) -> u8
+        ensures { result ≡ size_of self }
+    {
+        match self {
+            Width::One => 1,
+            Width::Two => 2,
+            Width::Four => 4,
+            Width::Eight => 8,
+        }
+    }
 }
 
 /// The width of this many bytes; None where they aren't 1, 2, 4 or 8.
@@ -41,5 +53,19 @@ pub fn width_of(size: u8) -> Option<Width>
         4 => Some(Width::Four),
         8 => Some(Width::Eight),
         _ => None,
+    }
+}
+
+/// The width of 1, 2, 4 or 8 bytes.
+#[inline(always)]
+pub(crate) fn width_by(size: u8) -> Width
+    requires { is_number_size size ≡ true }
+    ensures { size_of result ≡ size }
+{
+    match size {
+        1 => Width::One,
+        2 => Width::Two,
+        4 => Width::Four,
+        _ => Width::Eight,
     }
 }

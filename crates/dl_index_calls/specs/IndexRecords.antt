@@ -4,6 +4,7 @@ use Rattle.std.specs.Prelude.{◌≡◌, ℕ, ◌+◌, ◌%◌, ◌≤◌, ◌==
 use Rattle.std.specs.Prelude.{flat_map, Option, Some, None, is_some, option_map}
 use Rattle.std.specs.Borrow.{Bor}
 use Rattle.dl_index.specs.Layout.{build_id_in, count_in, flags_in}
+use Rattle.dl_index.specs.LayoutOf.{IsLayoutOf}
 use Rattle.dl_index.specs.Shown.{text_told}
 use Rattle.dl_index.specs.Stretches.{Told}
 use Rattle.dl_index.specs.declared.fault.IndexFault.{IndexFault}
@@ -17,12 +18,11 @@ use Rattle.dl_index_calls.specs.declared.record.LocationRecord.{LocationRecord}
 
 -- ---- an index
 
-abbrev pub about : List ℕ → IndexRecord
-about b = record {
-  stretches = count_in b;
-  build_id_len = length (build_id_in b);
-  is_all = cond (flags_in b % 2 == 1) 1 0;
-}
+pub record IsAbout (b : List ℕ) (r : IndexRecord) : Type 0 where
+  pub stretches : r.stretches ≡ count_in b
+  pub build_id_len : r.build_id_len ≡ length (build_id_in b)
+  pub is_all : r.is_all ≡ cond (flags_in b % 2 == 1) 1 0
+  pub layout : IsLayoutOf r.layout b
 
 -- ---- what is told of an address
 

@@ -7,17 +7,17 @@ ghost use Rattle.dl_index_calls.specs.declared.record.LocationRecord.{LocationRe
 
 use crate::record::LocationRecord;
 use dl_calls::Status;
-use dl_index::{Four, IndexRef, reopen};
+use dl_index::{Four, IndexRef, Layout, reopen};
 
 /// What an index tells of an address.
 ///
-/// Done: it is told. NoAnswer: nothing is told, in a gap and before the first stretch. Fault: the bytes aren't laid out
-/// as those of an index that was opened. What isn't told stays as it was. Where the bytes were not checked, nothing is told
+/// Done: it is told. NoAnswer: nothing is told, in a gap and before the first stretch. Fault: the bytes aren't those of an
+/// index with this layout, which is so of none that was opened with it. What isn't told stays as it was. Where the bytes were not checked, nothing is told
 /// either where the number of a file or text, or the place of a text, lies outside.
-pub fn find(bytes: &[u8], address: u64, location: &mut LocationRecord) -> Status
-    ensures { FindsOne bytes.now address location.old location.new result }
+pub fn find(bytes: &[u8], layout: &Layout, address: u64, location: &mut LocationRecord) -> Status
+    ensures { FindsOne layout.now bytes.now address location.old location.new result }
 {
-    let Some(index) = reopen(bytes) else {
+    let Some(index) = reopen(bytes, layout) else {
         return Status::Fault;
     };
     match index.find(address) {
@@ -33,13 +33,18 @@ pub fn find(bytes: &[u8], address: u64, location: &mut LocationRecord) -> Status
 ///
 /// Done: each is told, or that nothing is told of it. NoRoom: there aren't as many locations as addresses. Fault: as of
 /// `find`. What isn't told stays as it was.
-pub fn find_many(bytes: &[u8], addresses: &[u64], locations: &mut [LocationRecord]) -> Status
-    ensures { FindsMany bytes.now addresses.now locations.old locations.new result }
+pub fn find_many(
+    bytes: &[u8],
+    layout: &Layout,
+    addresses: &[u64],
+    locations: &mut [LocationRecord],
+) -> Status
+    ensures { FindsMany layout.now bytes.now addresses.now locations.old locations.new result }
 {
     if addresses.len() != locations.len() {
         return Status::NoRoom;
     }
-    let Some(index) = reopen(bytes) else {
+    let Some(index) = reopen(bytes, layout) else {
         return Status::Fault;
     };
     locate_all(&index, addresses, locations);

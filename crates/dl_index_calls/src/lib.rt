@@ -1,6 +1,6 @@
 //! The calls of the library for C over the bytes of an index: what it tells of addresses, its stretches, and what is
-//! wrong with bytes that aren't one. Each call finds the parts of the index anew, of which nothing is kept, and takes
-//! no memory.
+//! wrong with bytes that aren't one. What is kept of an index between calls is its layout, which the caller has. No call
+//! takes memory.
 #![tactic(auto)]
 
 mod finding;
@@ -10,6 +10,7 @@ mod opening;
 mod record;
 mod telling;
 
+pub use dl_index::Layout;
 pub use finding::{find, find_many};
 pub use joining::path;
 pub use listing::stretch;

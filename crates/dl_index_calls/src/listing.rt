@@ -6,7 +6,7 @@ ghost use Rattle.dl_index_calls.specs.StretchCalls.{ListsStretch};
 
 use crate::record::LocationRecord;
 use dl_calls::Status;
-use dl_index::reopen;
+use dl_index::{Layout, reopen};
 
 /// Tells stretch `k` of an index, counted from 0: its first address, its last one, and what is told of them.
 ///
@@ -15,14 +15,15 @@ use dl_index::reopen;
 /// stays as it was.
 pub fn stretch(
     bytes: &[u8],
+    layout: &Layout,
     k: usize,
     start: &mut u64,
     last: &mut u64,
     location: &mut LocationRecord,
 ) -> Status
-    ensures { ListsStretch bytes.now k start.old start.new last.old last.new location.old location.new result }
+    ensures { ListsStretch layout.now bytes.now k start.old start.new last.old last.new location.old location.new result }
 {
-    let Some(index) = reopen(bytes) else {
+    let Some(index) = reopen(bytes, layout) else {
         return Status::Fault;
     };
     let Some(listed) = index.stretch(k) else {

@@ -3,10 +3,10 @@
 ghost use Rattle.std.specs.Prelude.{◌≡◌, ℕ, List, IfSome, option_map};
 ghost use Rattle.dl_index.specs.Shown.{bytes_of, told};
 ghost use Rattle.dl_index.specs.TextPlaces.{AreAt, StandsAt};
-ghost use Rattle.dl_index_calls.specs.IndexRecords.{Answers, IsSpan, about, bytes_told, fault_record, has_path};
+ghost use Rattle.dl_index_calls.specs.IndexRecords.{Answers, IsAbout, IsSpan, bytes_told, fault_record, has_path};
 ghost use Rattle.dl_index_calls.specs.IndexRecords.{nothing, part_code, told_fault, told_part, Tells};
 
-use dl_index::{Found, IndexFault, IndexPart, IndexRef, PathTexts};
+use dl_index::{Found, IndexFault, IndexPart, IndexRef, Layout, PathTexts};
 
 /// An index that was opened.
 #[repr(C)]
@@ -18,16 +18,19 @@ pub struct IndexRecord {
     pub build_id_len: u64,
     /// 1 where each sequence counts, a dead one too; else 0.
     pub is_all: u8,
+    /// Its layout, by which the calls over it find its parts.
+    pub layout: Layout,
 }
 
 impl IndexRecord {
     pub(crate) fn of(index: &IndexRef<'_>) -> IndexRecord
-        ensures { result ≡ about (bytes_of index.now) }
+        ensures { IsAbout (bytes_of index.now) result }
     {
         IndexRecord {
             stretches: index.count() as u64,
             build_id_len: index.build_id().len() as u64,
             is_all: u8::from(index.has_all_sequences()),
+            layout: index.layout(),
         }
     }
 }

@@ -1,7 +1,7 @@
 //! What an index tells of addresses, and its list of stretches.
 
 use crate::sample::{ADDRESSES, INDEX, ROWS, Row};
-use dl_index::{Found, IndexRef, open, open_unchecked};
+use dl_index::{Found, IndexRef, Layout, open, open_unchecked, reopen};
 
 /// Whether a text is the wanted one; an empty one isn't there.
 fn is_text(text: Option<&[u8]>, wanted: &[u8]) -> bool {
@@ -89,6 +89,29 @@ fn addresses_are_answered(rt: HostRuntime) {
 fn addresses_are_answered_unchecked(rt: HostRuntime) {
     let is_right = match open_unchecked(&INDEX) {
         Ok(index) => all_told(&index, ROWS),
+        Err(_) => false,
+    };
+    assert!(rt; is_right);
+}
+
+/// Whether the index with this layout is found again in its bytes, and in none of another length or with another header.
+fn is_found_again(layout: &Layout) -> bool {
+    let mut other = INDEX;
+    other[32] ^= 1;
+    let is_right = match reopen(&INDEX, layout) {
+        Some(index) => all_told(&index, ROWS),
+        None => false,
+    };
+    is_right
+        && reopen(&INDEX[..INDEX.len() - 1], layout).is_none()
+        && reopen(&[], layout).is_none()
+        && reopen(&other, layout).is_none()
+}
+
+#[test]
+fn indices_are_found_again(rt: HostRuntime) {
+    let is_right = match open(&INDEX) {
+        Ok(index) => is_found_again(&index.layout()),
         Err(_) => false,
     };
     assert!(rt; is_right);

@@ -6,7 +6,7 @@ use Rattle.dl_index.proofs.index.IndexRef.found_from.Goals as goal
 pub returns-then-address-self : goal.returns-then-address-self
 returns-then-address-self c =
     let self = c.args.self.now in
-    let based = self.based in
+    let based = self.laid_out.sizes.base in
     let below = c.if-address-self.true in
     record { exact = λ is. sym (finds_nothing (bytes_of self) c.args.address (omega arith)); stands = tt; places = tt }
 
@@ -15,7 +15,7 @@ returns c =
     let self = c.args.self.now in
     let b = bytes_of self in
     let k = c.args.k in
-    let based = self.based in
+    let based = self.laid_out.sizes.base in
     let above = c.if-address-self.false in
     let within = c.requires.within in
     record {

@@ -6,5 +6,5 @@ pub returns-clause-last : goal.returns-clause-last
 returns-clause-last c =
     let self = c.args.self.now in
     let starts = self.cut.starts in
-    let offset = c.in_ok-offset.ensures.1 ∙ ap (λ base. c.args.address - base) self.based in
+    let offset = c.in_ok-offset.ensures.1 ∙ ap (λ base. c.args.address - base) self.laid_out.sizes.base in
     last_of_same _ _ _ _ _ _ _ (entries_are starts) starts.len offset c.last_upto.ensures.last
