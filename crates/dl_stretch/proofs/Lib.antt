@@ -1,7 +1,8 @@
-pub mod AppendLemmas
 pub mod CutStretches
 pub mod LastBegun
 pub mod NameLemmas
+pub mod PartLemmas
+pub mod RenumberLemmas
 pub mod RunLemmas
 pub mod RunStretches
 pub mod SequenceLemmas

@@ -7,7 +7,8 @@ pub mod Laws
 pub mod RowRuns
 pub mod Spans
 pub mod Sequences
+pub mod Parts
 pub mod Stands
 -- Of contracts inside the crate, and of proofs; no public contract reaches these.
 pub mod Made
-pub mod Appended
+pub mod Renumbered

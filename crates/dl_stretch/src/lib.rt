@@ -10,7 +10,6 @@ mod sequence;
 mod stretch;
 mod stretching;
 mod told;
-mod unit_runs;
 
 pub use run::Run;
 pub use runs::Runs;

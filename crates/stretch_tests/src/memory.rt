@@ -12,7 +12,7 @@ fn stretches(alloc: Global) -> Result<Vec<Stretch>, NoMemory> {
         runs.row(&row(16 * i, 0, i), true)?;
         runs.row(&end(16 * i + 8, 0, i), true)?;
     }
-    runs.end_unit(&[], 0)?;
+    runs.end_unit(&[], 0);
     runs.stretches(alloc)
 }
 

@@ -24,7 +24,7 @@ fn three_units(alloc: Global) -> Result<Vec<Stretch>, Fail> {
     for row in [row_in(0x1000, 1), row_in(0x1010, 2), end(0x1020, 0, 1)] {
         runs.row(&row, true).ok().ok_or("memory")?;
     }
-    runs.end_unit(&[7, 8, 9], 0).ok().ok_or("memory")?;
+    runs.end_unit(&[7, 8, 9], 0);
     for row in [
         row_in(0x1018, 1),
         row_in(0x1028, 2),
@@ -33,7 +33,7 @@ fn three_units(alloc: Global) -> Result<Vec<Stretch>, Fail> {
     ] {
         runs.row(&row, true).ok().ok_or("memory")?;
     }
-    runs.end_unit(&[8, 9], 5).ok().ok_or("memory")?;
+    runs.end_unit(&[8, 9], 5);
     Ok(runs.stretches(alloc).ok().ok_or("memory")?)
 }
 

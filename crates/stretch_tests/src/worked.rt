@@ -157,7 +157,7 @@ fn stretches_of(alloc: Global, steps: &[Step]) -> Result<Vec<Stretch>, Fail> {
         let row = row_of(*step);
         runs.row(&row, row.address > DEAD).ok().ok_or("memory")?;
     }
-    runs.end_unit(&[], 1).ok().ok_or("memory")?;
+    runs.end_unit(&[], 1);
     Ok(runs.stretches(alloc).ok().ok_or("memory")?)
 }
 

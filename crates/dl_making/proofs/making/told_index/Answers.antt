@@ -19,7 +19,7 @@ pub returns-in-Ok : goal.returns-in-Ok
 returns-in-Ok c first start held visits m =
     let t = m.tells c.if-maker.false in
     let names = c.args.maker.now.names in
-    let are = c.in_ok-stretches.ensures.are (code_of first) t.units [] (c.give_back.ensures (code_of first) t.units (rows_after [] visits) t.stands) in
+    let are = c.in_ok-stretches.ensures.are (code_of first) t.units (rows_after [] visits) t.stands in
     let stretches = c.in_ok-stretches.stretches.items in
     let here = c.as_slice.ensures.value in
     let made = c.in-Ok.ensures in
@@ -42,7 +42,7 @@ unreachable-requires c =
     let t = c.requires.4.tells c.if-maker.false in
     let names = c.args.maker.now.names in
     let stretches = c.in_ok-stretches.stretches.items in
-    let are = c.in_ok-stretches.ensures.are (code_of first) t.units [] (c.give_back.ensures (code_of first) t.units (rows_after [] visits) t.stands) in
+    let are = c.in_ok-stretches.ensures.are (code_of first) t.units (rows_after [] visits) t.stands in
     let fails = rw c.in-Err-File.field-0-is at c.in-Err-File.ensures.fails in
     none_unnamed (named_files names) (told_of_units (code_of first) t.units) (told_after first visits) stretches are
     c.in_ok-stretches.ensures.starts t.tells
