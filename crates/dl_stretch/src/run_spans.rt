@@ -5,8 +5,7 @@ ghost use Rattle.dl_stretch.specs.Parts.{ended, AreParted};
 
 use crate::run::Run;
 use crate::sequence::SequenceRuns;
-use crate::stretch::Stretch;
-use crate::stretching::stretches_of;
+use crate::stretching::RunStretches;
 use dl_look::{Place, Span};
 use dl_memory::NoMemory;
 use dl_rows::Row;
@@ -30,8 +29,9 @@ impl RunSpans {
     ghost use Rattle.dl_rows.specs.declared.row.Row as each;
     ghost use Rattle.dl_look.specs.Answer.{place_of};
     ghost use Rattle.dl_look.specs.LiveRows.{live_rows};
-    ghost use Rattle.dl_stretch.specs.Laws.{AtAddresses};
+    ghost use Rattle.dl_stretch.specs.declared.stretch.Stretch as kept;
     ghost use Rattle.dl_stretch.specs.Runs.{number_in, renumbered};
+    ghost use Rattle.dl_stretch.specs.StandFor.{StandFor};
     ghost use Rattle.dl_stretch.specs.Stands.{whole_answer, unit_answer, Holds};
     ghost use Rattle.dl_stretch.specs.Stretches.{AreStretches};
     ghost use Rattle.dl_stretch.specs.ToldUnits.{NameFiles};
@@ -117,10 +117,10 @@ impl RunSpans {
     }
 
     /// The stretches of what the units answer that have ended.
-    pub fn stretches(&self, alloc: Global) -> Result<Vec<Stretch>, NoMemory>
-        ensures are { IfOk result (λ stretches. AreStretches (whole_answer self.now) stretches.items) }
-        ensures starts { IfOk result (λ stretches. AtAddresses stretches.items) }
+    pub fn stretches(&self, alloc: Global) -> Result<RunStretches<'_>, NoMemory>
+        ensures { IfOk result (λ stretches. (list : List kept.Stretch) → StandFor stretches list
+            → AreStretches (whole_answer self.now) list) }
     {
-        stretches_of(alloc, self.list.ended(), &self.spans[..self.whole_spans])
+        RunStretches::new(alloc, self.list.ended(), &self.spans[..self.whole_spans])
     }
 }

@@ -4,7 +4,7 @@ ghost use Rattle.std.specs.Prelude.{◌≡◌};
 
 use crate::run::Run;
 use crate::run_spans::RunSpans;
-use crate::stretch::Stretch;
+use crate::stretching::RunStretches;
 use dl_look::LiveRows;
 use dl_memory::NoMemory;
 use dl_rows::Row;
@@ -29,8 +29,9 @@ impl Runs {
     ghost use Rattle.std.specs.Prelude.{◌≡◌, ◌↔◌, ℕ, Bool, IfOk, IsTrue, List, [], ◌∷◌, ◌++◌};
     ghost use Rattle.dl_rows.specs.declared.row.Row as each;
     ghost use Rattle.dl_look.specs.FinderRows.{unended};
-    ghost use Rattle.dl_stretch.specs.Laws.{AtAddresses};
+    ghost use Rattle.dl_stretch.specs.declared.stretch.Stretch as kept;
     ghost use Rattle.dl_stretch.specs.Runs.{number_in};
+    ghost use Rattle.dl_stretch.specs.StandFor.{StandFor};
     ghost use Rattle.dl_stretch.specs.Stands.{Stands};
     ghost use Rattle.dl_stretch.specs.Stretches.{AreStretches};
     ghost use Rattle.dl_stretch.specs.ToldUnits.{UnitRows, told_of_units, NameFiles};
@@ -101,12 +102,13 @@ impl Runs {
         self.live = LiveRows::new();
     }
 
-    /// The stretches of what the units tell that have ended, each of which begins at an address. It takes time in proportion to the runs, and to the
-    /// sequences times the logarithm of their number, but for little.
-    pub fn stretches(&self, alloc: Global) -> Result<Vec<Stretch>, NoMemory>
-        ensures are { IfOk result (λ stretches. (live : ℕ → Bool) (units : List UnitRows) (rows : List each.Row)
-            → Stands live self.now units rows → AreStretches (told_of_units live units) stretches.items) }
-        ensures starts { IfOk result (λ stretches. AtAddresses stretches.items) }
+    /// The stretches of what the units tell that have ended, each of which begins at an address. It takes time in proportion
+    /// to the sequences times the logarithm of their number, but for little, and to tell them takes time in proportion to the
+    /// runs.
+    pub fn stretches(&self, alloc: Global) -> Result<RunStretches<'_>, NoMemory>
+        ensures { IfOk result (λ stretches. (live : ℕ → Bool) (units : List UnitRows) (rows : List each.Row)
+            → Stands live self.now units rows → (list : List kept.Stretch) → StandFor stretches list
+            → AreStretches (told_of_units live units) list) }
     {
         self.spans.stretches(alloc)
     }
