@@ -1,6 +1,6 @@
 use Rattle.std.proofs.Common.{arith}
 use Rattle.dl_pack.proofs.FaultLemmas.{unnamed_here}
-use Rattle.dl_pack.proofs.making.mention_told.Goals as goal
+use Rattle.dl_pack.proofs.file_order.mention_told.Goals as goal
 
 pub returns-then-told-count-clause-fails : goal.returns-then-told-count-clause-fails
 returns-then-told-count-clause-fails c =
