@@ -113,7 +113,7 @@ pub(crate) fn told_index(
     let stretches = maker.runs.stretches(alloc)?;
     match index_bytes(
         alloc,
-        stretches.as_slice(),
+        &stretches,
         &maker.names,
         table.all,
         id_front(table.build_id),

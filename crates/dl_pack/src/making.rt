@@ -5,7 +5,7 @@ ghost use Rattle.std.specs.List.{All, flat_map};
 ghost use Rattle.dl_stretch.specs.declared.stretch.Stretch as each;
 ghost use Rattle.dl_pack.specs.IndexOf.{files_told, file_order, text_place, file_places, text_order};
 ghost use Rattle.dl_pack.specs.IndexOf.{tables_by, index_of};
-ghost use Rattle.dl_pack.specs.Faults.{MentionFails, PackFails};
+ghost use Rattle.dl_pack.specs.Faults.{PackFails, TotalsFail};
 ghost use Rattle.dl_pack.specs.Columns.{padded};
 ghost use Rattle.dl_pack.specs.Tables.{texts_at, total_len};
 ghost use Rattle.dl_pack.specs.Numbering.{mentioned};
@@ -35,8 +35,7 @@ fn totals_of<T: Stretches>(alloc: Global, stretches: &T, names: &Names) -> Resul
         → Totalled (length (files_of names.now)) totals list) }
     ensures good { IfOk result (λ totals. totals.files.fault ≡ None) }
     ensures some { IfOk result (λ _. (list : List each.Stretch) × T.stands stretches.now list) }
-    ensures fails { IfErr result (λ fault. (list : List each.Stretch) → T.stands stretches.now list
-        → MentionFails (length (files_of names.now)) list fault) }
+    ensures fails { IfErr result (TotalsFail (length (files_of names.now)) (T.stands stretches.now)) }
 {
     let Ok(files) = Mentions::new(alloc, names.file_count()) else {
         return Err(PackFault::NoMemory);
@@ -165,8 +164,7 @@ pub fn index_bytes<T: Stretches>(
         → StretchesRise list → IsIndex bytes.items) }
     ensures tells { IfOk result (λ bytes. (list : List each.Stretch) → T.stands stretches.now list → StretchesRise list
         → stretches_in bytes.items ≡ map (named_stretch (named_files names.now)) list) }
-    ensures fails { IfErr result (λ fault. (list : List each.Stretch) → T.stands stretches.now list
-        → PackFails build_id.now (length (files_of names.now)) list fault) }
+    ensures fails { IfErr result (PackFails build_id.now (length (files_of names.now)) (T.stands stretches.now)) }
 {
     if build_id.len() > 32 {
         return Err(PackFault::BuildId);
