@@ -32,12 +32,15 @@ fn the_worked_index(rt: HostRuntime) -> Result<(), Fail> {
     Ok(())
 }
 
+/// No stretch.
+const NONE: &[Stretch] = &[];
+
 #[test]
 fn the_index_of_nothing(rt: HostRuntime) -> Result<(), Fail> {
     let names = Names::new(rt.alloc());
-    let bytes = index_bytes(rt.alloc(), &[], &names, false, &[])?;
+    let bytes = index_bytes(rt.alloc(), &NONE, &names, false, &[])?;
     assert!(rt; bytes.as_slice() == EMPTY.as_slice());
-    assert!(rt; is_listed(bytes.as_slice(), &names, &[]));
+    assert!(rt; is_listed(bytes.as_slice(), &names, NONE));
     Ok(())
 }
 

@@ -1,4 +1,5 @@
 //! Growths that are refused.
+use crate::kept::stretches_of;
 use dl_memory::NoMemory;
 use dl_stretch::{Runs, Stretch};
 use std::alloc::Global;
@@ -13,7 +14,7 @@ fn stretches(alloc: Global) -> Result<Vec<Stretch>, NoMemory> {
         runs.row(&end(16 * i + 8, 0, i), true)?;
     }
     runs.end_unit(&[], 0);
-    runs.stretches(alloc)
+    stretches_of(alloc, &runs)
 }
 
 /// Each growth is refused in turn, and in the end none is.

@@ -1,4 +1,5 @@
 //! Units one after the other, and the numbers of their files.
+use crate::kept::stretches_of;
 use dl_rows::Row;
 use dl_stretch::{Runs, Stretch, Told};
 use std::alloc::Global;
@@ -34,7 +35,7 @@ fn three_units(alloc: Global) -> Result<Vec<Stretch>, Fail> {
         runs.row(&row, true).ok().ok_or("memory")?;
     }
     runs.end_unit(&[8, 9], 5);
-    Ok(runs.stretches(alloc).ok().ok_or("memory")?)
+    Ok(stretches_of(alloc, &runs).ok().ok_or("memory")?)
 }
 
 fn is_told(rt: &impl Abort, stretch: &Stretch, start: u64, file: Option<u64>) {
