@@ -240,11 +240,6 @@ pub settles : (first now : Maker) (start held : Option (List ℕ)) (visits : Lis
 settles first now start held visits flow.On s = (s, s.nothing)
 settles first now start held visits flow.Stop s = absurd s
 
--- what holds where a call is good
-pub on_ok : {A E P Q : Type 0} (r : Result A E) → IfOk r (λ _. P) → (P → Q) → OnOk r Q
-on_ok (Ok x) p f = f p
-on_ok (Err e) p f = tt
-
 -- the files of a unit have their numbers, and its rows count
 module _ (old new : Maker) (h : Option HeaderData) (u : UnitFiles) (runs : List Run) (numbers : List ℕ) (other : ℕ)
     (grows : Grows (named_files old.names) (named_files new.names))

@@ -161,6 +161,7 @@ impl<'s, 'o, 'q> Maker<'s, 'o, 'q> {
         };
         let runs = self.runs.unit_runs();
         let (numbers, other) = numbers_of(self.alloc, &mut self.names, &unit, runs)?;
-        self.runs.end_unit(numbers.as_slice(), other)
+        self.runs.end_unit(numbers.as_slice(), other);
+        Ok(())
     }
 }

@@ -66,7 +66,7 @@ pub fn make_index<R: Read>(
     let strings = StringSections::new(options.debug_line_str, options.debug_str);
     let mut maker = Maker::new(alloc, &strings, table.code, table.directories);
     let summary = read_units(alloc, input, &mut io::sink(), options, &mut maker)?;
-    match told_index(alloc, &mut maker, table) {
+    match told_index(alloc, &maker, table) {
         Ok(index) => Ok(Made { index, summary }),
         Err(NoMemory) => Err(RunFault::NoMemory),
     }
@@ -90,7 +90,7 @@ pub fn make_index_around<R: Read>(
     let strings = StringSections::new(options.debug_line_str, options.debug_str);
     let mut maker = Maker::new(alloc, &strings, table.code, table.directories);
     let survey = read_units_around(alloc, input, &mut io::sink(), options, &mut maker)?;
-    match told_index(alloc, &mut maker, table) {
+    match told_index(alloc, &maker, table) {
         Ok(index) => Ok(MadeAround { index, survey }),
         Err(NoMemory) => Err(RunFault::NoMemory),
     }
@@ -99,22 +99,21 @@ pub fn make_index_around<R: Read>(
 /// The index of what a maker was told. Each file that it told has a name, so memory alone can be wanted.
 pub(crate) fn told_index(
     alloc: Global,
-    maker: &mut Maker<'_, '_, '_>,
+    maker: &Maker<'_, '_, '_>,
     table: &Table<'_>,
 ) -> Result<Vec<u8>, NoMemory>
-    requires { WasTold maker.old }
+    requires { WasTold maker.now }
     ensures { IfOk result (λ index. (first : makers.Maker) (start held : Option (List ℕ)) (visits : List Visit)
-        → Making first maker.old start held visits
+        → Making first maker.now start held visits
         → IsIndexOf table.now.all (id_kept table.now) (told_after first visits) index.items) }
 {
     if maker.is_refused {
         return Err(NoMemory);
     }
-    maker.runs.give_back();
     let stretches = maker.runs.stretches(alloc)?;
     match index_bytes(
         alloc,
-        stretches.as_slice(),
+        &stretches,
         &maker.names,
         table.all,
         id_front(table.build_id),

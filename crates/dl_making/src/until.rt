@@ -59,7 +59,7 @@ pub fn make_index_until<R: Read>(
     let mut maker = Maker::new(alloc, &strings, table.code, table.directories);
     let ended = read_units(alloc, input, &mut io::sink(), options, &mut maker);
     MadeUntil {
-        index: index_until(alloc, &mut maker, table, ended.err()),
+        index: index_until(alloc, &maker, table, ended.err()),
         ended,
     }
 }
@@ -83,7 +83,7 @@ pub fn make_index_until_around<R: Read>(
     let mut maker = Maker::new(alloc, &strings, table.code, table.directories);
     let ended = read_units_around(alloc, input, &mut io::sink(), options, &mut maker);
     MadeUntilAround {
-        index: index_until(alloc, &mut maker, table, ended.err()),
+        index: index_until(alloc, &maker, table, ended.err()),
         ended,
     }
 }
@@ -91,13 +91,13 @@ pub fn make_index_until_around<R: Read>(
 /// The index of what a maker was told before the reading ended, with this fault or none.
 fn index_until(
     alloc: Global,
-    maker: &mut Maker<'_, '_, '_>,
+    maker: &Maker<'_, '_, '_>,
     table: &Table<'_>,
     fault: Option<RunFault>,
 ) -> Result<Vec<u8>, NoMemory>
-    requires { is_refused fault ≡ false → WasTold maker.old }
+    requires { is_refused fault ≡ false → WasTold maker.now }
     ensures told { IfOk result (λ index. (first : makers.Maker) (start held : Option (List ℕ)) (visits : List Visit)
-        → Making first maker.old start held visits
+        → Making first maker.now start held visits
         → IsIndexOf table.now.all (id_kept table.now) (told_after first visits) index.items) }
     ensures refused { fault ≡ Some faults.NoMemory → is_err result ≡ true }
 {

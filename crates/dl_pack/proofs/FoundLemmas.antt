@@ -67,6 +67,9 @@ added_cases true order item new =
 added_cases false order item old =
     let some : number_in order item ≡ 0 → ⊥ = eqb-false (number_in order item) 0 old in omega arith
 
+pub added : (order : List ℕ) (item : ℕ) → 1 ≤ number_in (with_mention order item) item
+added order item = added_cases (eqb (number_in order item) 0) order item refl
+
 -- those that were mentioned have numbers
 pub all_added : (order items : List ℕ) → All (λ item. 1 ≤ number_in (mentioned order items) item) items
 all_added order [] = λ k d lt. absurd (omega arith)

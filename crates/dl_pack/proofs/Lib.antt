@@ -1,5 +1,6 @@
 pub mod ByteLemmas
 pub mod BitLemmas
+pub mod BitPlaces
 pub mod ColumnLemmas
 pub mod CutLemmas
 pub mod FaultLemmas
@@ -8,6 +9,7 @@ pub mod HeadLemmas
 pub mod IndexLemmas
 pub mod ItemLemmas
 pub mod KeptLemmas
+pub mod LaidLemmas
 pub mod LawLemmas
 pub mod MentionLemmas
 pub mod NameLemmas
@@ -15,10 +17,13 @@ pub mod OnceLemmas
 pub mod OrderLemmas
 pub mod PartLemmas
 pub mod ReadLemmas
+pub mod RegionLemmas
 pub mod RiseLemmas
 pub mod StretchLemmas
 pub mod TableLemmas
 pub mod TellLemmas
 pub mod TextLemmas
+pub mod TotalLemmas
 pub mod WholeLemmas
 pub mod WidthLemmas
+pub mod WriterLemmas

@@ -1,15 +1,17 @@
 -- The header in place of the first bytes, and the whole.
 use Rattle.std.proofs.Common.{◌≡◌, ℕ, ◌+◌, ◌-◌, ◌≤◌, Bool, List, [], ◌∷◌, ◌++◌, length, take, drop, map, replicate}
-use Rattle.std.proofs.Common.{arith, ap, ap₂, ◌∙◌, length-append, length-drop}
+use Rattle.std.proofs.Common.{arith, append_assoc, sym, ap, ap₂, ◌∙◌, length-append, length-drop}
 use Rattle.std.specs.Prelude.{if◌then◌else◌}
+use Rattle.std.specs.List.{flat_map}
+use Rattle.std.proofs.lemmas.Grind.{flat_map-append}
 use Rattle.std.proofs.lemmas.List.{append-nil, take_all, drop_all, length-replicate}
 use Rattle.dl_num.specs.Fixed.{little_bytes}
 use Rattle.dl_crc.specs.Crc32.{crc_32}
 use Rattle.dl_stretch.specs.declared.stretch.Stretch.{Stretch}
 use Rattle.dl_pack.specs.declared.names.FileTexts.{FileTexts}
-use Rattle.dl_pack.specs.Columns.{columns_of, width_by}
+use Rattle.dl_pack.specs.Columns.{columns_of, padded, part_by, statement_bytes, width_by}
 use Rattle.dl_pack.specs.Tables.{texts_at, total_len}
-use Rattle.dl_pack.specs.IndexOf.{header_front, header_back, header_with, header_of, whole_of, body_by, base_of, index_by}
+use Rattle.dl_pack.specs.IndexOf.{header_front, header_back, header_with, header_of, whole_of, body_by, base_of, index_by, tables_by}
 
 -- a header has 128 bytes
 pub header_len : (flags a b c d e f sum own : ℕ) (widths build_id : List ℕ) → length widths ≡ 5 → length build_id ≤ 32
@@ -43,6 +45,24 @@ filled_whole n len items after front flags base count files texts text_bytes sum
     ∙ ap (take n) (append-nil after) ∙ take_all n after after_len ∙ after_is
     ∙ ap (λ h. h ++ drop 128 items) is
     ∙ ap₂ (λ n s. header_of (header_front flags (n ∷ base ∷ count ∷ files ∷ texts ∷ text_bytes ∷ []) widths s) build_id ++ drop 128 items) len_is sum_is
+
+assoc : (z c s t : List ℕ) → (z ++ (c ++ s)) ++ t ≡ z ++ (c ++ (s ++ t))
+assoc z c s t = simp (append_assoc)
+
+-- what stands after the header, of columns with bits and of tables
+pub body_put : (zeros front bytes : List ℕ) (base : ℕ) (files_first texts_first : List ℕ) (stretches : List Stretch)
+    (files : List FileTexts) (texts : List (List ℕ)) → front ≡ zeros
+    → bytes ≡ front ++ (flat_map padded (map (part_by base files_first stretches) columns_of)
+    ++ padded (statement_bytes stretches))
+    → bytes ++ flat_map padded (tables_by files_first texts_first files texts)
+    ≡ zeros ++ body_by base files_first texts_first stretches files texts
+body_put zeros front bytes base files_first texts_first stretches files texts same is =
+    let columns : List (List ℕ) = map (part_by base files_first stretches) columns_of in
+    let tables : List (List ℕ) = tables_by files_first texts_first files texts in
+    ap (λ b. b ++ flat_map padded tables)
+    (is ∙ ap (λ f. f ++ (flat_map padded columns ++ padded (statement_bytes stretches))) same)
+    ∙ assoc zeros (flat_map padded columns) (padded (statement_bytes stretches)) (flat_map padded tables)
+    ∙ ap (λ b. zeros ++ b) (sym (flat_map-append padded columns (statement_bytes stretches ∷ tables)))
 
 pub made_whole : (all : Bool) (build_id files_first texts_first texts_are : List ℕ) (stretches : List Stretch)
     (all_files : List FileTexts) (all_texts : List (List ℕ)) (flags base count files texts text_bytes : ℕ)

@@ -50,13 +50,18 @@ base_of (first ∷ stretches) = first.start
 abbrev pub texts_told : List Stretch → List FileTexts → List (List ℕ) → List (List ℕ)
 texts_told stretches files texts = texts_at texts (text_order files (file_order stretches))
 
--- five columns, the bits of is_stmt, files, texts, and their bytes, of files and texts in these orders
+-- files, texts, and their bytes, of files and texts in these orders
+abbrev pub tables_by : (file_order text_order : List ℕ) → List FileTexts → List (List ℕ) → List (List ℕ)
+tables_by files_first texts_first files texts =
+    file_table files files_first texts_first ∷ text_entries 0 (texts_at texts texts_first)
+    ∷ concat (texts_at texts texts_first) ∷ []
+
+-- five columns, the bits of is_stmt, files, texts, and their bytes
 abbrev pub parts_by : (base : ℕ) → (file_order text_order : List ℕ) → List Stretch → List FileTexts → List (List ℕ)
     → List (List ℕ)
 parts_by base files_first texts_first stretches files texts =
     map (part_by base files_first stretches) columns_of
-    ++ (statement_bytes stretches ∷ file_table files files_first texts_first
-    ∷ text_entries 0 (texts_at texts texts_first) ∷ concat (texts_at texts texts_first) ∷ [])
+    ++ (statement_bytes stretches ∷ tables_by files_first texts_first files texts)
 
 abbrev pub body_by : (base : ℕ) → (file_order text_order : List ℕ) → List Stretch → List FileTexts → List (List ℕ) → List ℕ
 body_by base files_first texts_first stretches files texts =

@@ -12,4 +12,7 @@ pub mod Laws
 pub mod Within
 -- Of contracts inside the crate, and of proofs; no public contract reaches these.
 pub mod Mentioned
+pub mod Totals
+pub mod Written
+pub mod Writing
 pub mod Fits

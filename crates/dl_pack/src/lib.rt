@@ -3,12 +3,16 @@
 
 mod columns;
 mod fault;
+mod file_order;
 mod header;
 pub mod laws;
+mod layout;
 mod making;
 mod mentions;
 mod names;
 mod tables;
+mod totals;
+mod writer;
 
 pub use fault::PackFault;
 pub use making::index_bytes;

@@ -1,63 +1,51 @@
 //! The bytes of an index.
 
-ghost use Rattle.std.specs.Prelude.{◌≡◌, ℕ, ◌<◌, ◌≤◌, ◌++◌, ◌∷◌, [], length, map, IfOk, IfErr};
-ghost use Rattle.std.specs.List.{All};
-ghost use Rattle.dl_pack.specs.IndexOf.{files_of_stretch, files_told, file_order, text_place, file_places, text_order};
-ghost use Rattle.dl_pack.specs.IndexOf.{base_of, body_by, index_by, index_of};
-ghost use Rattle.dl_pack.specs.Faults.{MentionFails, PackFails};
-ghost use Rattle.dl_pack.specs.Columns.{columns_of, width_by};
+ghost use Rattle.std.specs.Prelude.{◌≡◌, ℕ, ◌<◌, ◌≤◌, ◌++◌, List, [], None, length, map, IfOk, IfErr};
+ghost use Rattle.std.specs.List.{All, flat_map};
+ghost use Rattle.dl_stretch.specs.declared.stretch.Stretch as each;
+ghost use Rattle.dl_pack.specs.IndexOf.{files_told, file_order, text_place, file_places, text_order};
+ghost use Rattle.dl_pack.specs.IndexOf.{tables_by, index_of};
+ghost use Rattle.dl_pack.specs.Faults.{PackFails, TotalsFail};
+ghost use Rattle.dl_pack.specs.Columns.{padded};
 ghost use Rattle.dl_pack.specs.Tables.{texts_at, total_len};
 ghost use Rattle.dl_pack.specs.Numbering.{mentioned};
 ghost use Rattle.dl_pack.specs.Mentioned.{order_of, count_of};
 ghost use Rattle.dl_pack.specs.Shown.{files_of, texts_of, named_files};
-ghost use Rattle.dl_pack.specs.Fits.{AreKnown, NumbersFit, SumsFit, GivenFits};
+ghost use Rattle.dl_pack.specs.Fits.{AreKnown, SumsFit, GivenFits};
 ghost use Rattle.dl_pack.specs.Telling.{StretchesRise, named_stretch};
-ghost use Rattle.dl_stretch.specs.Laws.{AtAddresses};
+ghost use Rattle.dl_pack.specs.Totals.{Totalled};
 ghost use Rattle.dl_index.specs.IsIndex.{IsIndex};
 ghost use Rattle.dl_index.specs.Telling.{stretches_in};
 
-use crate::columns::{put_columns, put_statements, put_zeros};
+use crate::columns::put_zeros;
 use crate::fault::PackFault;
 use crate::header::{Described, fill_header};
+use crate::layout::with_columns;
 use crate::mentions::Mentions;
 use crate::names::{FileTexts, Names};
 use crate::tables::{put_files, put_text_table, put_texts};
+use crate::totals::Totals;
 use dl_memory::NoMemory;
-use dl_stretch::Stretch;
+use dl_stretch::Stretches;
 use std::alloc::Global;
 
-/// Mentions the file that a stretch tells, if there is one of its number.
-fn mention_told(files: &mut Mentions, stretch: &Stretch) -> Result<(), PackFault>
-    ensures order { IfOk result (λ _. order_of files.new ≡ mentioned (order_of files.old) (files_of_stretch stretch.now)) }
-    ensures within { IfOk result (λ _. All (λ file. file < count_of files.old) (files_of_stretch stretch.now)) }
-    ensures fails { IfErr result (MentionFails (count_of files.old) (stretch.now ∷ [])) }
-    ensures count { count_of files.new ≡ count_of files.old }
+/// What is known of stretches before their index is written.
+fn totals_of<T: Stretches>(alloc: Global, stretches: &T, names: &Names) -> Result<Totals, PackFault>
+    ensures totals { IfOk result (λ totals. (list : List each.Stretch) → T.stands stretches.now list
+        → Totalled (length (files_of names.now)) totals list) }
+    ensures good { IfOk result (λ totals. totals.files.fault ≡ None) }
+    ensures some { IfOk result (λ _. (list : List each.Stretch) × T.stands stretches.now list) }
+    ensures fails { IfErr result (TotalsFail (length (files_of names.now)) (T.stands stretches.now)) }
 {
-    let Some(told) = stretch.told else {
-        return Ok(());
-    };
-    if told.file >= files.count() as u64 {
-        return Err(PackFault::File);
-    }
-    match files.mention(told.file as usize) {
-        Ok(()) => Ok(()),
-        Err(NoMemory) => Err(PackFault::NoMemory),
-    }
-}
-
-/// The files that stretches tell, in the order in which they first do.
-fn mention_files(alloc: Global, stretches: &[Stretch], names: &Names) -> Result<Mentions, PackFault>
-    ensures order { IfOk result (λ files. order_of files ≡ file_order stretches.now) }
-    ensures within { IfOk result (λ _. All (λ file. file < length (files_of names.now)) (files_told stretches.now)) }
-    ensures fails { IfErr result (MentionFails (length (files_of names.now)) stretches.now) }
-{
-    let Ok(mut files) = Mentions::new(alloc, names.file_count()) else {
+    let Ok(files) = Mentions::new(alloc, names.file_count()) else {
         return Err(PackFault::NoMemory);
     };
-    for stretch in stretches {
-        mention_told(&mut files, stretch)?;
+    let mut totals = Totals::new(files);
+    stretches.tell(&mut totals);
+    match totals.fault() {
+        Some(fault) => Err(fault),
+        None => Ok(totals),
     }
-    Ok(files)
 }
 
 /// Mentions the text of a number, counted from 1; none for 0.
@@ -96,65 +84,52 @@ fn mention_texts(alloc: Global, files: &Mentions, names: &Names) -> Result<Menti
     Ok(texts)
 }
 
-/// The first address of all; 0 where there is no stretch.
-fn first_start(stretches: &[Stretch]) -> u64
-    ensures { result ≡ base_of stretches.now }
-{
-    match stretches {
-        [first, ..] => first.start,
-        [] => 0,
-    }
-}
-
-/// Puts all that stands after the header; answers the widths of the columns, and how many bytes texts have.
-fn put_body(
+/// Puts the files and their texts, behind the columns and bits; answers how many bytes texts have.
+fn put_tables(
     bytes: &mut Vec<u8>,
-    base: u64,
     names: &Names,
     files: &Mentions,
     texts: &Mentions,
-    stretches: &[Stretch],
-) -> Result<([u8; 5], u64), NoMemory>
-    ensures widths { IfOk result (λ put. put.0 ≡ map (width_by base (order_of files.now) stretches.now) columns_of) }
-    ensures total { IfOk result (λ put. put.1 ≡ total_len (texts_at (texts_of names.now) (order_of texts.now))) }
-    ensures body { IfOk result (λ _. bytes.new.items ≡ bytes.old.items
-        ++ body_by base (order_of files.now) (order_of texts.now) stretches.now (files_of names.now) (texts_of names.now)) }
-    ensures small { IfOk result (λ _. NumbersFit base (order_of files.now) stretches.now) }
-    ensures starts { IfOk result (λ _. AtAddresses stretches.now) }
+) -> Result<u64, NoMemory>
+    ensures total { IfOk result (λ total. total ≡ total_len (texts_at (texts_of names.now) (order_of texts.now))) }
+    ensures put { IfOk result (λ _. bytes.new.items ≡ bytes.old.items
+        ++ flat_map padded (tables_by (order_of files.now) (order_of texts.now) (files_of names.now) (texts_of names.now))) }
 {
-    let widths = put_columns(bytes, base, files, stretches)?;
-    put_statements(bytes, stretches)?;
     put_files(bytes, names, files, texts)?;
     let total = put_text_table(bytes, names, texts)?;
     put_texts(bytes, names, texts)?;
-    Ok((widths, total))
+    Ok(total)
 }
 
-/// The index, of which files and texts are mentioned.
-fn made(
+/// The index of stretches of which the totals are known, and whose files have names.
+fn made<T: Stretches>(
     alloc: Global,
-    stretches: &[Stretch],
+    stretches: &T,
     names: &Names,
-    files: &Mentions,
+    totals: &Totals,
     all: bool,
     build_id: &[u8],
 ) -> Result<Vec<u8>, NoMemory>
-    requires { length build_id.now ≤ 32 }
-    ensures made { IfOk result (λ bytes. bytes.items ≡ index_by all build_id.now (order_of files.now)
-        (text_order (files_of names.now) (order_of files.now)) stretches.now (files_of names.now) (texts_of names.now)) }
-    ensures fits { IfOk result (λ _. GivenFits (order_of files.now) (text_order (files_of names.now) (order_of files.now))
-        stretches.now (files_of names.now) (texts_of names.now)) }
+    requires short { length build_id.now ≤ 32 }
+    requires good { totals.now.files.fault ≡ None }
+    requires totals { (list : List each.Stretch) → T.stands stretches.now list → (n : ℕ) × Totalled n totals.now list }
+    ensures made { IfOk result (λ bytes. (list : List each.Stretch) → T.stands stretches.now list
+        → bytes.items ≡ index_of all build_id.now list (files_of names.now) (texts_of names.now)) }
+    ensures fits { IfOk result (λ _. (list : List each.Stretch) → T.stands stretches.now list
+        → GivenFits (file_order list) (text_order (files_of names.now) (file_order list)) list (files_of names.now)
+        (texts_of names.now)) }
     ensures sums { IfOk result (λ bytes. SumsFit bytes.items) }
 {
-    let base = first_start(stretches);
+    let files = &totals.files.files;
     let texts = mention_texts(alloc, files, names)?;
-    let mut bytes = Vec::new(alloc);
-    put_zeros(&mut bytes, 128)?;
-    let (widths, text_bytes) = put_body(&mut bytes, base, names, files, &texts, stretches)?;
+    let mut front = Vec::new(alloc);
+    put_zeros(&mut front, 128)?;
+    let (mut bytes, widths) = with_columns(front, totals, stretches)?;
+    let text_bytes = put_tables(&mut bytes, names, files, &texts)?;
     let described = Described {
         flags: u32::from(all),
-        base,
-        count: stretches.len() as u64,
+        base: totals.starts.base,
+        count: totals.starts.count as u64,
         files: files.order().len() as u64,
         texts: texts.order().len() as u64,
         text_bytes,
@@ -167,29 +142,35 @@ fn made(
 /// The bytes of the index of stretches, whose files have these names; `all` where each sequence counts. The build ID has
 /// at most 32 bytes. Where each stretch begins above the one before it, `dl_index::open` opens them.
 ///
+/// The stretches are told twice, once for their number and the widths of columns, and once to be written; no list of them
+/// is held.
+///
 /// The faults are `BuildId` where it is longer, `File` where a stretch tells a file that has no name, and else `NoMemory`:
 /// where a growth is refused, and where files or texts would have 2^32 numbers.
-pub fn index_bytes(
+pub fn index_bytes<T: Stretches>(
     alloc: Global,
-    stretches: &[Stretch],
+    stretches: &T,
     names: &Names,
     all: bool,
     build_id: &[u8],
 ) -> Result<Vec<u8>, PackFault>
-    ensures made { IfOk result (λ bytes. bytes.items
-        ≡ index_of all build_id.now stretches.now (files_of names.now) (texts_of names.now)) }
-    ensures named { IfOk result (λ _. All (λ file. file < length (files_of names.now)) (files_told stretches.now)) }
+    ensures some { IfOk result (λ _. (list : List each.Stretch) × T.stands stretches.now list) }
+    ensures made { IfOk result (λ bytes. (list : List each.Stretch) → T.stands stretches.now list
+        → bytes.items ≡ index_of all build_id.now list (files_of names.now) (texts_of names.now)) }
+    ensures named { IfOk result (λ _. (list : List each.Stretch) → T.stands stretches.now list
+        → All (λ file. file < length (files_of names.now)) (files_told list)) }
     ensures short { IfOk result (λ _. length build_id.now ≤ 32) }
-    ensures opens { IfOk result (λ bytes. StretchesRise stretches.now → IsIndex bytes.items) }
-    ensures tells { IfOk result (λ bytes. StretchesRise stretches.now
-        → stretches_in bytes.items ≡ map (named_stretch (named_files names.now)) stretches.now) }
-    ensures fails { IfErr result (PackFails build_id.now (length (files_of names.now)) stretches.now) }
+    ensures opens { IfOk result (λ bytes. (list : List each.Stretch) → T.stands stretches.now list
+        → StretchesRise list → IsIndex bytes.items) }
+    ensures tells { IfOk result (λ bytes. (list : List each.Stretch) → T.stands stretches.now list → StretchesRise list
+        → stretches_in bytes.items ≡ map (named_stretch (named_files names.now)) list) }
+    ensures fails { IfErr result (PackFails build_id.now (length (files_of names.now)) (T.stands stretches.now)) }
 {
     if build_id.len() > 32 {
         return Err(PackFault::BuildId);
     }
-    let files = mention_files(alloc, stretches, names)?;
-    match made(alloc, stretches, names, &files, all, build_id) {
+    let totals = totals_of(alloc, stretches, names)?;
+    match made(alloc, stretches, names, &totals, all, build_id) {
         Ok(bytes) => Ok(bytes),
         Err(NoMemory) => Err(PackFault::NoMemory),
     }

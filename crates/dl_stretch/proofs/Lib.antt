@@ -1,10 +1,13 @@
-pub mod AppendLemmas
+pub mod CutPlaceLemmas
 pub mod CutStretches
 pub mod LastBegun
 pub mod NameLemmas
+pub mod PartLemmas
+pub mod RenumberLemmas
 pub mod RunLemmas
-pub mod RunStretches
+pub mod NextRuns
 pub mod SequenceLemmas
 pub mod SpanAnswers
 pub mod StretchLemmas
+pub mod TellLemmas
 pub mod UnitLemmas

@@ -47,7 +47,7 @@ answer-append runs (s ∷ spans) more a full lt =
 
 -- ---- runs after those of the spans
 
-runs-grown : (runs more : List Run) (s : Span) → s.start + s.len ≤ length runs
+pub runs-grown : (runs more : List Run) (s : Span) → s.start + s.len ≤ length runs
     → runs_in (runs ++ more) s ≡ runs_in runs s
 runs-grown runs more s le =
     ap (take s.len) (drop-append-le s.start runs more (omega arith))

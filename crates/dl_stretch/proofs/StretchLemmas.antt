@@ -247,7 +247,7 @@ all_made f s made = record { right = made.right; apart = made.apart; first = mad
 pub made_same : (f : ℕ → Option Told) (s : List Stretch) (m n : ℕ) → AreMade f s m → m ≡ n → AreMade f s n
 made_same f s m n made e = subst (AreMade f s) e made
 
-last_told-push : (s : List Stretch) (x : Stretch) → last_told (s ++ x ∷ []) ≡ x.told
+pub last_told-push : (s : List Stretch) (x : Stretch) → last_told (s ++ x ∷ []) ≡ x.told
 last_told-push [] x = refl
 last_told-push (y ∷ []) x = refl
 last_told-push (y ∷ z ∷ s) x = last_told-push (z ∷ s) x

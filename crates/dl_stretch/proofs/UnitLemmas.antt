@@ -1,7 +1,7 @@
 -- The rows of units, as spans with runs.
 use Rattle.std.proofs.Common.{◌≡◌, ℕ, ◌<◌, ◌^◌, Bool, true, false, ◌&&◌, List, [], ◌∷◌, ◌++◌, map, Option, Some, None}
 use Rattle.std.proofs.Common.{refl, sym, ap, ap₂, subst, ◌∙◌}
-use Rattle.std.specs.Prelude.{if◌then◌else◌, is_none}
+use Rattle.std.specs.Prelude.{if◌then◌else◌, is_none, IfOk, Result, Ok, Err}
 use Rattle.std.specs.Option.{option_map, option_or}
 use Rattle.std.proofs.lemmas.Bool.{and_parts}
 use Rattle.dl_rows.specs.declared.row.Row.{Row}
@@ -17,27 +17,30 @@ use Rattle.dl_look.proofs.MoreRows.{answer-push, answer-push_end, answers_for, l
 use Rattle.dl_look.proofs.PlaceOrder.{above-below}
 use Rattle.dl_stretch.specs.declared.told.Told.{Told}
 use Rattle.dl_stretch.specs.declared.run.Run.{Run}
-use Rattle.dl_stretch.specs.declared.unit_runs.UnitRuns.{UnitRuns}
+use Rattle.dl_stretch.specs.declared.run_spans.RunSpans.{RunSpans}
 use Rattle.dl_stretch.specs.Runs.{place_at, told_of, renumbered, run_told_at}
 use Rattle.dl_stretch.specs.Sequences.{Keeps, TellsFirst}
-use Rattle.dl_stretch.specs.Spans.{answer_of}
-use Rattle.dl_stretch.specs.Stands.{Holds}
+use Rattle.dl_stretch.specs.Parts.{current}
+use Rattle.dl_stretch.specs.Stands.{Holds, unit_answer}
 use Rattle.dl_stretch.specs.ToldUnits.{UnitRows, told_of_units}
 use Rattle.dl_stretch.specs.Laws.{TellsAnswers}
 use Rattle.dl_stretch.proofs.RunLemmas.{row_told}
 use Rattle.dl_stretch.proofs.SequenceLemmas.{first-more}
 
+pub both_ok : {A E : Type 0} (r : Result A E) (P Q : A → Type 0) → IfOk r P → IfOk r Q → IfOk r (λ x. P x × Q x)
+both_ok (Ok x) P Q p q = (p, q)
+both_ok (Err e) P Q p q = tt
+
 -- ---- a row after which its sequence goes on
 
-pub goes_on : (old new : UnitRuns) (rows : List Row) (r : Row) → r.end_sequence ≡ false → Holds old rows
-    → new.spans ≡ old.spans
-    → (Keeps old.sequence.state old.sequence.runs.items (unended rows)
-    → Keeps new.sequence.state new.sequence.runs.items (unended rows ++ r ∷ []))
+pub goes_on : (old new : RunSpans) (rows : List Row) (r : Row) → r.end_sequence ≡ false → Holds old rows
+    → ((a : ℕ) → unit_answer new a ≡ unit_answer old a)
+    → (Keeps old.list.state (current old.list) (unended rows)
+    → Keeps new.list.state (current new.list) (unended rows ++ r ∷ []))
     → Holds new (rows ++ r ∷ [])
 goes_on old new rows r more holds same keeps = record {
-  right = λ a lt. ap (λ s. answer_of s.runs.items s.spans.items a) same ∙ holds.right a lt
-      ∙ sym (ap (option_map row_told) (answer-push rows r (place_at a) more));
-  kept = subst (Keeps new.sequence.state new.sequence.runs.items) (sym (unended-push [] rows r more)) (keeps holds.kept);
+  right = λ a lt. same a ∙ holds.right a lt ∙ sym (ap (option_map row_told) (answer-push rows r (place_at a) more));
+  kept = subst (Keeps new.list.state (current new.list)) (sym (unended-push [] rows r more)) (keeps holds.kept);
 }
 
 -- ---- an end row

@@ -1,5 +1,5 @@
 -- Stretches while they are made. No promise rests on this file.
-use Rattle.std.specs.Prelude.{◌≡◌, ℕ, ◌<◌, ◌^◌, Bool, ◌&&◌, ◌==◌, false, if◌then◌else◌, nat_lt, min, List, [], ◌∷◌, length, slice_index_or}
+use Rattle.std.specs.Prelude.{◌≡◌, ℕ, ◌<◌, ◌^◌, Bool, ◌&&◌, ◌==◌, false, if◌then◌else◌, nat_lt, min, List, [], ◌∷◌, ◌++◌, length, slice_index_or}
 use Rattle.std.specs.Prelude.{Option, None}
 use Rattle.std.specs.Bool.{beq}
 use Rattle.std.specs.List.{All}
@@ -10,6 +10,7 @@ use Rattle.dl_stretch.specs.declared.run.Run.{Run}
 use Rattle.dl_stretch.specs.declared.stretch.Stretch.{Stretch}
 use Rattle.dl_stretch.specs.Stretches.{Neighbours, told_at, Apart, is_gap_first}
 use Rattle.dl_stretch.specs.Runs.{first_address}
+use Rattle.dl_stretch.specs.Hearing.{HearsMore}
 
 -- what the last stretch tells
 abbrev pub last_told : List Stretch → Option Told
@@ -23,6 +24,14 @@ pub record AreMade (f : ℕ → Option Told) (stretches : List Stretch) (end : �
   pub apart : Neighbours Apart stretches
   pub first : is_gap_first stretches ≡ false
   pub below : All (λ (s : Stretch). s.start < end) stretches
+
+-- the sink was told what is made up to end after that list, at last this
+pub record TellsOn {S : Type 0} (hears : S → S → List Stretch → Type 0) (old new : S) (f : ℕ → Option Told)
+    (list : List Stretch) (end : ℕ) (told : Option Told) : Type 0 where
+  pub more : List Stretch
+  pub heard : HearsMore hears old new more
+  pub made : AreMade f (list ++ more) end
+  pub last : told ≡ last_told (list ++ more)
 
 -- the test that two tell the same
 abbrev pub is_same : Told → Told → Bool

@@ -7,12 +7,14 @@ mod run;
 mod run_spans;
 mod runs;
 mod sequence;
+mod sink;
 mod stretch;
 mod stretching;
 mod told;
-mod unit_runs;
 
 pub use run::Run;
 pub use runs::Runs;
+pub use sink::{StretchSink, Stretches};
 pub use stretch::Stretch;
+pub use stretching::RunStretches;
 pub use told::Told;

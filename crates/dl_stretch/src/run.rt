@@ -1,6 +1,7 @@
 //! What the rows of a sequence tell at addresses. Section 6.2.2.
 
-ghost use Rattle.std.specs.Prelude.{◌≡◌, ◌<◌, ◌^◌, ◌∷◌, ◌++◌, [], List, IfOk, OnErr, MatchOption, true};
+ghost use Rattle.std.specs.Prelude.{◌≡◌, ◌<◌, ◌≤◌, ◌^◌, ◌∷◌, ◌++◌, [], List, length, take, drop, IfOk, OnErr};
+ghost use Rattle.std.specs.Prelude.{MatchOption, true};
 ghost use Rattle.dl_rows.specs.declared.row.Row as each;
 ghost use Rattle.dl_look.specs.Answer.{is_at_most, last_place, place_of};
 ghost use Rattle.dl_stretch.specs.Runs.{first_address};
@@ -34,13 +35,16 @@ pub(crate) fn address_from(place: Place) -> Option<u64>
     }
 }
 
-/// One more row of a rising sequence. Where a growth is refused nothing changes.
+/// One more row of a rising sequence, whose runs are those from `begun` on. Where a growth is refused nothing changes.
 #[inline(always)]
-pub(crate) fn push_row(runs: &mut Vec<Run>, row: &Row) -> Result<(), NoMemory>
+pub(crate) fn push_row(runs: &mut Vec<Run>, begun: usize, row: &Row) -> Result<(), NoMemory>
+    requires { begun ≤ length runs.old.items }
     ensures same { OnErr result (runs.new.items ≡ runs.old.items) }
-    ensures pushed { IfOk result (λ _. (rows : List each.Row) → AreRunsOf rows runs.old.items
+    ensures before { take begun runs.new.items ≡ take begun runs.old.items }
+    ensures within { begun ≤ length runs.new.items }
+    ensures pushed { IfOk result (λ _. (rows : List each.Row) → AreRunsOf rows (drop begun runs.old.items)
         → is_at_most (last_place rows) (place_of row.now) ≡ true
-        → AreRunsOf (rows ++ row.now ∷ []) runs.new.items) }
+        → AreRunsOf (rows ++ row.now ∷ []) (drop begun runs.new.items)) }
 {
     let Some(start) = address_from(Place::of(row)) else {
         return Ok(());
@@ -50,7 +54,7 @@ pub(crate) fn push_row(runs: &mut Vec<Run>, row: &Row) -> Result<(), NoMemory>
         told: Told::of(row),
     };
     let count = runs.len();
-    if count > 0 {
+    if count > begun {
         let last = runs[count - 1];
         if last.start == start {
             runs[count - 1] = run;

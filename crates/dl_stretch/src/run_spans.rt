@@ -1,135 +1,126 @@
-//! Spans of sequences, each with its runs. Section 6.2.2.
+//! The runs of units, each sequence with its span. Section 6.2.2.
 
-ghost use Rattle.std.specs.Prelude.{◌≡◌, ◌+◌, ◌<◌, ◌≤◌, ◌^◌, ◌++◌, length, map, vec_len, vec_capacity};
-ghost use Rattle.std.specs.List.{All};
-ghost use Rattle.dl_look.specs.declared.probed.Span as each;
-ghost use Rattle.dl_stretch.specs.Appended.{renumbered_run, moved};
-ghost use Rattle.dl_stretch.specs.Runs.{number_in};
-ghost use Rattle.dl_stretch.specs.Spans.{AreSound};
+ghost use Rattle.std.specs.Prelude.{◌≡◌};
+ghost use Rattle.dl_stretch.specs.Parts.{ended, AreParted};
 
 use crate::run::Run;
-use crate::stretch::Stretch;
-use crate::stretching::stretches_of;
+use crate::sequence::SequenceRuns;
+use crate::stretching::RunStretches;
 use dl_look::{Place, Span};
 use dl_memory::NoMemory;
+use dl_rows::Row;
 use std::alloc::Global;
 
-/// Spans of sequences, with the runs of each.
+/// The runs of units, and the spans of their rising sequences: first those of the units that have ended.
 #[derive(Drop)]
 pub struct RunSpans {
-    runs: Vec<Run>,
+    list: SequenceRuns,
     spans: Vec<Span>,
-    ghost sound: { AreSound runs.items spans.items },
+    /// How many runs are of units that have ended.
+    whole_runs: usize,
+    /// How many spans are.
+    whole_spans: usize,
+    ghost parted: { AreParted (ended list) spans.items whole_runs whole_spans },
 }
 
 impl RunSpans {
-    ghost use Rattle.std.specs.Prelude.{◌≡◌, ◌&&◌, ℕ, ◌<◌, ◌^◌, IfOk, if◌then◌else◌, List, [], Some, None};
+    ghost use Rattle.std.specs.Prelude.{◌≡◌, ℕ, ◌<◌, ◌^◌, IfOk, true, List, [], ◌∷◌, ◌++◌, Bool, None};
     ghost use Rattle.std.specs.Option.{option_or, option_map};
-    ghost use Rattle.dl_look.specs.Answer.{is_at_most, is_below};
-    ghost use Rattle.dl_stretch.specs.Laws.{AtAddresses};
-    ghost use Rattle.dl_stretch.specs.Runs.{place_at, run_told_at, number_in, renumbered};
-    ghost use Rattle.dl_stretch.specs.Sequences.{TellFrom};
-    ghost use Rattle.dl_stretch.specs.Spans.{answer_of};
+    ghost use Rattle.dl_rows.specs.declared.row.Row as each;
+    ghost use Rattle.dl_look.specs.Answer.{place_of};
+    ghost use Rattle.dl_look.specs.LiveRows.{live_rows};
+    ghost use Rattle.dl_stretch.specs.declared.stretch.Stretch as kept;
+    ghost use Rattle.dl_stretch.specs.Runs.{number_in, renumbered};
+    ghost use Rattle.dl_stretch.specs.StandFor.{StandFor};
+    ghost use Rattle.dl_stretch.specs.Stands.{whole_answer, unit_answer, Holds};
     ghost use Rattle.dl_stretch.specs.Stretches.{AreStretches};
+    ghost use Rattle.dl_stretch.specs.ToldUnits.{NameFiles};
 
-    /// No span.
+    /// No unit yet.
     pub fn new(alloc: Global) -> RunSpans
-        ensures { (a : ℕ) → answer_of result.runs.items result.spans.items a ≡ None }
+        ensures whole { (a : ℕ) → whole_answer result a ≡ None }
+        ensures unit { Holds result [] }
     {
         RunSpans {
-            runs: Vec::new(alloc),
+            list: SequenceRuns::new(alloc),
             spans: Vec::new(alloc),
+            whole_runs: 0,
+            whole_spans: 0,
         }
     }
 
-    /// Adds a sequence, by the places of its first row and of its end row.
-    pub fn add(&mut self, runs: &[Run], first: Place, last: Place) -> Result<(), NoMemory>
-        requires { TellFrom first runs.now }
-        ensures { IfOk result (λ _. (a : ℕ) → a < 2 ^ 64 → answer_of self.new.runs.items self.new.spans.items a
-            ≡ option_or (answer_of self.old.runs.items self.old.spans.items a)
-            (if is_at_most first (place_at a) && is_below (place_at a) last then run_told_at runs.now a else None)) }
+    /// Takes the next row of the current unit.
+    #[inline(always)]
+    pub fn row(&mut self, row: &Row) -> Result<(), NoMemory>
+        ensures whole { IfOk result (λ _. (a : ℕ) → whole_answer self.new a ≡ whole_answer self.old a) }
+        ensures unit { IfOk result (λ _. (rows : List each.Row) → Holds self.old rows
+            → Holds self.new (rows ++ row.now ∷ [])) }
     {
-        let start = self.runs.len();
+        if row.end_sequence {
+            self.end_sequence(Place::of(row))
+        } else {
+            self.list.row(row)
+        }
+    }
+
+    /// Takes an end row, by its place.
+    fn end_sequence(&mut self, end: Place) -> Result<(), NoMemory>
+        ensures whole { IfOk result (λ _. (a : ℕ) → whole_answer self.new a ≡ whole_answer self.old a) }
+        ensures unit { IfOk result (λ _. (rows : List each.Row) (row : each.Row) → place_of row ≡ end
+            → row.end_sequence ≡ true → Holds self.old rows → Holds self.new (rows ++ row ∷ [])) }
+    {
+        let Some(first) = self.list.first(end) else {
+            self.list.cut(self.list.begun());
+            return Ok(());
+        };
         let span = Span {
-            start,
-            len: runs.len(),
+            start: self.list.begun(),
+            len: self.list.count(),
             first,
-            last,
+            last: end,
             rising: true,
         };
-        if self.runs.extend_from_slice(runs).is_err() || self.spans.push(span).is_err() {
+        if self.spans.push(span).is_err() {
             return Err(NoMemory);
         }
+        self.list.keep();
         Ok(())
     }
 
-    /// Adds others after these, of which each file gets its number from the list; `other` where the list ends before
+    /// The runs of the sequences of the current unit that have ended.
+    pub fn unit_runs(&self) -> &[Run]
+        ensures { (live : ℕ → Bool) (rows : List each.Row) → Holds self.now (live_rows live rows)
+            → NameFiles live rows result.now }
+    {
+        &self.list.ended()[self.whole_runs..]
+    }
+
+    /// The current unit ends, and each of its files gets its number from the list; `other` where the list ends before
     /// it.
-    pub fn append(&mut self, others: &RunSpans, numbers: &[u64], other: u64) -> Result<(), NoMemory>
-        ensures { IfOk result (λ _. (a : ℕ) → a < 2 ^ 64 → answer_of self.new.runs.items self.new.spans.items a
-            ≡ option_or (answer_of self.old.runs.items self.old.spans.items a)
-            (option_map (renumbered (number_in numbers.now other))
-            (answer_of others.now.runs.items others.now.spans.items a))) }
+    pub fn end_unit(&mut self, numbers: &[u64], other: u64)
+        ensures whole { (a : ℕ) → a < 2 ^ 64 → whole_answer self.new a ≡ option_or (whole_answer self.old a)
+            (option_map (renumbered (number_in numbers.now other)) (unit_answer self.old a)) }
+        ensures unit { Holds self.new [] }
     {
-        let runs = others.runs.as_slice();
-        let spans = others.spans.as_slice();
-        if self.runs.reserve(runs.len()).is_err() || self.spans.reserve(spans.len()).is_err() {
-            return Err(NoMemory);
-        }
-        let base = self.runs.len();
-        append_runs(&mut self.runs, runs, numbers, other);
-        append_spans(&mut self.spans, spans, base);
-        Ok(())
+        self.list.renumber(self.whole_runs, numbers, other);
+        self.whole_runs = self.list.begun();
+        self.whole_spans = self.spans.len();
     }
 
-    /// Forgets all spans.
-    pub fn clear(&mut self)
-        ensures { (a : ℕ) → answer_of self.new.runs.items self.new.spans.items a ≡ None }
+    /// Forgets the rows of the current unit.
+    pub fn forget_unit(&mut self)
+        ensures whole { (a : ℕ) → whole_answer self.new a ≡ whole_answer self.old a }
+        ensures unit { Holds self.new [] }
     {
-        self.spans.clear();
-        self.runs.clear();
+        self.list.cut(self.whole_runs);
+        self.spans.truncate(self.whole_spans);
     }
 
-    /// The runs of all spans, one after the other.
-    pub fn runs(&self) -> &[Run]
-        ensures { result.now ≡ self.now.runs.items }
+    /// The stretches of what the units answer that have ended.
+    pub fn stretches(&self, alloc: Global) -> Result<RunStretches<'_>, NoMemory>
+        ensures { IfOk result (λ stretches. (list : List kept.Stretch) → StandFor stretches list
+            → AreStretches (whole_answer self.now) list) }
     {
-        self.runs.as_slice()
-    }
-
-    /// The stretches of what the spans answer.
-    pub fn stretches(&self, alloc: Global) -> Result<Vec<Stretch>, NoMemory>
-        ensures are { IfOk result (λ stretches.
-            AreStretches (answer_of self.now.runs.items self.now.spans.items) stretches.items) }
-        ensures starts { IfOk result (λ stretches. AtAddresses stretches.items) }
-    {
-        stretches_of(alloc, self.runs.as_slice(), self.spans.as_slice())
-    }
-}
-
-/// Adds the runs, with other numbers of their files.
-fn append_runs(runs: &mut Vec<Run>, others: &[Run], numbers: &[u64], other: u64)
-    requires { vec_len runs.old + length others.now ≤ vec_capacity runs.old }
-    ensures { runs.new.items ≡ runs.old.items ++ map (renumbered_run (number_in numbers.now other)) others.now }
-{
-    for run in others {
-        runs.push_reserved(Run {
-            start: run.start,
-            told: run.told.renumbered(numbers, other),
-        });
-    }
-}
-
-/// Adds the spans, whose runs stand behind `base` others.
-fn append_spans(spans: &mut Vec<Span>, others: &[Span], base: usize)
-    requires room { vec_len spans.old + length others.now ≤ vec_capacity spans.old }
-    requires small { All (λ (s : each.Span). base + s.start < 2 ^ 64) others.now }
-    ensures { spans.new.items ≡ spans.old.items ++ map (moved base) others.now }
-{
-    for span in others {
-        spans.push_reserved(Span {
-            start: base + span.start,
-            ..*span
-        });
+        RunStretches::new(alloc, self.list.ended(), &self.spans[..self.whole_spans])
     }
 }

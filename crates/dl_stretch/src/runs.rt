@@ -4,8 +4,7 @@ ghost use Rattle.std.specs.Prelude.{◌≡◌};
 
 use crate::run::Run;
 use crate::run_spans::RunSpans;
-use crate::stretch::Stretch;
-use crate::unit_runs::UnitRuns;
+use crate::stretching::RunStretches;
 use dl_look::LiveRows;
 use dl_memory::NoMemory;
 use dl_rows::Row;
@@ -18,15 +17,11 @@ use std::alloc::Global;
 ///
 /// Where a growth is refused a call answers `NoMemory`, and nothing more is promised of the runs.
 ///
-/// Kept are 48 bytes for each run, at most one for each row of a live rising sequence, and 56 for each such sequence. Those
-/// of a unit are kept twice for a moment where it ends. A row takes constant time.
+/// Kept are 48 bytes for each run, at most one for each row of a live rising sequence, and 56 for each such sequence.
+/// A row takes constant time.
 #[derive(Drop)]
 pub struct Runs {
-    alloc: Global,
-    /// Of the units that have ended.
-    whole: RunSpans,
-    /// Of the current unit.
-    unit: UnitRuns,
+    spans: RunSpans,
     live: LiveRows,
 }
 
@@ -34,8 +29,9 @@ impl Runs {
     ghost use Rattle.std.specs.Prelude.{◌≡◌, ◌↔◌, ℕ, Bool, IfOk, IsTrue, List, [], ◌∷◌, ◌++◌};
     ghost use Rattle.dl_rows.specs.declared.row.Row as each;
     ghost use Rattle.dl_look.specs.FinderRows.{unended};
-    ghost use Rattle.dl_stretch.specs.Laws.{AtAddresses};
+    ghost use Rattle.dl_stretch.specs.declared.stretch.Stretch as kept;
     ghost use Rattle.dl_stretch.specs.Runs.{number_in};
+    ghost use Rattle.dl_stretch.specs.StandFor.{StandFor};
     ghost use Rattle.dl_stretch.specs.Stands.{Stands};
     ghost use Rattle.dl_stretch.specs.Stretches.{AreStretches};
     ghost use Rattle.dl_stretch.specs.ToldUnits.{UnitRows, told_of_units, NameFiles};
@@ -45,9 +41,7 @@ impl Runs {
         ensures { (live : ℕ → Bool) → Stands live result [] [] }
     {
         Runs {
-            alloc,
-            whole: RunSpans::new(alloc),
-            unit: UnitRuns::new(alloc),
+            spans: RunSpans::new(alloc),
             live: LiveRows::new(),
         }
     }
@@ -70,7 +64,7 @@ impl Runs {
             → Stands is_live self.new units (rows ++ row.now ∷ [])) }
     {
         if self.live.takes(row, live) {
-            self.unit.row(row)
+            self.spans.row(row)
         } else {
             Ok(())
         }
@@ -82,21 +76,20 @@ impl Runs {
         ensures { (live : ℕ → Bool) (units : List UnitRows) (rows : List each.Row) → Stands live self.now units rows
             → NameFiles live rows result.now }
     {
-        self.unit.spans().runs()
+        self.spans.unit_runs()
     }
 
     /// The current unit ends, and its rows count; the next row is the first one of the next unit. The list has for
     /// each file of the unit the number that stands for it, `other` is that of the files where it ends before.
-    pub fn end_unit(&mut self, numbers: &[u64], other: u64) -> Result<(), NoMemory>
-        ensures { IfOk result (λ _. (live : ℕ → Bool) (units : List UnitRows) (rows : List each.Row)
+    pub fn end_unit(&mut self, numbers: &[u64], other: u64)
+        ensures { (live : ℕ → Bool) (units : List UnitRows) (rows : List each.Row)
             → Stands live self.old units rows → Stands live self.new (units ++ record {
               number = number_in numbers.now other;
               rows = rows;
-            } ∷ []) []) }
+            } ∷ []) [] }
     {
-        self.whole.append(self.unit.spans(), numbers, other)?;
-        self.forget_unit();
-        Ok(())
+        self.spans.end_unit(numbers, other);
+        self.live = LiveRows::new();
     }
 
     /// The current unit turns out to be damaged: its rows don't count, and the next row is the first one of the
@@ -105,27 +98,18 @@ impl Runs {
         ensures { (live : ℕ → Bool) (units : List UnitRows) (rows : List each.Row) → Stands live self.old units rows
             → Stands live self.new units [] }
     {
-        self.unit.clear();
+        self.spans.forget_unit();
         self.live = LiveRows::new();
     }
 
-    /// Gives back the memory that was taken for the rows of a unit, before stretches are made. The rows of the current
-    /// unit don't count.
-    pub fn give_back(&mut self)
-        ensures { (live : ℕ → Bool) (units : List UnitRows) (rows : List each.Row) → Stands live self.old units rows
-            → Stands live self.new units [] }
+    /// The stretches of what the units tell that have ended, each of which begins at an address. It takes time in proportion
+    /// to the sequences times the logarithm of their number, but for little, and to tell them takes time in proportion to the
+    /// runs.
+    pub fn stretches(&self, alloc: Global) -> Result<RunStretches<'_>, NoMemory>
+        ensures { IfOk result (λ stretches. (live : ℕ → Bool) (units : List UnitRows) (rows : List each.Row)
+            → Stands live self.now units rows → (list : List kept.Stretch) → StandFor stretches list
+            → AreStretches (told_of_units live units) list) }
     {
-        self.unit = UnitRuns::new(self.alloc);
-        self.live = LiveRows::new();
-    }
-
-    /// The stretches of what the units tell that have ended, each of which begins at an address. It takes time in proportion to the runs, and to the
-    /// sequences times the logarithm of their number, but for little.
-    pub fn stretches(&self, alloc: Global) -> Result<Vec<Stretch>, NoMemory>
-        ensures are { IfOk result (λ stretches. (live : ℕ → Bool) (units : List UnitRows) (rows : List each.Row)
-            → Stands live self.now units rows → AreStretches (told_of_units live units) stretches.items) }
-        ensures starts { IfOk result (λ stretches. AtAddresses stretches.items) }
-    {
-        self.whole.stretches(alloc)
+        self.spans.stretches(alloc)
     }
 }

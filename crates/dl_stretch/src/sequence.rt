@@ -1,7 +1,9 @@
-//! The runs of the current sequence, as far as its rows have come. Section 6.2.2.
+//! Runs of sequences, of which the current one is the last, as far as its rows have come. Section 6.2.2.
 
-ghost use Rattle.std.specs.Prelude.{◌≡◌};
+ghost use Rattle.std.specs.Prelude.{◌≡◌, ◌≤◌, length, drop, map};
 ghost use Rattle.dl_look.specs.Answer.{is_at_most};
+ghost use Rattle.dl_stretch.specs.Renumbered.{renumbered_run};
+ghost use Rattle.dl_stretch.specs.Runs.{number_in};
 ghost use Rattle.dl_stretch.specs.Sequences.{AreKept};
 
 use crate::run::{Run, push_row};
@@ -10,12 +12,15 @@ use dl_memory::NoMemory;
 use dl_rows::Row;
 use std::alloc::Global;
 
-/// The runs of the current sequence.
+/// Runs one after the other, of which the last ones are those of the current sequence.
 #[derive(Drop)]
 pub struct SequenceRuns {
     runs: Vec<Run>,
+    /// How many stand before those of the current sequence.
+    begun: usize,
     state: State,
-    ghost kept: { ∥ AreKept state runs.items ∥₁ },
+    ghost within: { begun ≤ length runs.items },
+    ghost kept: { ∥ AreKept state (drop begun runs.items) ∥₁ },
 }
 
 /// Where the rows are.
@@ -35,17 +40,23 @@ enum State {
 }
 
 impl SequenceRuns {
-    ghost use Rattle.std.specs.Prelude.{◌≡◌, IfOk, IfSome, List, [], ◌∷◌, ◌++◌};
+    ghost use Rattle.std.specs.Prelude.{◌≡◌, ◌-◌, ◌≤◌, IfOk, IfSome, List, [], ◌∷◌, ◌++◌, length, take, drop, map};
     ghost use Rattle.dl_rows.specs.declared.row.Row as each;
     ghost use Rattle.dl_look.specs.Answer.{place_of};
+    ghost use Rattle.dl_stretch.specs.Renumbered.{renumbered_run};
+    ghost use Rattle.dl_stretch.specs.Runs.{number_in};
     ghost use Rattle.dl_stretch.specs.Sequences.{Keeps, TellFrom, TellsFirst};
+    ghost use Rattle.dl_stretch.specs.Parts.{ended, current};
 
     /// No row yet.
     pub fn new(alloc: Global) -> SequenceRuns
-        ensures { Keeps result.state result.runs.items [] }
+        ensures none { ended result ≡ [] }
+        ensures begun { result.begun ≡ 0 }
+        ensures keeps { Keeps result.state (current result) [] }
     {
         SequenceRuns {
             runs: Vec::new(alloc),
+            begun: 0,
             state: State::Between,
         }
     }
@@ -53,13 +64,15 @@ impl SequenceRuns {
     /// Takes the next row of the sequence.
     #[inline(always)]
     pub fn row(&mut self, row: &Row) -> Result<(), NoMemory>
-        ensures { IfOk result (λ _. (rows : List each.Row) → Keeps self.old.state self.old.runs.items rows
-            → Keeps self.new.state self.new.runs.items (rows ++ row.now ∷ [])) }
+        ensures same { ended self.new ≡ ended self.old }
+        ensures begun { self.new.begun ≡ self.old.begun }
+        ensures keeps { IfOk result (λ _. (rows : List each.Row) → Keeps self.old.state (current self.old) rows
+            → Keeps self.new.state (current self.new) (rows ++ row.now ∷ [])) }
     {
         let place = Place::of(row);
         match self.state {
             State::Between => {
-                push_row(&mut self.runs, row)?;
+                push_row(&mut self.runs, self.begun, row)?;
                 self.state = State::Rising {
                     first: place,
                     last: place,
@@ -67,7 +80,7 @@ impl SequenceRuns {
             }
             State::Rising { first, last } => {
                 if is_at_most(last, place) {
-                    push_row(&mut self.runs, row)?;
+                    push_row(&mut self.runs, self.begun, row)?;
                     self.state = State::Rising { first, last: place };
                 } else {
                     self.state = State::Passed;
@@ -80,9 +93,9 @@ impl SequenceRuns {
 
     /// The place of the first row, where the rows are rising and their end row may stand at this place.
     pub fn first(&self, end: Place) -> Option<Place>
-        ensures found { IfSome result (λ first. TellFrom first self.now.runs.items) }
-        ensures value { (rows : List each.Row) (r : each.Row) → Keeps self.now.state self.now.runs.items rows
-            → place_of r ≡ end → TellsFirst result self.now.runs.items rows r }
+        ensures found { IfSome result (λ first. TellFrom first (current self.now)) }
+        ensures value { (rows : List each.Row) (r : each.Row) → Keeps self.now.state (current self.now) rows
+            → place_of r ≡ end → TellsFirst result (current self.now) rows r }
     {
         match self.state {
             State::Rising { first, last } => {
@@ -97,19 +110,69 @@ impl SequenceRuns {
         }
     }
 
-    /// The runs of the rows so far, where these are rising.
-    pub fn runs(&self) -> &[Run]
-        ensures { result.now ≡ self.now.runs.items }
+    /// How many runs stand before those of the current sequence.
+    pub fn begun(&self) -> usize
+        ensures { result ≡ self.now.begun }
     {
-        self.runs.as_slice()
+        self.begun
     }
 
-    /// The sequence ends.
-    pub fn clear(&mut self)
-        ensures { Keeps self.new.state self.new.runs.items [] }
+    /// How many runs the current sequence has.
+    pub fn count(&self) -> usize
+        ensures { result ≡ length (current self.now) }
     {
-        self.runs.clear();
+        self.runs.len() - self.begun
+    }
+
+    /// The runs of the sequences before the current one.
+    pub fn ended(&self) -> &[Run]
+        ensures { result.now ≡ ended self.now }
+    {
+        &self.runs[..self.begun]
+    }
+
+    /// The sequence ends, and its runs are kept.
+    pub fn keep(&mut self)
+        ensures runs { ended self.new ≡ ended self.old ++ current self.old }
+        ensures begun { self.new.begun ≡ length (ended self.new) }
+        ensures keeps { Keeps self.new.state (current self.new) [] }
+    {
+        self.begun = self.runs.len();
         self.state = State::Between;
+    }
+
+    /// Forgets all runs but the first ones, as many as are said, those of the current sequence in any case.
+    pub fn cut(&mut self, len: usize)
+        requires { len ≤ self.old.begun }
+        ensures runs { ended self.new ≡ take len (ended self.old) }
+        ensures begun { self.new.begun ≡ len }
+        ensures keeps { Keeps self.new.state (current self.new) [] }
+    {
+        self.runs.truncate(len);
+        self.begun = len;
+        self.state = State::Between;
+    }
+
+    /// Forgets the runs of the current sequence, and gives the files of the runs from `from` on the numbers that the list
+    /// has for them; `other` where it ends before them.
+    pub fn renumber(&mut self, from: usize, numbers: &[u64], other: u64)
+        requires { from ≤ self.old.begun }
+        ensures runs { ended self.new ≡ take from (ended self.old)
+            ++ map (renumbered_run (number_in numbers.now other)) (drop from (ended self.old)) }
+        ensures begun { self.new.begun ≡ self.old.begun }
+        ensures keeps { Keeps self.new.state (current self.new) [] }
+    {
+        self.cut(self.begun);
+        renumber_all(&mut self.runs.as_mut_slice()[from..], numbers, other);
+    }
+}
+
+/// Gives the files of the runs the numbers that the list has for them; `other` where it ends before them.
+fn renumber_all(runs: &mut [Run], numbers: &[u64], other: u64)
+    ensures { runs.new ≡ map (renumbered_run (number_in numbers.now other)) runs.old }
+{
+    for run in runs {
+        run.told = run.told.renumbered(numbers, other);
     }
 }
 

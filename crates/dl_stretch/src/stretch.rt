@@ -1,12 +1,13 @@
 //! Runs of addresses with the same answer, and the gaps between them. Section 6.2.2.
 
-ghost use Rattle.std.specs.Prelude.{◌≡◌, ℕ, ◌<◌, ◌≤◌, IfOk, Option};
-ghost use Rattle.dl_stretch.specs.declared.told.Told as said;
+ghost use Rattle.std.specs.Prelude.{◌≡◌, ℕ, ◌<◌, ◌≤◌, List, Option};
 ghost use Rattle.std.specs.Option.{option_eq};
-ghost use Rattle.dl_stretch.specs.Made.{AreMade, is_same, last_told};
+ghost use Rattle.dl_stretch.specs.declared.told.Told as said;
+ghost use Rattle.dl_stretch.specs.declared.stretch.Stretch as each;
+ghost use Rattle.dl_stretch.specs.Made.{AreMade, TellsOn, is_same, last_told};
 
+use crate::sink::StretchSink;
 use crate::told::Told;
-use dl_memory::NoMemory;
 
 /// Addresses from `start` on, up to the start of the next stretch or to the last address of all.
 #[derive(Debug, Clone, Copy, PartialEq, Eq)]
@@ -17,32 +18,23 @@ pub struct Stretch {
     pub told: Option<Told>,
 }
 
-/// From the address `start` on this is told, as far as the stretches are made then. It becomes a stretch where it
-/// isn't what the last stretch tells.
+/// From the address `start` on this is told, where `last` was told before it. It becomes a stretch where it isn't the
+/// same.
 #[inline(always)]
-pub(crate) fn push(
-    stretches: &mut Vec<Stretch>,
+pub(crate) fn tell_from<S: StretchSink>(
+    sink: &mut S,
+    last: Option<Told>,
     start: u64,
     told: Option<Told>,
-) -> Result<(), NoMemory>
-    ensures { IfOk result (λ _. (f : ℕ → Option said.Told) (end : ℕ) → AreMade f stretches.old.items start
-        → start < end → ((a : ℕ) → start ≤ a → a < end → f a ≡ told) → AreMade f stretches.new.items end) }
+)
+    ensures { (f : ℕ → Option said.Told) (list : List each.Stretch) (end : ℕ) → last ≡ last_told list
+        → AreMade f list start → start < end → ((a : ℕ) → start ≤ a → a < end → f a ≡ told)
+        → TellsOn S.hears sink.old sink.new f list end told }
 {
-    if is_same(last_told(stretches.as_slice()), told) {
-        return Ok(());
+    if is_same(last, told) {
+        return;
     }
-    match stretches.push(Stretch { start, told }) {
-        Ok(()) => Ok(()),
-        Err(_) => Err(NoMemory),
-    }
-}
-
-/// What the last stretch tells; None of a gap, and where there is no stretch.
-#[inline(always)]
-fn last_told(stretches: &[Stretch]) -> Option<Told>
-    ensures { result ≡ last_told stretches.now }
-{
-    stretches.last()?.told
+    sink.stretch(Stretch { start, told });
 }
 
 /// Whether both are gaps, or tell the same.

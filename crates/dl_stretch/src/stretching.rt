@@ -1,45 +1,73 @@
 //! The stretches of what spans answer. Section 6.2.2.
 
-ghost use Rattle.std.specs.Prelude.{◌≡◌, ℕ, ◌+◌, ◌<◌, ◌≤◌, IfOk, Option, length, slice_index_or};
+ghost use Rattle.std.specs.Prelude.{◌≡◌, ℕ, ◌+◌, ◌<◌, ◌≤◌, IfOk, List, Option, length, slice_index_or};
 ghost use Rattle.dl_look.specs.Cuts.{no_span};
+ghost use Rattle.dl_stretch.specs.CutPlaces.{CutsStand};
+ghost use Rattle.dl_stretch.specs.declared.stretch.Stretch as each;
 ghost use Rattle.dl_stretch.specs.declared.told.Told as said;
-ghost use Rattle.dl_stretch.specs.Laws.{AtAddresses};
-ghost use Rattle.dl_stretch.specs.Made.{AreMade, start_at};
+ghost use Rattle.dl_stretch.specs.Made.{AreMade, TellsOn, last_told, start_at};
 ghost use Rattle.dl_stretch.specs.RowRuns.{RunsRise};
 ghost use Rattle.dl_stretch.specs.Runs.{run_told_at};
-ghost use Rattle.dl_stretch.specs.Spans.{AreSound, answer_of, runs_in};
-ghost use Rattle.dl_stretch.specs.Stretches.{AreStretches};
+ghost use Rattle.dl_stretch.specs.Spans.{AreSound, runs_in};
 
 use crate::reach::{Reach, reach_of};
 use crate::run::Run;
-use crate::stretch::{Stretch, push};
-use dl_look::{Span, cuts_of};
+use crate::sink::{StretchSink, Stretches};
+use crate::stretch::tell_from;
+use crate::told::Told;
+use dl_look::{Cut, Span, cuts_of};
 use dl_memory::{NoMemory, System};
 use std::alloc::Global;
 
-/// The stretches of what the spans answer, each of which has its runs among these.
-pub fn stretches_of(alloc: Global, runs: &[Run], spans: &[Span]) -> Result<Vec<Stretch>, NoMemory>
-    requires { AreSound runs.now spans.now }
-    ensures are { IfOk result (λ stretches. AreStretches (answer_of runs.now spans.now) stretches.items) }
-    ensures starts { IfOk result (λ stretches. AtAddresses stretches.items) }
-{
-    let cuts = cuts_of(&System::new(alloc), spans)?;
-    let most = runs.len().saturating_add(cuts.len());
-    let Ok(mut stretches) = Vec::with_capacity(alloc, most) else {
-        return Err(NoMemory);
-    };
-    for i in 0..cuts.len() {
-        let Some(reach) = reach_of(cuts.as_slice(), i) else {
-            continue;
-        };
-        match cuts[i].sequence {
-            Some(sequence) => {
-                push_runs(&mut stretches, runs_of(runs, spans, sequence), reach)?;
-            }
-            None => push(&mut stretches, reach.first, None)?,
+/// The stretches of what the rows of units tell. They aren't held: each time that they are told they are made of runs.
+///
+/// Beside the runs there are at most two cuts of 32 bytes for each sequence.
+#[derive(Drop)]
+pub struct RunStretches<'a> {
+    runs: &'a [Run],
+    spans: &'a [Span],
+    cuts: Vec<Cut>,
+    ghost sound: { AreSound runs.now spans.now },
+    ghost stand: { CutsStand spans.now cuts.items },
+}
+
+impl<'a> RunStretches<'a> {
+    ghost use Rattle.std.specs.Prelude.{◌≡◌, IfOk};
+    ghost use Rattle.dl_stretch.specs.Spans.{AreSound};
+
+    /// The stretches of what the spans answer, each of which has its runs among these.
+    pub(crate) fn new(alloc: Global, runs: &'a [Run], spans: &'a [Span]) -> Result<RunStretches<'a>, NoMemory>
+        requires { AreSound runs.now spans.now }
+        ensures runs { IfOk result (λ s. s.runs.now ≡ runs.now) }
+        ensures spans { IfOk result (λ s. s.spans.now ≡ spans.now) }
+    {
+        let cuts = cuts_of(&System::new(alloc), spans)?;
+        Ok(RunStretches { runs, spans, cuts })
+    }
+}
+
+impl Stretches for RunStretches<'_> {
+    ghost use Rattle.dl_stretch.specs.StandFor.{StandFor};
+
+    ghost stands = { StandFor };
+
+    fn tell<S: StretchSink>(&self, sink: &mut S) {
+        let mut last = None;
+        for i in 0..self.cuts.len() {
+            let Some(reach) = reach_of(self.cuts.as_slice(), i) else {
+                continue;
+            };
+            last = match self.cuts[i].sequence {
+                Some(sequence) => {
+                    tell_runs(sink, last, runs_of(self.runs, self.spans, sequence), reach)
+                }
+                None => {
+                    tell_from(sink, last, reach.first, None);
+                    None
+                }
+            };
         }
     }
-    Ok(stretches)
 }
 
 /// The runs of the span of this number.
@@ -52,27 +80,34 @@ fn runs_of<'a>(runs: &'a [Run], spans: &[Span], i: usize) -> &'a [Run]
     &runs[span.start..span.start + span.len]
 }
 
-/// What the runs tell of these addresses, as stretches.
-fn push_runs(stretches: &mut Vec<Stretch>, runs: &[Run], reach: Reach) -> Result<(), NoMemory>
+/// Tells what the runs tell of these addresses, as stretches, where `last` was told before them; answers what is told
+/// last.
+fn tell_runs<S: StretchSink>(
+    sink: &mut S,
+    last: Option<Told>,
+    runs: &[Run],
+    reach: Reach,
+) -> Option<Told>
     requires rise { RunsRise runs.now }
     requires some { reach.first ≤ reach.last }
-    ensures { IfOk result (λ _. (f : ℕ → Option said.Told) → AreMade f stretches.old.items reach.first
+    ensures { (f : ℕ → Option said.Told) (list : List each.Stretch) → last ≡ last_told list → AreMade f list reach.first
         → ((a : ℕ) → reach.first ≤ a → a ≤ reach.last → f a ≡ run_told_at runs.now a)
-        → AreMade f stretches.new.items (reach.last + 1)) }
+        → TellsOn S.hears sink.old sink.new f list (reach.last + 1) result }
 {
     let mut next = begun(runs, reach.first);
-    let told = if next > 0 {
+    let mut told = if next > 0 {
         Some(runs[next - 1].told)
     } else {
         None
     };
-    push(stretches, reach.first, told)?;
+    tell_from(sink, last, reach.first, told);
     while next < runs.len() && runs[next].start <= reach.last {
         let run = runs[next];
-        push(stretches, run.start, Some(run.told))?;
+        tell_from(sink, told, run.start, Some(run.told));
+        told = Some(run.told);
         next += 1;
     }
-    Ok(())
+    told
 }
 
 /// How many runs begin at the address or before it.

@@ -61,5 +61,5 @@ fn stretches(alloc: Global, count: u32) -> Result<Vec<Stretch>, NoMemory> {
 pub fn index(alloc: Global, count: u32) -> Result<Vec<u8>, PackFault> {
     let names = names(alloc)?;
     let stretches = stretches(alloc, count)?;
-    index_bytes(alloc, stretches.as_slice(), &names, true, BUILD_ID)
+    index_bytes(alloc, &stretches.as_slice(), &names, true, BUILD_ID)
 }

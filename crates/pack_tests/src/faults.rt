@@ -8,7 +8,7 @@ use test_support::{hoard_but, hoard_most};
 
 /// Why no index is made of the stretches with these names.
 fn fault(alloc: Global, names: &Names, build_id: &[u8]) -> Option<PackFault> {
-    match index_bytes(alloc, STRETCHES, names, false, build_id) {
+    match index_bytes(alloc, &STRETCHES, names, false, build_id) {
         Ok(_) => None,
         Err(fault) => Some(fault),
     }

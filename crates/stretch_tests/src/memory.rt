@@ -1,4 +1,5 @@
 //! Growths that are refused.
+use crate::kept::stretches_of;
 use dl_memory::NoMemory;
 use dl_stretch::{Runs, Stretch};
 use std::alloc::Global;
@@ -12,8 +13,8 @@ fn stretches(alloc: Global) -> Result<Vec<Stretch>, NoMemory> {
         runs.row(&row(16 * i, 0, i), true)?;
         runs.row(&end(16 * i + 8, 0, i), true)?;
     }
-    runs.end_unit(&[], 0)?;
-    runs.stretches(alloc)
+    runs.end_unit(&[], 0);
+    stretches_of(alloc, &runs)
 }
 
 /// Each growth is refused in turn, and in the end none is.

@@ -1,4 +1,5 @@
 //! Units one after the other, and the numbers of their files.
+use crate::kept::stretches_of;
 use dl_rows::Row;
 use dl_stretch::{Runs, Stretch, Told};
 use std::alloc::Global;
@@ -24,7 +25,7 @@ fn three_units(alloc: Global) -> Result<Vec<Stretch>, Fail> {
     for row in [row_in(0x1000, 1), row_in(0x1010, 2), end(0x1020, 0, 1)] {
         runs.row(&row, true).ok().ok_or("memory")?;
     }
-    runs.end_unit(&[7, 8, 9], 0).ok().ok_or("memory")?;
+    runs.end_unit(&[7, 8, 9], 0);
     for row in [
         row_in(0x1018, 1),
         row_in(0x1028, 2),
@@ -33,8 +34,8 @@ fn three_units(alloc: Global) -> Result<Vec<Stretch>, Fail> {
     ] {
         runs.row(&row, true).ok().ok_or("memory")?;
     }
-    runs.end_unit(&[8, 9], 5).ok().ok_or("memory")?;
-    Ok(runs.stretches(alloc).ok().ok_or("memory")?)
+    runs.end_unit(&[8, 9], 5);
+    Ok(stretches_of(alloc, &runs).ok().ok_or("memory")?)
 }
 
 fn is_told(rt: &impl Abort, stretch: &Stretch, start: u64, file: Option<u64>) {

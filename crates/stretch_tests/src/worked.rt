@@ -1,4 +1,5 @@
 //! Worked rows and their stretches.
+use crate::kept;
 use dl_rows::Row;
 use dl_stretch::{Runs, Stretch};
 use std::alloc::Global;
@@ -157,8 +158,8 @@ fn stretches_of(alloc: Global, steps: &[Step]) -> Result<Vec<Stretch>, Fail> {
         let row = row_of(*step);
         runs.row(&row, row.address > DEAD).ok().ok_or("memory")?;
     }
-    runs.end_unit(&[], 1).ok().ok_or("memory")?;
-    Ok(runs.stretches(alloc).ok().ok_or("memory")?)
+    runs.end_unit(&[], 1);
+    Ok(kept::stretches_of(alloc, &runs).ok().ok_or("memory")?)
 }
 
 fn compare(rt: &impl Abort, case: &Case, stretches: &[Stretch]) {

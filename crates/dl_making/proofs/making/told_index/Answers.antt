@@ -19,20 +19,17 @@ pub returns-in-Ok : goal.returns-in-Ok
 returns-in-Ok c first start held visits m =
     let t = m.tells c.if-maker.false in
     let names = c.args.maker.now.names in
-    let are = c.in_ok-stretches.ensures.are (code_of first) t.units [] (c.give_back.ensures (code_of first) t.units (rows_after [] visits) t.stands) in
-    let stretches = c.in_ok-stretches.stretches.items in
-    let here = c.as_slice.ensures.value in
     let made = c.in-Ok.ensures in
+    let stretches = made.some.0 in
+    let stands = made.some.1 in
+    let are = c.in_ok-stretches.ensures (code_of first) t.units (rows_after [] visits) t.stands stretches stands in
     is_index_of c.args.table.now.all (id_kept c.args.table.now) (told_after first visits) (told_of_units (code_of first) t.units)
     c.in-Ok.index.items stretches (files_of names) (texts_of names) (named_files names) are t.once
-    (subst (λ (l : List Stretch). All (λ file. file < length (named_files names)) (files_told l)) here
-    (subst (λ (n : ℕ). All (λ file. file < n) (files_told c.as_slice.result.now))
-    (sym (length-map (files_of names) (named (texts_of names)))) made.named))
-    t.tells (made.opens (subst StretchesRise (sym here) (rise stretches are.apart)))
-    (made.tells (subst StretchesRise (sym here) (rise stretches are.apart))
-    ∙ ap (map (Rattle.dl_pack.specs.Telling.named_stretch (named_files names))) here)
-    (made.made
-    ∙ ap (λ l. index_of c.args.table.now.all c.id_front.result.now l (files_of names) (texts_of names)) here
+    (subst (λ (n : ℕ). All (λ file. file < n) (files_told stretches))
+    (sym (length-map (files_of names) (named (texts_of names)))) (made.named stretches stands))
+    t.tells (made.opens stretches stands (rise stretches are.apart))
+    (made.tells stretches stands (rise stretches are.apart))
+    (made.made stretches stands
     ∙ ap (λ id. index_of c.args.table.now.all id stretches (files_of names) (texts_of names)) c.id_front.ensures)
 
 pub unreachable-requires : goal.unreachable-requires
@@ -41,13 +38,13 @@ unreachable-requires c =
     let visits = c.requires.3 in
     let t = c.requires.4.tells c.if-maker.false in
     let names = c.args.maker.now.names in
-    let stretches = c.in_ok-stretches.stretches.items in
-    let are = c.in_ok-stretches.ensures.are (code_of first) t.units [] (c.give_back.ensures (code_of first) t.units (rows_after [] visits) t.stands) in
     let fails = rw c.in-Err-File.field-0-is at c.in-Err-File.ensures.fails in
+    let stretches = fails.1.0 in
+    let stands = fails.1.1 in
+    let are = c.in_ok-stretches.ensures (code_of first) t.units (rows_after [] visits) t.stands stretches stands in
     none_unnamed (named_files names) (told_of_units (code_of first) t.units) (told_after first visits) stretches are
-    c.in_ok-stretches.ensures.starts t.tells
-    (subst (λ n. TellsUnnamed n stretches) (sym (length-map (files_of names) (named (texts_of names))))
-    (subst (TellsUnnamed (length (files_of names))) c.as_slice.ensures.value fails.1))
+    stands.1 t.tells
+    (subst (λ n. TellsUnnamed n stretches) (sym (length-map (files_of names) (named (texts_of names)))) fails.1.2)
 
 pub unreachable-requires-in-Err-BuildId : goal.unreachable-requires-in-Err-BuildId
 unreachable-requires-in-Err-BuildId c =

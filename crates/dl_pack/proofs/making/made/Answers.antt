@@ -1,38 +1,79 @@
-use Rattle.dl_pack.specs.IndexOf.{body_by}
-use Rattle.std.proofs.Common.{refl, ap, ◌∙◌, ◌++◌, replicate, length, ◌≡◌, ◌<◌, ◌^◌, rules, subst, arith}
+use Rattle.std.proofs.Common.{◌≡◌, ◌<◌, ◌≤◌, ◌^◌, ◌++◌, List, ℕ, refl, ap, ap₂, ◌∙◌, sym, replicate, length, map, rules, subst, arith, length-append}
+use Rattle.std.specs.List.{flat_map}
 use Rattle.std.specs.Prelude.{if◌then◌else◌}
-use Rattle.dl_pack.specs.Shown.{files_of, texts_of}
+use Rattle.std.proofs.lemmas.List.{length-replicate}
+use Rattle.dl_stretch.specs.declared.stretch.Stretch.{Stretch}
+use Rattle.dl_pack.specs.Columns.{columns_of, padded, part_by, statement_bytes, width_by}
+use Rattle.dl_pack.specs.Fits.{NumbersFit, AreKnown}
+use Rattle.dl_pack.specs.IndexOf.{base_of, file_order, text_order, tables_by, index_by, body_by}
 use Rattle.dl_pack.specs.Mentioned.{order_of}
+use Rattle.dl_pack.specs.Shown.{files_of, texts_of}
 use Rattle.dl_pack.specs.Tables.{texts_at, total_len}
-use Rattle.dl_pack.specs.Fits.{NumbersFit}
-use Rattle.dl_pack.proofs.WholeLemmas.{made_whole}
+use Rattle.dl_pack.proofs.LaidLemmas.{ordered}
+use Rattle.dl_pack.proofs.WholeLemmas.{made_whole, body_put}
 use Rattle.dl_pack.proofs.making.made.Goals as goal
 
+pub fill_header-requires-clause-room : goal.fill_header-requires-clause-room
+fill_header-requires-clause-room g c =
+    let names = c.args.names.now in
+    let zeros = c.in_ok-put_zeros.ensures ∙ ap (λ o. o ++ replicate {A = ℕ} 128 0) c.new-front.ensures.items in
+    let tables = flat_map padded (tables_by (order_of c.args.totals.now.files.files) (order_of c.in_ok-texts.texts)
+    (files_of names) (texts_of names)) in
+    let first = ap length zeros in
+    let last = ap length c.in_ok-text_bytes.ensures.put in
+    omega (
+      arith,
+      c.in_ok-bytes.ensures.room,
+      first,
+      length-replicate {A = ℕ} 128 0,
+      last,
+      length-append c.in_ok-bytes.bytes.items tables,
+      c.put_tables.new.bytes.ok.0,
+    )
+
 pub returns-clause-made : goal.returns-clause-made
-returns-clause-made c =
-    let body = body_by c.first_start-base.result (order_of c.args.files.now) (order_of c.in_ok-texts.texts)
-    c.args.stretches.now (files_of c.args.names.now) (texts_of c.args.names.now) in
+returns-clause-made g c = λ list stands. (
+    let t = c.args.totals.now in
+    let all = c.requires.totals list stands in
+    let names = c.args.names.now in
+    let files = files_of names in
+    let texts = texts_of names in
+    let order = order_of t.files.files in
+    let is = ordered t all.0 list all.1 c.requires.good in
     let flags : c.from.result ≡ (if c.args.all then 1 else 0) = search rules in
-    made_whole c.args.all c.args.build_id.now (order_of c.args.files.now) (order_of c.in_ok-texts.texts) _ c.args.stretches.now
-    (files_of c.args.names.now) (texts_of c.args.names.now) c.from.result c.first_start-base.result
-    (length c.args.stretches.now) (length c.order.result.now) (length c.order-2.result.now) c.in_ok-widths.text_bytes
-    c.in_ok-widths.widths c.put_body.new.bytes.items _ flags c.first_start-base.ensures refl
-    (ap length c.order.ensures.order) (ap length c.order-2.ensures.order) c.in_ok-widths.ensures.total
-    c.in_ok-widths.ensures.widths c.in_ok-texts.ensures.order
-    (c.in_ok-widths.ensures.body
-    ∙ ap (λ o. o ++ body) (c.in_ok-put_zeros.ensures ∙ ap (λ o. o ++ replicate 128 0) c.new-bytes.ensures.items))
+    made_whole c.args.all c.args.build_id.now order (order_of c.in_ok-texts.texts) (text_order files order) list
+    files texts c.from.result t.starts.base t.starts.count
+    (length c.order.result.now) (length c.order-2.result.now) c.in_ok-text_bytes.text_bytes
+    c.in_ok-bytes.widths c.put_tables.new.bytes.items _ flags all.1.starts.base (c.in_ok-bytes.ensures.few list stands)
+    (ap length c.order.ensures.order) (ap length c.order-2.ensures.order) c.in_ok-text_bytes.ensures.total
+    (c.in_ok-bytes.ensures.widths list stands ∙ ap (λ b. map (width_by b order list) columns_of) (sym all.1.starts.base))
+    c.in_ok-texts.ensures.order
+    (c.in_ok-text_bytes.ensures.put
+    ∙ body_put (replicate {A = ℕ} 128 0) c.put_zeros.new.out.items _ (base_of list) order (order_of c.in_ok-texts.texts) list files texts
+    (c.in_ok-put_zeros.ensures ∙ ap (λ o. o ++ replicate {A = ℕ} 128 0) c.new-front.ensures.items)
+    (c.in_ok-bytes.ensures.put list stands)
+    ∙ ap (λ b. replicate {A = ℕ} 128 0 ++ body_by b order (order_of c.in_ok-texts.texts) list files texts)
+    (sym all.1.starts.base))
     c.in_ok-fill_header.ensures.whole
+    ∙ ap (λ o. index_by c.args.all c.args.build_id.now o (text_order files o) list files texts) is)
 
 pub returns-clause-fits : goal.returns-clause-fits
-returns-clause-fits c = record {
-  starts = c.in_ok-widths.ensures.starts;
-  numbers = subst (λ base. NumbersFit base (order_of c.args.files.now) c.args.stretches.now) c.first_start-base.ensures
-      c.in_ok-widths.ensures.small;
-  known = c.in_ok-texts.ensures.known;
-  count = omega arith;
-  files_few = subst (λ order. length order < 2 ^ 32) c.order.ensures.order c.order.ensures.few;
-  texts_few = subst (λ order. length order < 2 ^ 32) (c.order-2.ensures.order ∙ c.in_ok-texts.ensures.order)
-      c.order-2.ensures.few;
-  total = subst (λ order. total_len (texts_at (texts_of c.args.names.now) order) < 2 ^ 64) c.in_ok-texts.ensures.order
-      (subst (λ n. n < 2 ^ 64) c.in_ok-widths.ensures.total (omega arith));
-}
+returns-clause-fits g c = λ list stands. (
+    let t = c.args.totals.now in
+    let all = c.requires.totals list stands in
+    let names = c.args.names.now in
+    let files = files_of names in
+    let texts = texts_of names in
+    let order = order_of t.files.files in
+    let is = ordered t all.0 list all.1 c.requires.good in
+    record {
+      starts = all.1.starts.starts;
+      numbers = subst (λ o. NumbersFit (base_of list) o list) is (c.in_ok-bytes.ensures.fits list stands);
+      known = subst (AreKnown files (length texts)) is c.in_ok-texts.ensures.known;
+      count = (let n = c.in_ok-bytes.ensures.few list stands in omega (arith, n));
+      files_few = subst (λ o. length o < 2 ^ 32) (c.order.ensures.order ∙ is) c.order.ensures.few;
+      texts_few = subst (λ o. length o < 2 ^ 32) (c.order-2.ensures.order ∙ c.in_ok-texts.ensures.order
+          ∙ ap (text_order files) is) c.order-2.ensures.few;
+      total = subst (λ o. total_len (texts_at texts o) < 2 ^ 64) (c.in_ok-texts.ensures.order ∙ ap (text_order files) is)
+          (subst (λ n. n < 2 ^ 64) c.in_ok-text_bytes.ensures.total (omega arith));
+    })

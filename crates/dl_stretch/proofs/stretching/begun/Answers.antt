@@ -1,5 +1,5 @@
 use Rattle.std.proofs.Common.{◌+◌, ◌-◌, ◌/◌, arith}
-use Rattle.dl_stretch.proofs.RunStretches.{starts_upto, starts_above}
+use Rattle.dl_stretch.proofs.NextRuns.{starts_upto, starts_above}
 use Rattle.dl_stretch.proofs.stretching.begun.Goals as goal
 
 pub loop-low-preserved-then-runs-middle : goal.loop-low-preserved-then-runs-middle

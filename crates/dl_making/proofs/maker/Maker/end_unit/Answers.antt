@@ -3,7 +3,7 @@ use Rattle.dl_path.specs.Paths.{beside_table}
 use Rattle.dl_stretch.specs.Runs.{number_in}
 use Rattle.dl_stretch.specs.Stands.{Stands}
 use Rattle.dl_making.specs.declared.files.UnitFiles.{UnitFiles}
-use Rattle.dl_making.proofs.MakerLemmas.{ended, file_is, on_ok}
+use Rattle.dl_making.proofs.MakerLemmas.{ended, file_is}
 use Rattle.dl_making.proofs.maker.Maker.end_unit.Goals as goal
 
 pub returns-clause-ended : goal.returns-clause-ended
@@ -14,11 +14,10 @@ returns-clause-ended c =
       directory = c.beside_table.result;
       offset = c.args.self.now.unit;
     } in
-    on_ok c.end_unit.result c.end_unit.ensures (λ stands.
     ended c.args.self.now _ _ unit c.unit_runs-runs.result.now c.in_ok-numbers.numbers.items c.in_ok-numbers.other
     c.numbers_of.ensures.grows c.numbers_of.ensures.once c.in_ok-numbers.ensures.numbers c.unit_runs-runs.ensures
     (λ file. file_is c.args.self.now _ unit file refl
     (c.beside_table.ensures ∙ ap₂ beside_table c.has_directory_0.ensures c.of.ensures) refl refl)
     (λ live units rows st. subst (λ ns. Stands live c.end_unit.new.self
     (units ++ record { number = number_in ns c.in_ok-numbers.other; rows = rows } ∷ []) [])
-    c.as_slice.ensures.value (stands live units rows st)))
+    c.as_slice.ensures.value (c.end_unit.ensures live units rows st))
