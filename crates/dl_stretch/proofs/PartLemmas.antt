@@ -1,11 +1,11 @@
 -- Runs and spans of units that have ended and of the current one.
 use Rattle.std.proofs.Common.{◌≡◌, ℕ, ◌+◌, ◌<◌, ◌≤◌, ◌^◌, ◌&&◌, true, List, [], ◌∷◌, ◌++◌, length, take, drop, map, get_or}
-use Rattle.std.proofs.Common.{Option, Some, None, arith, refl, sym, ap, ap₂, subst, ◌∙◌, length-append}
+use Rattle.std.proofs.Common.{None, arith, sym, ap, ap₂, subst, ◌∙◌, length-append}
 use Rattle.std.specs.Prelude.{if◌then◌else◌, is_none}
 use Rattle.std.specs.List.{All}
 use Rattle.std.specs.Option.{option_map, option_or}
 use Rattle.std.proofs.lemmas.List.{take-append-drop, take-append-le, drop-append-le, take_all, drop_all, length-take-le}
-use Rattle.std.proofs.lemmas.List.Elements.{All-take, All-drop, All-push, All-weaker}
+use Rattle.std.proofs.lemmas.List.Elements.{All-take, All-drop, All-push}
 use Rattle.dl_look.specs.declared.place.Place.{Place}
 use Rattle.dl_look.specs.declared.probed.Span.{Span}
 use Rattle.dl_look.specs.Answer.{is_at_most, is_below}

@@ -1,5 +1,5 @@
 -- What sinks of stretches are told.
-use Rattle.std.specs.Prelude.{◌≡◌, ℕ, List, ◌++◌, Option}
+use Rattle.std.specs.Prelude.{List, ◌++◌}
 use Rattle.dl_stretch.specs.declared.stretch.Stretch.{Stretch}
 
 -- the sink was told these more

@@ -1,9 +1,8 @@
 -- Runs and spans of units that have ended, of the current unit, and of the current sequence. No promise rests on how this
 -- is said.
-use Rattle.std.specs.Prelude.{ℕ, ◌+◌, ◌≤◌, List, length, take, drop, Option}
+use Rattle.std.specs.Prelude.{ℕ, ◌+◌, ◌≤◌, List, length, take, drop}
 use Rattle.std.specs.List.{All}
 use Rattle.dl_look.specs.declared.probed.Span.{Span}
-use Rattle.dl_stretch.specs.declared.told.Told.{Told}
 use Rattle.dl_stretch.specs.declared.run.Run.{Run}
 use Rattle.dl_stretch.specs.declared.sequence.SequenceRuns.{SequenceRuns}
 use Rattle.dl_stretch.specs.Spans.{AreSound}

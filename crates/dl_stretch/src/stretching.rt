@@ -36,7 +36,11 @@ impl<'a> RunStretches<'a> {
     ghost use Rattle.dl_stretch.specs.Spans.{AreSound};
 
     /// The stretches of what the spans answer, each of which has its runs among these.
-    pub(crate) fn new(alloc: Global, runs: &'a [Run], spans: &'a [Span]) -> Result<RunStretches<'a>, NoMemory>
+    pub(crate) fn new(
+        alloc: Global,
+        runs: &'a [Run],
+        spans: &'a [Span],
+    ) -> Result<RunStretches<'a>, NoMemory>
         requires { AreSound runs.now spans.now }
         ensures runs { IfOk result (λ s. s.runs.now ≡ runs.now) }
         ensures spans { IfOk result (λ s. s.spans.now ≡ spans.now) }

@@ -1,10 +1,10 @@
-use Rattle.std.proofs.Common.{◌≡◌, ℕ, ◌<◌, ◌^◌, true, false, Bool, [], ◌∷◌, ◌++◌, length, take, drop, ap, ap₂, sym, subst, ◌∙◌, refl, arith}
+use Rattle.std.proofs.Common.{true, Bool, [], ◌∷◌, ◌++◌, take, drop, ap, ap₂, sym, subst, ◌∙◌, refl, arith}
 use Rattle.std.specs.Prelude.{if◌then◌else◌}
-use Rattle.std.proofs.lemmas.List.{take_all, take-take}
+use Rattle.std.proofs.lemmas.List.{take_all}
 use Rattle.dl_look.specs.FinderRows.{unended}
 use Rattle.dl_look.specs.declared.probed.Span.{Span}
 use Rattle.dl_look.proofs.MoreRows.{unended-push_end}
-use Rattle.dl_stretch.specs.Parts.{ended, current, AreParted}
+use Rattle.dl_stretch.specs.Parts.{ended, current}
 use Rattle.dl_stretch.specs.Sequences.{Keeps}
 use Rattle.dl_stretch.specs.Spans.{answer_of}
 use Rattle.dl_stretch.proofs.PartLemmas.{ended_len, parted_added, whole_added, unit_added}

@@ -1,9 +1,8 @@
-use Rattle.std.proofs.Common.{◌≡◌, ◌++◌, map, take, drop, length, ap, sym, ◌∙◌, arith}
-use Rattle.dl_stretch.specs.Parts.{ended, AreParted}
-use Rattle.dl_stretch.specs.Renumbered.{renumbered_run}
+use Rattle.std.proofs.Common.{take, length, ap, sym, ◌∙◌, arith}
+use Rattle.dl_stretch.specs.Parts.{ended}
 use Rattle.dl_stretch.specs.Runs.{number_in}
 use Rattle.dl_stretch.specs.Spans.{answer_of}
-use Rattle.dl_stretch.proofs.PartLemmas.{ended_len, parted_ended, answer_ended, none_left}
+use Rattle.dl_stretch.proofs.PartLemmas.{ended_len, parted_ended, answer_ended}
 use Rattle.dl_stretch.proofs.run_spans.RunSpans.end_unit.Goals as goal
 
 pub invariant_of-self : goal.invariant_of-self

@@ -1,5 +1,5 @@
-use Rattle.std.proofs.Common.{◌≡◌, ℕ, ◌<◌, ◌^◌, take, drop, ap, ap₂, sym, subst, ◌∙◌}
-use Rattle.dl_stretch.specs.Parts.{ended, AreParted}
+use Rattle.std.proofs.Common.{take, drop, ap₂, ◌∙◌}
+use Rattle.dl_stretch.specs.Parts.{ended}
 use Rattle.dl_stretch.specs.Spans.{answer_of}
 use Rattle.dl_stretch.proofs.PartLemmas.{parted_forgotten, whole_forgotten, unit_forgotten}
 use Rattle.dl_stretch.proofs.run_spans.RunSpans.forget_unit.Goals as goal

@@ -1,7 +1,6 @@
-use Rattle.std.proofs.Common.{◌≡◌, ◌∷◌, ◌++◌, [], List, take, drop, true, refl, sym, ap}
+use Rattle.std.proofs.Common.{◌∷◌, ◌++◌, [], List, drop, ap}
 use Rattle.std.proofs.lemmas.Result.{IfOk-weaker}
 use Rattle.dl_rows.specs.declared.row.Row.{Row}
-use Rattle.dl_look.specs.Answer.{place_of}
 use Rattle.dl_look.specs.FinderRows.{unended}
 use Rattle.dl_stretch.specs.Parts.{current}
 use Rattle.dl_stretch.specs.Sequences.{Keeps}

@@ -1,4 +1,4 @@
-use Rattle.std.proofs.Common.{length, take, drop, ap, sym, subst, ◌-◌, arith, ◌∙◌}
+use Rattle.std.proofs.Common.{length, drop, ap, sym, subst, ◌-◌, arith, ◌∙◌}
 use Rattle.std.proofs.lemmas.List.{take_all, length-drop}
 use Rattle.dl_stretch.specs.ToldUnits.{NameFiles}
 use Rattle.dl_stretch.proofs.NameLemmas.{names_files}
