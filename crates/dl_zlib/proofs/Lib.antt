@@ -1,4 +1,5 @@
 pub mod AdlerLemmas
+pub mod AskLemmas
 pub mod BaseLemmas
 pub mod BlockLemmas
 pub mod BufferLemmas
@@ -17,6 +18,7 @@ pub mod OnwardLemmas
 pub mod LengthLemmas
 pub mod PieceLemmas
 pub mod PiecesLemmas
+pub mod ProgressLemmas
 pub mod ReadLemmas
 pub mod RepeatLemmas
 pub mod RunLemmas
