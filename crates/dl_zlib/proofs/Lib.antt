@@ -5,6 +5,7 @@ pub mod BlockLemmas
 pub mod BufferLemmas
 pub mod CheckLemmas
 pub mod CodeLaws
+pub mod CodeReads
 pub mod CopyLemmas
 pub mod DecodeLemmas
 pub mod FeedLemmas
