@@ -1,7 +1,7 @@
 -- Bytes of a stream: what was fed, given, and what it came to.
 use Rattle.std.proofs.Common.{◌≡◌, ◌⊎◌, inl, inr, ℕ, ◌+◌, ◌-◌, ◌*◌, ◌/◌, ◌<◌, ◌≤◌, ◌^◌, ◌==◌, ◌||◌, nat_lt, Bool}
 use Rattle.std.proofs.Common.{true, false}
-use Rattle.std.proofs.Common.{List, [], ◌++◌, length, take, drop, Some, None, option_map, Ok, Err, refl, sym, ap, ◌∙◌}
+use Rattle.std.proofs.Common.{List, [], ◌++◌, length, take, drop, Some, None, Ok, Err, refl, sym, ap, ◌∙◌}
 use Rattle.std.proofs.Common.{Result, IfErr, min, subst, zero, suc, ◌∷◌, length-drop, arith, append_assoc}
 use Rattle.std.proofs.Common.{length-append, length-take}
 use Rattle.std.proofs.lemmas.Bool.{eq-eqb, eqb-true, ltb-true, ltb-false, le-ltb, lt-ltb, cases_Bool}

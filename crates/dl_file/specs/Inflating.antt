@@ -1,6 +1,6 @@
 -- What the stream of a compressed section comes to. RFC 1950; System V ABI, chapter 4, "Section Compression". b: the
 -- bytes of the stream, and what follows it in the section.
-use Rattle.std.specs.Prelude.{ℕ, ◌+◌, ◌-◌, ◌*◌, ◌/◌, ◌==◌, Bool, if◌then◌else◌, List, length, take, drop, Option}
+use Rattle.std.specs.Prelude.{ℕ, ◌+◌, ◌-◌, ◌*◌, ◌/◌, ◌==◌, if◌then◌else◌, List, length, take, drop, Option}
 use Rattle.std.specs.Prelude.{Some, None}
 use Rattle.std.specs.Prelude.{Ok, Err}
 use Rattle.dl_zlib.specs.Bits.{Giving, Short, Wrong, bits_of}

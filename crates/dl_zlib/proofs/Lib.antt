@@ -12,6 +12,7 @@ pub mod FeedLemmas
 pub mod FieldLemmas
 pub mod FieldsLemmas
 pub mod FrontLemmas
+pub mod FuelLemmas
 pub mod HeaderLemmas
 pub mod KeptLemmas
 pub mod LongLemmas

@@ -1,4 +1,4 @@
-use Rattle.std.proofs.Common.{◌≡◌, ◌-◌, take, drop, arith, ap, subst, sym, Ok}
+use Rattle.std.proofs.Common.{◌≡◌, take, arith, ap, subst, sym, Ok}
 use Rattle.std.proofs.lemmas.Result.{err_from_is_err_and}
 use Rattle.dl_file.specs.InStep.{ComesTo, GivesNext, to_come}
 use Rattle.dl_file.specs.declared.stream_reader.Progress.{Progress}
