@@ -132,12 +132,14 @@ plain_tells error (Ok n) same = ap (option_map Read) same
 plain_tells error (Err why) same = (Read why, ap (option_map Read) same, refl)
 
 -- what isn't compressed has no damage
-pub plain_ends : (error : Option Error) (result : Result ℕ Error) (buffer : List ℕ)
-    → EndsBy (Some None) (option_map Read error) result buffer
-plain_ends error (Ok n) buffer = λ none room. refl
-plain_ends None (Err why) buffer = tt
-plain_ends (Some error) (Err why) buffer = tt
+pub plain_ends : (left : Option (List ℕ)) (error : Option Error) (result : Result ℕ Error) (buffer : List ℕ)
+    → EndsBy (Some None) left (option_map Read error) result buffer
+plain_ends left error (Ok n) buffer = λ none room. refl
+plain_ends None None (Err why) buffer = (tt, tt)
+plain_ends None (Some error) (Err why) buffer = (tt, tt)
+plain_ends (Some bytes) None (Err why) buffer = (tt, tt)
+plain_ends (Some bytes) (Some error) (Err why) buffer = (tt, tt)
 
-pub no_damage : (result : Result ℕ Error) (buffer : List ℕ) → EndsBy (Some None) None result buffer
-no_damage (Ok n) buffer = λ none room. refl
-no_damage (Err why) buffer = tt
+pub no_damage : (left : Option (List ℕ)) (result : Result ℕ Error) (buffer : List ℕ)
+    → EndsBy (Some None) left None result buffer
+no_damage left result buffer = plain_ends left None result buffer

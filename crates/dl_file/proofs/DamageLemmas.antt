@@ -1,12 +1,6 @@
 -- The damage of a section.
-use Rattle.std.proofs.Common.{◌≡◌, ℕ, ◌-◌, Bool, List, take, drop, Option, Some, None, option_map, Result, Ok, Err, refl}
-use Rattle.dl_zlib.specs.Bits.{Stop, Short, Wrong, bits_of}
-use Rattle.dl_zlib.specs.Zlib.{unzlib}
-use Rattle.dl_elf.specs.declared.compression.CompressionHeader.{CompressionHeader}
-use Rattle.dl_elf.specs.declared.name.SectionName.{SectionName}
-use Rattle.dl_file.specs.ContentReader.{left_of, stream_bytes}
-use Rattle.dl_file.specs.Inflating.{damage, damage_by, output_of}
-use Rattle.dl_file.specs.LineReader.{line_damage, line_remaining, line_stream}
+use Rattle.std.proofs.Common.{◌≡◌, ℕ, List, Option, Some, None, refl}
+use Rattle.dl_file.specs.LineReader.{line_damage, line_stream}
 use Rattle.dl_file.specs.declared.content_reader.ContentReader.TheVariants as content
 use Rattle.dl_file.specs.declared.line_reader.LineReader.{LineReader}
 use Rattle.dl_file.specs.declared.line_reader.LineReader.TheVariants.{File, Held}
@@ -17,29 +11,3 @@ pub plain_damage : {S : Type 0} {g : _} (all_bytes : S → Option (List ℕ)) (r
 plain_damage all_bytes (File (content.Plain section)) is = refl
 plain_damage all_bytes (File (content.Inflated stream)) is = absurd (cc is)
 plain_damage all_bytes (Held bytes) is = refl
-
--- what a stream without damage inflates to is known
-pub undamaged : {S : Type 0} {g : _} (all_bytes : S → Option (List ℕ)) (reader : LineReader S g) (name : SectionName)
-    → line_stream reader ≡ Some name → line_damage all_bytes reader ≡ Some None
-    → (bytes : List ℕ) × (line_remaining all_bytes reader ≡ Some bytes)
-undamaged all_bytes (File (content.Plain section)) name is whole = absurd (cc is)
-undamaged all_bytes (Held bytes) name is whole = absurd (cc is)
-undamaged all_bytes (File (content.Inflated stream)) name is whole =
-    of_stream (stream_bytes all_bytes stream.value) whole
-  where
-    header : CompressionHeader
-    header = stream.value.told.header
-
-    of_found : (b : List ℕ) (found : Result (List ℕ × List Bool) Stop)
-        → damage_by header stream.value.told.section_size b found ≡ None
-        → (bytes : List ℕ) × (option_map (drop (header.size - stream.value.at.left))
-        (option_map (take header.size) (output_of found)) ≡ Some bytes)
-    of_found b (Ok found) whole = (drop (header.size - stream.value.at.left) (take header.size found.0), refl)
-    of_found b (Err Short) whole = absurd (cc whole)
-    of_found b (Err (Wrong left)) whole = absurd (cc whole)
-
-    of_stream : (known : Option (List ℕ))
-        → option_map (damage header stream.value.told.section_size) known ≡ Some None
-        → (bytes : List ℕ) × (left_of header known stream.value.at.left ≡ Some bytes)
-    of_stream None whole = absurd (cc whole)
-    of_stream (Some b) whole = of_found b (unzlib (bits_of b)) (cc whole)

@@ -13,16 +13,14 @@ use Rattle.std.specs.declared.io.Error.{Error}
 use Rattle.dl_elf.specs.declared.compression.CompressionHeader.{CompressionHeader}
 use Rattle.dl_elf.specs.declared.file.Range.{Range}
 use Rattle.dl_elf.specs.Reader.{known_range}
-use Rattle.dl_zlib.specs.Bits.{bits_of}
-use Rattle.dl_zlib.specs.Zlib.{unzlib}
+use Rattle.dl_zlib.specs.Zlib.{given}
 use Rattle.dl_file.specs.Inflating.{damage, inflated, stream_in}
 use Rattle.dl_file.specs.ContentReader.{EndsBy, left_of}
-use Rattle.dl_file.specs.InStep.{Follows, NextIs, StandsIn}
+use Rattle.dl_file.specs.InStep.{Follows, NextIs, StandsIn, to_come}
 use Rattle.dl_file.specs.declared.read_fault.ReadFault.{ReadFault}
 use Rattle.dl_file.specs.declared.read_fault.ReadFault.TheVariants.{Read, DamagedStream}
 use Rattle.dl_file.specs.declared.stream_reader.StreamReader.{StreamReader}
 use Rattle.dl_file.specs.declared.stream_reader.Told.{Told}
-use Rattle.dl_file.proofs.StreamLemmas.{inflated_by}
 
 -- ---- where the stream stands
 
@@ -59,18 +57,15 @@ stream_known header known f range at size is short place left =
     ap (λ k. known_range k at size) is ∙ ap Some (ap (λ k. take k (drop at f)) left
     ∙ range_rest f range.offset range.size header.stream_offset at short place)
 
-all_left : (k : ℕ) (bytes : Option (List ℕ)) → k ≡ 0 → option_map (drop k) bytes ≡ bytes
-all_left k None none = refl
-all_left k (Some all) none = ap (λ n. Some (drop n all)) none
-
 pub begun_bytes : (header : CompressionHeader) (known : Option (List ℕ)) (f : List ℕ) (range : Range)
     (at size left : ℕ) → known ≡ Some f → length f < 2 ^ 64
     → at ≡ min (range.offset + header.stream_offset) (2 ^ 64 - 1) → size ≡ range.size - header.stream_offset
-    → left ≡ header.size → left_of header (known_range known at size) left ≡ inflated header (stream_in header range f)
+    → left ≡ header.size
+    → left_of header (known_range known at size) left ≡ Some (inflated header (stream_in header range f))
 begun_bytes header known f range at size left is short place few all =
     let none : header.size - left ≡ 0 = omega (arith, all) in
     ap (λ k. left_of header k left) (stream_known header known f range at size is short place few)
-    ∙ all_left (header.size - left) (inflated header (stream_in header range f)) none
+    ∙ ap (λ n. Some (drop n (inflated header (stream_in header range f)))) none
 
 pub begun_damage : (header : CompressionHeader) (known : Option (List ℕ)) (f : List ℕ) (range : Range) (at size : ℕ)
     → known ≡ Some f → length f < 2 ^ 64 → at ≡ min (range.offset + header.stream_offset) (2 ^ 64 - 1)
@@ -109,23 +104,14 @@ pub follows_on : {S : Type 0} (all_bytes : S → Option (List ℕ)) (source : S)
 follows_on all_bytes source place told old new result buffer follows next =
     ∥∥₁_elim follows ∥∥₁_prop (λ s. ∣ (λ b is. (next b (s b is)).0) ∣₁)
 
--- no more than told
-inflated_few : (header : CompressionHeader) (b all : List ℕ) → inflated header b ≡ Some all → length all ≤ header.size
-inflated_few header b all is =
-    let found = inflated_by header.size b all (unzlib (bits_of b)) refl is in
-    omega (arith, ap length found.2, length-take header.size found.0)
-
-gives_some : (told : Told) (b : List ℕ) (bytes : Option (List ℕ)) (old new n : ℕ) (buffer : List ℕ)
-    → inflated told.header b ≡ bytes
-    → ∥ NextIs told b old new (Ok n) buffer ∥₁
-    → ReadConsumes {E = Error} (option_map (drop (told.header.size - old)) bytes)
-    (option_map (drop (told.header.size - new)) bytes) (Ok n) buffer
-gives_some told b None old new n buffer is next = (tt, λ none room. tt)
-gives_some told b (Some all) old new n buffer is next = (
-  ∥∥₁_elim next (hlevel props) (λ x. x.0 all is),
-  λ none room. ∥∥₁_elim next (hlevel props) (λ x. (let size = inflated_few told.header b all is in
-      let end : new ≡ 0 = (x.1 none room).1 in
-      let past : length all ≤ told.header.size - new = omega (arith, size, end) in
+gives_some : (told : Told) (b : List ℕ) (old new n : ℕ) (buffer : List ℕ) → ∥ NextIs told b old new (Ok n) buffer ∥₁
+    → ReadConsumes {E = Error} (left_of told.header (Some b) old) (left_of told.header (Some b) new) (Ok n) buffer
+gives_some told b old new n buffer next = (
+  ∥∥₁_elim next (hlevel props) (λ x. x.0),
+  λ none room. ∥∥₁_elim next (hlevel props) (λ x. (let end : new ≡ 0 = (x.1 none room).1 in
+      let all = inflated told.header b in
+      let past : length all ≤ told.header.size - new =
+      omega (arith, length-take told.header.size (given b), end) in
       drop_of_length-le all past)),
 )
 
@@ -134,34 +120,31 @@ pub gives_known : (told : Told) (known : Option (List ℕ)) (old new n : ℕ) (b
     → ReadConsumes {E = Error} (left_of told.header known old) (left_of told.header known new) (Ok n) buffer
 gives_known told None old new n buffer next = (tt, λ none room. tt)
 gives_known told (Some b) old new n buffer next =
-    gives_some told b (inflated told.header b) old new n buffer refl (∥∥₁_elim next ∥∥₁_prop (λ x. ∣ x b refl ∣₁))
-
-keeps_some : (told : Told) (bytes : Option (List ℕ)) (old new : ℕ) → ∥ new ≡ old ∥₁
-    → Keeps (option_map (drop (told.header.size - old)) bytes) (option_map (drop (told.header.size - new)) bytes)
-keeps_some told None old new same = tt
-keeps_some told (Some all) old new same =
-    ∥∥₁_elim same (hlevel props) (λ e. ap (λ k. drop (told.header.size - k) all) e)
+    gives_some told b old new n buffer (∥∥₁_elim next ∥∥₁_prop (λ x. ∣ x b refl ∣₁))
 
 pub keeps_known : (told : Told) (known : Option (List ℕ)) (old new : ℕ) (why : ReadFault) (buffer : List ℕ)
     → ∥ ((b : List ℕ) → known ≡ Some b → NextIs told b old new (Err why) buffer) ∥₁
     → Keeps (left_of told.header known old) (left_of told.header known new)
 keeps_known told None old new why buffer next = tt
 keeps_known told (Some b) old new why buffer next =
-    keeps_some told (inflated told.header b) old new (∥∥₁_elim next ∥∥₁_prop (λ x. ∣ (x b refl).0 ∣₁))
+    ∥∥₁_elim next (hlevel props) (λ x. ap (to_come told b) (x b refl).0)
 
 -- a read ends or fails as the damage says
-pub ends_known : (told : Told) (known : Option (List ℕ)) (old new n : ℕ) (buffer : List ℕ)
+pub ends_known : (told : Told) (known left : Option (List ℕ)) (old new n : ℕ) (buffer : List ℕ)
     → ∥ ((b : List ℕ) → known ≡ Some b → NextIs told b old new (Ok n) buffer) ∥₁
-    → EndsBy (option_map (damage told.header told.section_size) known) None (Ok n) buffer
-ends_known told None old new n buffer next = λ none room. tt
-ends_known told (Some b) old new n buffer next = λ none room.
+    → EndsBy (option_map (damage told.header told.section_size) known) left None (Ok n) buffer
+ends_known told None left old new n buffer next = λ none room. tt
+ends_known told (Some b) left old new n buffer next = λ none room.
     ∥∥₁_elim next (hlevel props) (λ x. ((x b refl).1 none room).0)
 
 pub fails_known : (told : Told) (known : Option (List ℕ)) (old new : ℕ) (why : ReadFault) (error : Error)
     (buffer : List ℕ)
     → ∥ ((b : List ℕ) → known ≡ Some b → NextIs told b old new (Err why) buffer) ∥₁
-    → EndsBy (option_map (damage told.header told.section_size) known) (Some why) (Err error) buffer
-fails_known told None old new why error buffer next = tt
-fails_known told (Some b) old new (Read error') error buffer next = tt
-fails_known told (Some b) old new (DamagedStream at) error buffer next =
-    ∥∥₁_elim next (hlevel props) (λ x. (x b refl).1)
+    → EndsBy (option_map (damage told.header told.section_size) known) (left_of told.header known new) (Some why)
+    (Err error) buffer
+fails_known told None old new why error buffer next = (tt, tt)
+fails_known told (Some b) old new (Read error') error buffer next = (tt, tt)
+fails_known told (Some b) old new (DamagedStream at) error buffer next = (
+  ∥∥₁_elim next (hlevel props) (λ x. (x b refl).1.0),
+  ∥∥₁_elim next (hlevel props) (λ x. (x b refl).1.1),
+)

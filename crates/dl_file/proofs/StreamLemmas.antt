@@ -1,21 +1,21 @@
 -- Bytes of a stream: what was fed, given, and what it came to.
 use Rattle.std.proofs.Common.{◌≡◌, ◌⊎◌, inl, inr, ℕ, ◌+◌, ◌-◌, ◌*◌, ◌/◌, ◌<◌, ◌≤◌, ◌^◌, ◌==◌, ◌||◌, nat_lt, Bool}
 use Rattle.std.proofs.Common.{true, false}
-use Rattle.std.proofs.Common.{List, [], ◌++◌, length, take, drop, Some, None, option_map, Ok, Err, refl, sym, ap, ◌∙◌}
+use Rattle.std.proofs.Common.{List, [], ◌++◌, length, take, drop, Some, None, Ok, Err, refl, sym, ap, ◌∙◌}
 use Rattle.std.proofs.Common.{Result, IfErr, min, subst, zero, suc, ◌∷◌, length-drop, arith, append_assoc}
-use Rattle.std.proofs.Common.{length-append}
+use Rattle.std.proofs.Common.{length-append, length-take}
 use Rattle.std.proofs.lemmas.Bool.{eq-eqb, eqb-true, ltb-true, ltb-false, le-ltb, lt-ltb, cases_Bool}
 use Rattle.std.proofs.Math.Bool.{or-true, or-false}
 use Rattle.std.proofs.lemmas.List.{append-nil, drop-take, drop-drop, take-append-drop, take-append-le, take-take}
 use Rattle.std.proofs.lemmas.List.{take_rest, length-take-le, drop-append-le}
+use Rattle.std.proofs.Math.ListN.{drop_of_length-le}
 use Rattle.std.proofs.Math.Seq.{drop-append-add}
-use Rattle.dl_zlib.specs.Bits.{Stop, Wrong, bits_of}
-use Rattle.dl_zlib.specs.Zlib.{InflatesTo, unzlib}
+use Rattle.dl_zlib.specs.Bits.{Stop, Short, Wrong, bits_of}
+use Rattle.dl_zlib.specs.Zlib.{given, output_of, unzlib}
 use Rattle.dl_zlib.specs.Feeding.{BeginsTo, EndsWith, IsCutShort, IsDamagedAt, IsDamagedFrom}
 use Rattle.dl_elf.specs.declared.compression.CompressionHeader.{CompressionHeader}
-use Rattle.dl_file.specs.Inflating.{damage, output_of}
-use Rattle.dl_file.specs.Faults.{IsDamage}
-use Rattle.dl_file.specs.InStep.{ComesTo, GivesNext, PieceIs}
+use Rattle.dl_file.specs.Inflating.{damage}
+use Rattle.dl_file.specs.InStep.{ComesTo, GivesNext, PieceIs, StopsBy}
 use Rattle.dl_file.specs.declared.read_fault.ReadFault.{ReadFault}
 use Rattle.dl_file.specs.declared.read_fault.ReadFault.TheVariants.{Read, DamagedStream}
 use Rattle.dl_file.specs.declared.stream_reader.Told.{Told}
@@ -93,22 +93,14 @@ next_given out gone waiting after given (suc m) size left is within of few =
     ap (take n) rest ∙ take-append-le n (drop given waiting) after few_given in
     rw (here, there) (two ∙ ap (λ xs. xs ++ drop (t + n) all) (front ∙ given_front))
 
--- what a stream inflates to, where it is one
-pub inflated_by : (size : ℕ) (b all : List ℕ) (read : Result (List ℕ × List Bool) Stop) → unzlib (bits_of b) ≡ read
-    → option_map (take size) (output_of read) ≡ Some all → (out : List ℕ) × InflatesTo b out × (all ≡ take size out)
-inflated_by size b all (Ok found) is same = (found.0, (found.1, is), cc same)
-inflated_by size b all (Err stop) is none = absurd (cc none)
-
 -- n bytes are given of the output that waits
-pub gives_next : (told : Told) (b bytes rest gone waiting piece : List ℕ) (given n left : ℕ) → b ≡ bytes ++ rest
-    → BeginsTo bytes (gone ++ waiting) → left ≡ told.header.size - (length gone + given)
-    → given + n ≤ length waiting → n ≤ left → piece ≡ take n (drop given waiting)
+pub gives_next : (told : Told) (b bytes rest gone waiting piece : List ℕ) (at n left : ℕ) → b ≡ bytes ++ rest
+    → BeginsTo bytes (gone ++ waiting) → left ≡ told.header.size - (length gone + at)
+    → at + n ≤ length waiting → n ≤ left → piece ≡ take n (drop at waiting)
     → GivesNext told b left (left - n) piece
-gives_next told b bytes rest gone waiting piece given n left is begins of within few same = λ all inflates.
-    let found = inflated_by told.header.size b all (unzlib (bits_of b)) refl inflates in
-    let stream : InflatesTo (bytes ++ rest) found.0 = subst (λ xs. InflatesTo xs found.0) is found.1 in
-    let begun = begins rest found.0 stream in
-    rw (found.2, same) (next_given found.0 gone waiting begun.0 given n told.header.size left begun.1 within of few)
+gives_next told b bytes rest gone waiting piece at n left is begins of within few same =
+    let begun = begins rest in
+    rw same (next_given (given b) gone waiting begun.0 at n told.header.size left (ap given is ∙ begun.1) within of few)
 
 pub piece_given : (w copied tail waiting : List ℕ) (given n : ℕ) → copied ≡ take n w
     → w ≡ take (length waiting - given) (drop given waiting) → n ≤ length w
@@ -140,6 +132,18 @@ nothing_waits [] ys empty same is holds = sym same
 nothing_waits (x ∷ xs) ys empty same is holds =
     let none : length (x ∷ xs) ≡ 0 = eqb-true (length (x ∷ xs)) 0 (sym is ∙ holds) in absurd (omega (arith, none))
 
+-- all output was given
+all_before : (size left : ℕ) (out gone : List ℕ) → out ≡ gone ++ [] → left ≡ size - (length gone + 0)
+    → drop (size - left) (take size out) ≡ []
+all_before size left out gone is of =
+    let past : length (take size out) ≤ size - left = omega (
+      arith,
+      of,
+      length-take size out,
+      ap length (is ∙ append-nil gone),
+    ) in
+    drop_of_length-le (take size out) past
+
 pub ended_whole : (header : CompressionHeader) (section_size : ℕ) (b bytes rest gone : List ℕ) → b ≡ bytes ++ rest
     → EndsWith bytes (gone ++ []) → length gone ≡ header.size → damage header section_size b ≡ None
 ended_whole header section_size b bytes rest gone is ends whole =
@@ -147,6 +151,10 @@ ended_whole header section_size b bytes rest gone is ends whole =
     let same : unzlib (bits_of b) ≡ Ok (gone ++ [], at.0) = ap (λ xs. unzlib (bits_of xs)) is ∙ at.1 in
     let size : length (gone ++ []) ≡ header.size = ap length (append-nil gone) ∙ whole in
     rw same (rw (eq-eqb (length (gone ++ [])) header.size size) refl)
+
+-- the output of a stream that ends
+ended_given : (b bytes rest gone : List ℕ) → b ≡ bytes ++ rest → EndsWith bytes (gone ++ []) → given b ≡ gone ++ []
+ended_given b bytes rest gone is ends = ap given is ∙ ap output_of (ends.1 rest).1
 
 pub ended_other : (header : CompressionHeader) (section_size : ℕ) (b bytes rest gone : List ℕ) → b ≡ bytes ++ rest
     → EndsWith bytes (gone ++ []) → (length gone ≡ header.size → ⊥)
@@ -160,17 +168,19 @@ ended_other header section_size b bytes rest gone is ends other =
       | inr less ↦ rw same (rw less refl)
     ]
 
-pub cut_short : (header : CompressionHeader) (section_size : ℕ) (b : List ℕ) → IsCutShort b
+pub cut_short : (header : CompressionHeader) (section_size : ℕ) (b out : List ℕ) → IsCutShort b out
     → damage header section_size b ≡ Some section_size
-cut_short header section_size b cut = rw cut refl
+cut_short header section_size b out cut = rw cut refl
 
-damaged_here : (header : CompressionHeader) (section_size : ℕ) (b : List ℕ) (at told left : ℕ)
-    → unzlib (bits_of b) ≡ Err (Wrong left) → (length b < 2 ^ 64 → at ≡ (8 * length b - left - 1) / 8)
+damaged_here : (header : CompressionHeader) (section_size : ℕ) (b out : List ℕ) (at told left : ℕ)
+    → unzlib (bits_of b) ≡ Err (Wrong left, out) → (length b < 2 ^ 64 → at ≡ (8 * length b - left - 1) / 8)
     → length b ≤ section_size - header.stream_offset → section_size < 2 ^ 64
     → (header.stream_offset + at < 2 ^ 64 → told ≡ header.stream_offset + at)
     → damage header section_size b ≡ Some told
-damaged_here header section_size [] at told left wrong place few sized adds = absurd (cc wrong)
-damaged_here header section_size (x ∷ xs) at told left wrong place few sized adds =
+damaged_here header section_size [] out at told left wrong place few sized adds =
+    let stop : ◌≡◌ {A = Stop} Short (Wrong left) =
+    ap (λ r. elim r as (λ _. Stop) [ Ok found ↦ Short | Err stopped ↦ stopped.0 ]) wrong in absurd (cc)
+damaged_here header section_size (x ∷ xs) out at told left wrong place few sized adds =
     let len : ℕ = length (x ∷ xs) in
     let short : len < 2 ^ 64 = omega (arith, few, sized) in
     let is : at ≡ (8 * len - left - 1) / 8 = place short in
@@ -178,24 +188,28 @@ damaged_here header section_size (x ∷ xs) at told left wrong place few sized a
     let fits : header.stream_offset + at < 2 ^ 64 = omega (arith, few, sized, is, small) in
     rw wrong (ap Some (sym (adds fits ∙ ap (λ n. header.stream_offset + n) is)))
 
-pub damaged_at : (header : CompressionHeader) (section_size : ℕ) (b bytes rest : List ℕ) (at told : ℕ)
-    → b ≡ bytes ++ rest → IsDamagedFrom bytes at → length b ≤ section_size - header.stream_offset
-    → section_size < 2 ^ 64
-    → (header.stream_offset + at < 2 ^ 64 → told ≡ header.stream_offset + at)
-    → damage header section_size b ≡ Some told
-damaged_at header section_size b bytes rest at told is damaged few sized adds =
-    let d : IsDamagedAt b at = subst (λ xs. IsDamagedAt xs at) (sym is) (damaged rest) in
-    damaged_here header section_size b at told d.0 d.1 d.2 few sized adds
+pub damaged_at : (told : Told) (b bytes rest gone : List ℕ) (at left place : ℕ)
+    → b ≡ bytes ++ rest → IsDamagedFrom bytes (gone ++ []) at → left ≡ told.header.size - (length gone + 0)
+    → length b ≤ told.section_size - told.header.stream_offset → told.section_size < 2 ^ 64
+    → (told.header.stream_offset + at < 2 ^ 64 → place ≡ told.header.stream_offset + at)
+    → StopsBy told b left (DamagedStream place)
+damaged_at told b bytes rest gone at left place is damaged of few sized adds =
+    let d : IsDamagedAt b (gone ++ []) at = subst (λ xs. IsDamagedAt xs (gone ++ []) at) (sym is) (damaged rest) in (
+      damaged_here told.header told.section_size b (gone ++ []) at place d.0 d.1 d.2 few sized adds,
+      all_before told.header.size left (given b) gone (ap output_of d.1) of,
+    )
 
 -- ---- a part of the stream
 
 -- where no more came of a piece
-pub piece_damage : (told : Told) (b bytes : List ℕ) (why : ReadFault) → IsCutShort bytes
-    → PieceIs told b bytes (Err why)
-    → IsDamage (damage told.header told.section_size b) why
-piece_damage told b bytes (Read error) cut piece = tt
-piece_damage told b bytes (DamagedStream at) cut (place, all) =
-    cut_short told.header told.section_size b (subst IsCutShort (sym all) cut) ∙ ap Some (sym place)
+pub piece_damage : (told : Told) (b bytes gone : List ℕ) (left : ℕ) (why : ReadFault) → IsCutShort bytes (gone ++ [])
+    → left ≡ told.header.size - (length gone + 0) → PieceIs told b bytes (Err why) → StopsBy told b left why
+piece_damage told b bytes gone left (Read error) cut of piece = (tt, tt)
+piece_damage told b bytes gone left (DamagedStream at) cut of (place, all) =
+    let whole : IsCutShort b (gone ++ []) = subst (λ xs. IsCutShort xs (gone ++ [])) (sym all) cut in (
+      cut_short told.header told.section_size b (gone ++ []) whole ∙ ap Some (sym place),
+      all_before told.header.size left (given b) gone (ap output_of whole) of,
+    )
 
 -- at the end
 pub end_comes : (told : Told) (b bytes rest gone : List ℕ) (left : ℕ) (over : Bool) (result : Result Progress ReadFault)
@@ -203,7 +217,7 @@ pub end_comes : (told : Told) (b bytes rest gone : List ℕ) (left : ℕ) (over 
     → over ≡ nat_lt told.header.size (length gone + 0)
     → (result ≡ Ok Ended → (left ≡ 0) × (over ≡ false))
     → IfErr result (λ fault. (fault ≡ DamagedStream told.header.size_offset) × ((1 ≤ left) ⊎ (over ≡ true)))
-    → ComesTo told b result
+    → ComesTo told b left result
 end_comes told b bytes rest gone left over (Ok Onward) is ends of over_is whole other = tt
 end_comes told b bytes rest gone left over (Ok Ended) is ends of over_is whole other =
     let w = whole refl in
@@ -211,11 +225,14 @@ end_comes told b bytes rest gone left over (Ok Ended) is ends of over_is whole o
     let few : length gone + 0 ≤ told.header.size =
     ltb-false told.header.size (length gone + 0) (sym over_is ∙ w.1) in
     ended_whole told.header told.section_size b bytes rest gone is ends (omega (arith, none, few, of))
-end_comes told b bytes rest gone left over (Err why) is ends of over_is whole (fault, inl some) =
-    subst (IsDamage (damage told.header told.section_size b)) (sym fault)
-    (ended_other told.header told.section_size b bytes rest gone is ends (λ size. omega (arith, some, of, size)))
-end_comes told b bytes rest gone left over (Err why) is ends of over_is whole (fault, inr past) =
-    let more : told.header.size < length gone + 0 =
-    ltb-true told.header.size (length gone + 0) (sym over_is ∙ past) in
-    subst (IsDamage (damage told.header told.section_size b)) (sym fault)
-    (ended_other told.header told.section_size b bytes rest gone is ends (λ size. omega (arith, more, size)))
+end_comes told b bytes rest gone left over (Err why) is ends of over_is whole (fault, unequal) =
+    let other : length gone ≡ told.header.size → ⊥ = elim unequal [
+      | inl some ↦ (λ size. omega (arith, some, of, size))
+      | inr past ↦ (let more : told.header.size < length gone + 0 =
+          ltb-true told.header.size (length gone + 0) (sym over_is ∙ past) in
+          λ size. omega (arith, more, size))
+    ] in
+    subst (StopsBy told b left) (sym fault) (
+      ended_other told.header told.section_size b bytes rest gone is ends other,
+      all_before told.header.size left (given b) gone (ended_given b bytes rest gone is ends) of,
+    )

@@ -1,11 +1,11 @@
 -- What contracts see of a reader of a section's bytes, be they compressed or not.
-use Rattle.std.specs.Prelude.{◌≡◌, ℕ, ◌-◌, ◌<◌, List, length, drop, Option, Some, None, option_map, option_and_then}
+use Rattle.std.specs.Prelude.{◌≡◌, ℕ, ◌-◌, ◌<◌, List, length, drop, Option, Some, None, option_map}
 use Rattle.std.specs.Prelude.{IfSome, Result, Ok, Err}
 use Rattle.std.specs.declared.io.Error.{Error}
 use Rattle.dl_elf.specs.declared.name.SectionName.{SectionName}
 use Rattle.dl_elf.specs.declared.compression.CompressionHeader.{CompressionHeader}
 use Rattle.dl_elf.specs.Reader.{known_range, reader_remaining, reader_error, ReaderFails}
-use Rattle.dl_file.specs.Faults.{IsDamage}
+use Rattle.dl_file.specs.Faults.{IsAfter, IsDamage}
 use Rattle.dl_file.specs.Inflating.{inflated, damage}
 use Rattle.dl_file.specs.declared.inflated_reader.InflatedReader.{InflatedReader}
 use Rattle.dl_file.specs.declared.read_fault.ReadFault.{ReadFault}
@@ -27,9 +27,9 @@ stream_fault r = r.fault
 abbrev pub stream_bytes : {S : Type 0} {g : _} → (S → Option (List ℕ)) → InflatedReader S g → Option (List ℕ)
 stream_bytes all_bytes r = known_range (all_bytes r.source.now) r.place.offset r.place.size
 
--- the bytes of a section where its stream is one, but for those that were given; `left` are to come
+-- what a stream inflates to, but for the bytes that were given; `left` are to come by what the header tells
 abbrev pub left_of : CompressionHeader → (stream : Option (List ℕ)) → (left : ℕ) → Option (List ℕ)
-left_of header stream left = option_map (drop (header.size - left)) (option_and_then (inflated header) stream)
+left_of header stream left = option_map (λ b. drop (header.size - left) (inflated header b)) stream
 
 abbrev pub inflated_remaining : {S : Type 0} {g : _} → (S → Option (List ℕ)) → InflatedReader S g → Option (List ℕ)
 inflated_remaining all_bytes r = left_of r.told.header (stream_bytes all_bytes r) r.at.left
@@ -38,15 +38,16 @@ inflated_remaining all_bytes r = left_of r.told.header (stream_bytes all_bytes r
 abbrev pub inflated_damage : {S : Type 0} {g : _} → (S → Option (List ℕ)) → InflatedReader S g → Option (Option ℕ)
 inflated_damage all_bytes r = option_map (damage r.told.header r.told.section_size) (stream_bytes all_bytes r)
 
--- a read says that the bytes end only where there is no damage, and tells damage only where it is
-abbrev pub EndsBy : (damage : Option (Option ℕ)) → (fault : Option ReadFault) → Result ℕ Error
+-- a read says that the bytes end only where there is no damage, and tells damage only where it is, once no bytes are left
+abbrev pub EndsBy : (damage : Option (Option ℕ)) → (left : Option (List ℕ)) → (fault : Option ReadFault) → Result ℕ Error
     → (buffer : List ℕ) → Type 0
-EndsBy known fault (Ok n) buffer = n ≡ 0 → 0 < length buffer → IfSome known (λ at. at ≡ None)
-EndsBy known fault (Err error) buffer = IfSome known (λ at. IfSome fault (IsDamage at))
+EndsBy known left fault (Ok n) buffer = n ≡ 0 → 0 < length buffer → IfSome known (λ at. at ≡ None)
+EndsBy known left fault (Err error) buffer = IfSome known (λ at. IfSome fault (IsDamage at))
+    × IfSome left (λ bytes. IfSome fault (IsAfter bytes))
 
 -- ---- a section
 
--- the bytes that are left, where the file's are known; of one that is compressed, where its stream is one
+-- the bytes that are left, where the file's are known; of one that is compressed those before the damage
 abbrev pub content_remaining : {S : Type 0} {g : _} → (S → Option (List ℕ)) → ContentReader S g → Option (List ℕ)
 content_remaining all_bytes (Plain reader) = reader_remaining all_bytes reader
 content_remaining all_bytes (Inflated reader) = inflated_remaining all_bytes reader.value

@@ -1,5 +1,5 @@
 -- Why reads of a section's bytes fail.
-use Rattle.std.specs.Prelude.{◌≡◌, ℕ, Option, Some, None, Result, Ok, Err}
+use Rattle.std.specs.Prelude.{◌≡◌, ℕ, List, [], Option, Some, None, Result, Ok, Err}
 use Rattle.dl_file.specs.declared.read_fault.ReadFault.{ReadFault}
 use Rattle.dl_file.specs.declared.read_fault.ReadFault.TheVariants.{Read, DamagedStream}
 use Rattle.std.specs.declared.io.Error.{Error}
@@ -20,3 +20,8 @@ Tells fault (Err error) = (why : ReadFault) × (fault ≡ Some why) × IsErrorOf
 abbrev pub IsDamage : (damage : Option ℕ) → ReadFault → Type 0
 IsDamage damage (Read error) = Unit {0}
 IsDamage damage (DamagedStream at) = damage ≡ Some at
+
+-- and only once all bytes before it were given
+abbrev pub IsAfter : (left : List ℕ) → ReadFault → Type 0
+IsAfter left (Read error) = Unit {0}
+IsAfter left (DamagedStream at) = left ≡ []

@@ -14,7 +14,7 @@ use Rattle.dl_file.specs.declared.stream_reader.Progress.TheVariants.{Onward, En
 use Rattle.dl_zlib.specs.Feeding.{Says}
 use Rattle.dl_zlib.specs.declared.inflate.Event.{Event}
 use Rattle.dl_file.specs.Inflating.{inflated, damage}
-use Rattle.dl_file.specs.Faults.{IsDamage}
+use Rattle.dl_file.specs.Faults.{IsAfter, IsDamage}
 
 -- bytes of the piece that weren't fed yet
 abbrev pub unfed : {S : Type 0} → StreamReader S → List ℕ
@@ -55,19 +55,26 @@ abbrev pub PieceIs : Told → (b bytes : List ℕ) → Result (Unit {0}) ReadFau
 PieceIs told b bytes (Err (DamagedStream at)) = (at ≡ told.section_size) × (b ≡ bytes)
 PieceIs told b bytes other = Unit {0}
 
+-- the bytes that are to come, `left` by what is told
+abbrev pub to_come : Told → (b : List ℕ) → (left : ℕ) → List ℕ
+to_come told b left = drop (told.header.size - left) (inflated told.header b)
+
+-- why a part of the stream stops
+abbrev pub StopsBy : Told → (b : List ℕ) → (left : ℕ) → ReadFault → Type 0
+StopsBy told b left why = IsDamage (damage told.header told.section_size b) why × IsAfter (to_come told b left) why
+
 -- what a part of the stream came to
-abbrev pub ComesTo : Told → (b : List ℕ) → Result Progress ReadFault → Type 0
-ComesTo told b (Ok Onward) = Unit {0}
-ComesTo told b (Ok Ended) = damage told.header told.section_size b ≡ None
-ComesTo told b (Err why) = IsDamage (damage told.header told.section_size b) why
+abbrev pub ComesTo : Told → (b : List ℕ) → (left : ℕ) → Result Progress ReadFault → Type 0
+ComesTo told b left (Ok Onward) = Unit {0}
+ComesTo told b left (Ok Ended) = damage told.header told.section_size b ≡ None
+ComesTo told b left (Err why) = StopsBy told b left why
 
 -- these bytes come next
 abbrev pub GivesNext : Told → (b : List ℕ) → (old new : ℕ) → List ℕ → Type 0
-GivesNext told b old new given = (all : List ℕ) → inflated told.header b ≡ Some all
-    → drop (told.header.size - old) all ≡ given ++ drop (told.header.size - new) all
+GivesNext told b old new next = to_come told b old ≡ next ++ to_come told b new
 
 -- a read gave n bytes, or failed
 abbrev pub NextIs : Told → (b : List ℕ) → (old new : ℕ) → Result ℕ ReadFault → List ℕ → Type 0
 NextIs told b old new (Ok n) buffer = GivesNext told b old new (take n buffer)
     × (n ≡ 0 → 0 < length buffer → (damage told.header told.section_size b ≡ None) × (new ≡ 0))
-NextIs told b old new (Err why) buffer = (new ≡ old) × IsDamage (damage told.header told.section_size b) why
+NextIs told b old new (Err why) buffer = (new ≡ old) × StopsBy told b new why

@@ -1,10 +1,10 @@
 -- What the stream of a compressed section comes to. RFC 1950; System V ABI, chapter 4, "Section Compression". b: the
 -- bytes of the stream, and what follows it in the section.
-use Rattle.std.specs.Prelude.{ℕ, ◌+◌, ◌-◌, ◌*◌, ◌/◌, ◌==◌, Bool, if◌then◌else◌, List, length, take, drop, Option}
+use Rattle.std.specs.Prelude.{ℕ, ◌+◌, ◌-◌, ◌*◌, ◌/◌, ◌==◌, if◌then◌else◌, List, length, take, drop, Option}
 use Rattle.std.specs.Prelude.{Some, None}
-use Rattle.std.specs.Prelude.{option_map, Result, Ok, Err}
-use Rattle.dl_zlib.specs.Bits.{Stop, Short, Wrong, bits_of}
-use Rattle.dl_zlib.specs.Zlib.{unzlib}
+use Rattle.std.specs.Prelude.{Ok, Err}
+use Rattle.dl_zlib.specs.Bits.{Giving, Short, Wrong, bits_of}
+use Rattle.dl_zlib.specs.Zlib.{given, unzlib}
 use Rattle.dl_elf.specs.Elf.{bytes_at}
 use Rattle.dl_elf.specs.declared.file.Range.{Range}
 use Rattle.dl_elf.specs.declared.compression.CompressionHeader.{CompressionHeader}
@@ -13,21 +13,17 @@ use Rattle.dl_elf.specs.declared.compression.CompressionHeader.{CompressionHeade
 abbrev pub stream_in : CompressionHeader → Range → List ℕ → List ℕ
 stream_in header range f = drop header.stream_offset (bytes_at range.offset range.size f)
 
--- the output of what was read, where it was a stream
-abbrev pub output_of : Result (List ℕ × List Bool) Stop → Option (List ℕ)
-output_of (Ok found) = Some found.0
-output_of (Err stop) = None
-
--- what it inflates to, no more than the header tells; None where it isn't a stream
-abbrev pub inflated : CompressionHeader → List ℕ → Option (List ℕ)
-inflated header b = option_map (take header.size) (output_of (unzlib (bits_of b)))
+-- what it inflates to, no more than the header tells; where it isn't a stream, what the whole elements before the damage
+-- inflate to
+abbrev pub inflated : CompressionHeader → List ℕ → List ℕ
+inflated header b = take header.size (given b)
 
 -- where what it came to is damage
-abbrev pub damage_by : CompressionHeader → (section_size : ℕ) → List ℕ → Result (List ℕ × List Bool) Stop → Option ℕ
+abbrev pub damage_by : CompressionHeader → (section_size : ℕ) → List ℕ → Giving → Option ℕ
 damage_by header section_size b (Ok found) =
     if length found.0 == header.size then None else Some header.size_offset
-damage_by header section_size b (Err Short) = Some section_size
-damage_by header section_size b (Err (Wrong left)) =
+damage_by header section_size b (Err (Short, out)) = Some section_size
+damage_by header section_size b (Err (Wrong left, out)) =
     Some (header.stream_offset + (8 * length b - left - 1) / 8)
 
 -- the byte of a section of this size that shows its damage: the first of the told size, where the stream inflates to

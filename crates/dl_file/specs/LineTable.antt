@@ -94,11 +94,11 @@ first_refused e f c = first_of (refused e f) c
 
 -- ---- their bytes
 
--- the bytes of a section; of one that is compressed with zlib its name, what its stream inflates to, where it is one,
+-- the bytes of a section; of one that is compressed with zlib its name, what its stream inflates to before its damage,
 -- and the byte that shows the damage, if it has some
 pub data Content : Type 0 where
   Plain : List ℕ → Content
-  Inflated : SectionName → Option (List ℕ) → (damage : Option ℕ) → Content
+  Inflated : SectionName → List ℕ → (damage : Option ℕ) → Content
 
 abbrev pub inflated_content : SectionName → CompressionHeader → Range → List ℕ → Content
 inflated_content name header range f =
@@ -209,7 +209,7 @@ TakesMemory f wanted = (e : Elf) × (opened f ≡ Ok e) × (at : Sections) × Ar
 abbrev pub Gives : {S : Type 0} {g : _} → (S → Option (List ℕ)) → ContentReader S g → Content → Type 0
 Gives all_bytes reader (Plain bytes) = (content_remaining all_bytes reader ≡ Some bytes)
     × (content_fault reader ≡ None) × (stream_name reader ≡ None)
-Gives all_bytes reader (Inflated name bytes damage) = (content_remaining all_bytes reader ≡ bytes)
+Gives all_bytes reader (Inflated name bytes damage) = (content_remaining all_bytes reader ≡ Some bytes)
     × (content_damage all_bytes reader ≡ Some damage) × (content_fault reader ≡ None) × (stream_name reader ≡ Some name)
 
 abbrev pub GivesOption : {S : Type 0} {g : _} → (S → Option (List ℕ)) → Option (ContentReader S g)
@@ -222,7 +222,7 @@ GivesOption all_bytes (Some reader) (Some content) = Gives all_bytes reader cont
 abbrev pub GivesLine : {S : Type 0} {g : _} → (S → Option (List ℕ)) → LineReader S g → Content → Type 0
 GivesLine all_bytes reader (Plain bytes) = (line_remaining all_bytes reader ≡ Some bytes)
     × (line_fault reader ≡ None) × (line_stream reader ≡ None)
-GivesLine all_bytes reader (Inflated name bytes damage) = (line_remaining all_bytes reader ≡ bytes)
+GivesLine all_bytes reader (Inflated name bytes damage) = (line_remaining all_bytes reader ≡ Some bytes)
     × (line_damage all_bytes reader ≡ Some damage) × (line_fault reader ≡ None) × (line_stream reader ≡ Some name)
 
 -- the readers of a file give the bytes of a line table

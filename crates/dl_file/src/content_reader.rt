@@ -86,7 +86,8 @@ impl<'a, S: ReadAt> Read for ContentReader<'a, S> {
         ensures bound { ReadsAtMost result buffer.new }
         ensures bytes { ReadConsumes (content_remaining S.all_bytes self.old)
             (content_remaining S.all_bytes self.new) result buffer.new }
-        ensures ends { EndsBy (content_damage S.all_bytes self.old) (content_fault self.new) result buffer.new }
+        ensures ends { EndsBy (content_damage S.all_bytes self.old) (content_remaining S.all_bytes self.new) (content_fault self.new)
+            result buffer.new }
         ensures damage { content_damage S.all_bytes self.new ≡ content_damage S.all_bytes self.old }
         ensures fails { IfErr result (ContentFails S.all_bytes S.fails_with self.old) }
         ensures fault { Tells (content_fault self.new) result }

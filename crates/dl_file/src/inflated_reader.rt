@@ -41,7 +41,7 @@ impl<'a, S: ReadAt> InflatedReader<'a, S> {
         header: &CompressionHeader,
     ) -> InflatedReader<'a, S>
         ensures bytes { ForBytes (S.all_bytes source.entry.now) (λ f.
-            inflated_remaining S.all_bytes result ≡ inflated header.now (stream_in header.now range f)) }
+            inflated_remaining S.all_bytes result ≡ Some (inflated header.now (stream_in header.now range f))) }
         ensures damage { ForBytes (S.all_bytes source.entry.now) (λ f.
             inflated_damage S.all_bytes result ≡ Some (damage header.now range.size (stream_in header.now range f))) }
         ensures fault { stream_fault result ≡ None }
@@ -94,7 +94,8 @@ impl<'a, S: ReadAt> Read for InflatedReader<'a, S> {
         ensures bound { ReadsAtMost result buffer.new }
         ensures bytes { ReadConsumes (inflated_remaining S.all_bytes self.old)
             (inflated_remaining S.all_bytes self.new) result buffer.new }
-        ensures ends { EndsBy (inflated_damage S.all_bytes self.old) (stream_fault self.new) result buffer.new }
+        ensures ends { EndsBy (inflated_damage S.all_bytes self.old) (inflated_remaining S.all_bytes self.new) (stream_fault self.new)
+            result buffer.new }
         ensures damage { inflated_damage S.all_bytes self.new ≡ inflated_damage S.all_bytes self.old }
         ensures fault { Tells (stream_fault self.new) result }
     {

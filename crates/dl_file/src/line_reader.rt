@@ -75,7 +75,8 @@ impl<'a, S: ReadAt> Read for LineReader<'a, S> {
         ensures bound { ReadsAtMost result buffer.new }
         ensures bytes { ReadConsumes (line_remaining S.all_bytes self.old) (line_remaining S.all_bytes self.new)
             result buffer.new }
-        ensures ends { EndsBy (line_damage S.all_bytes self.old) (line_fault self.new) result buffer.new }
+        ensures ends { EndsBy (line_damage S.all_bytes self.old) (line_remaining S.all_bytes self.new) (line_fault self.new)
+            result buffer.new }
         ensures damage { line_damage S.all_bytes self.new ≡ line_damage S.all_bytes self.old }
         ensures fails { IfErr result (LineReaderFails S.all_bytes S.fails_with self.old) }
         ensures fault { Tells (line_fault self.new) result }

@@ -137,7 +137,7 @@ impl<'a, S: ReadAt> StreamReader<'a, S> {
     fn advance(&mut self, told: &Told) -> Result<Progress, ReadFault>
         requires { AllGiven self.old }
         ensures comes { (b : List ℕ) → StandsIn S.all_bytes told.now self.old b
-            → StandsIn S.all_bytes told.now self.new b × ComesTo told.now b result }
+            → StandsIn S.all_bytes told.now self.new b × ComesTo told.now b self.new.left result }
         ensures left { self.new.left ≡ self.old.left }
         ensures ended { result ≡ Ok Progress.Ended → self.new.left ≡ 0 }
     {

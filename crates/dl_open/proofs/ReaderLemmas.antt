@@ -2,7 +2,7 @@
 use Rattle.std.proofs.Common.{◌≡◌, ◌∙◌, ℕ, ◌+◌, List, length, Option, None, Some, arith, inr}
 use Rattle.std.proofs.Common.{refl, ap, sym, subst, length-append, append-nil}
 use Rattle.std.specs.Io.KnownBytes.{Consumes, IsAtEnd}
-use Rattle.std.specs.Prelude.{◌⊎◌, ◌++◌, IfSome}
+use Rattle.std.specs.Prelude.{◌⊎◌, ◌++◌}
 use Rattle.dl_elf.specs.declared.name.SectionName.{SectionName}
 use Rattle.dl_file.specs.ContentReader.{content_remaining, stream_name}
 use Rattle.dl_file.specs.LineReader.{line_remaining, line_stream}
@@ -22,12 +22,12 @@ use Rattle.dl_open.specs.declared.stop.FileStop.{FileStop}
 use Rattle.dl_open.specs.declared.strings.TheConstants.{STRINGS_LIMIT}
 use Rattle.dl_open.specs.Files.{FileStops}
 use Rattle.dl_open.specs.Stops.{IsAt, StopsAt}
-use Rattle.dl_open.specs.Tables.{KeepingStops, SectionStops, known_bytes, stream_of}
+use Rattle.dl_open.specs.Tables.{KeepingStops, SectionStops, bytes_of, stream_of}
 
 -- a reader of a line section has the bytes that are known
 pub reader_known : {S : Type 0} {g : _} (all_bytes : S → Option (List ℕ)) (reader : LineReader S g) (content : Content)
     (left : Option (List ℕ)) (read : List ℕ) → GivesLine all_bytes reader content
-    → Consumes (line_remaining all_bytes reader) left read → Consumes (known_bytes content) left read
+    → Consumes (line_remaining all_bytes reader) left read → Consumes (Some (bytes_of content)) left read
 reader_known all_bytes reader (Plain bytes) left read gives consumes =
     subst (λ (r : Option (List ℕ)). Consumes r left read) gives.0 consumes
 reader_known all_bytes reader (Inflated name bytes damage) left read gives consumes =
@@ -85,7 +85,7 @@ section_stops all_bytes path (Some other) reader (Some (Inflated name bytes dama
       refl,
       (
         f,
-        stops_known STRINGS_LIMIT bytes left bs f
+        stops_known STRINGS_LIMIT (Some bytes) left bs f
             (subst (λ (r : Option (List ℕ)). Consumes r left bs) known read) stops,
         subst (λ (n : Option SectionName). StopsAt path n f stop) (named ∙ (ap stream_name (sym same) ∙ gives.3)) at,
       ),
@@ -93,24 +93,21 @@ section_stops all_bytes path (Some other) reader (Some (Inflated name bytes dama
 
 -- ---- what is left of a line section
 
--- bytes that were read up to the end are all that are known
-pub all_read : (known left : Option (List ℕ)) (bs : List ℕ) → Consumes known left bs → IsAtEnd left
-    → IfSome known (λ whole. bs ≡ whole)
-all_read None left bs consumes at_end = tt
-all_read (Some xs) None bs consumes at_end = absurd consumes
-all_read (Some xs) (Some ys) bs consumes at_end =
+-- bytes that were read up to the end are all
+pub all_read : (whole : List ℕ) (left : Option (List ℕ)) (bs : List ℕ) → Consumes (Some whole) left bs → IsAtEnd left
+    → bs ≡ whole
+all_read whole None bs consumes at_end = absurd consumes
+all_read whole (Some rest) bs consumes at_end =
     sym (consumes ∙ (ap (λ (l : List ℕ). bs ++ l) at_end ∙ append-nil bs))
 
 -- memory is refused for what is left of them
 pub keeping_refused : (path : List ℕ) (dialect : Dialect) (part : Part) (content : Content) (items bs slice : List ℕ)
-    (places : List Placed) (stop : FileStop) → IfSome (known_bytes content) (λ known. bs ≡ known) → items ≡ bs
+    (places : List Placed) (stop : FileStop) → bs ≡ bytes_of content → items ≡ bs
     → slice ≡ items → places ≡ part.places.items → (Rises places → ⊥) ⊎ WantsCell dialect slice → IsAt path Refused stop
     → KeepingStops path dialect part content stop
 keeping_refused path dialect part content items bs slice places stop whole read viewed placed why at =
     let own = subst (λ (p : List Placed). (Rises p → ⊥) ⊎ WantsCell dialect slice) placed why in
     inr (
-      bs,
-      whole,
-      subst (λ (b : List ℕ). (Rises part.places.items → ⊥) ⊎ WantsCell dialect b) (viewed ∙ read) own,
+      subst (λ (b : List ℕ). (Rises part.places.items → ⊥) ⊎ WantsCell dialect b) (viewed ∙ (read ∙ whole)) own,
       at,
     )

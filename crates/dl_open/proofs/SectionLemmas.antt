@@ -1,7 +1,7 @@
 -- The bytes of a section, read one piece after the other.
 use Rattle.std.proofs.Common.{◌≡◌, ◌≢◌, ◌⊎◌, inl, inr, ℕ, ◌+◌, ◌<◌, ◌≤◌, List, [], ◌++◌, length, take, Option, Some, None}
 use Rattle.std.proofs.Common.{refl, sym, ap, subst, ◌∙◌, arith, append-nil}
-use Rattle.std.proofs.Common.{Bor, length-append, le-leb, Bool, true, false, if◌then◌else◌, nat_le}
+use Rattle.std.proofs.Common.{Bor, length-append, le-leb, Bool, if◌then◌else◌}
 use Rattle.std.proofs.lemmas.Bool.{lt-leb}
 use Rattle.std.proofs.KnownBytes.{Consumes-trans}
 use Rattle.std.specs.Io.KnownBytes.{Consumes, IsAtEnd, Keeps}
@@ -14,7 +14,7 @@ use Rattle.dl_file.specs.declared.line_reader.LineReader.{LineReader}
 use Rattle.dl_file.specs.declared.line_reader.LineReader.TheVariants.{File}
 use Rattle.dl_file.specs.declared.read_fault.ReadFault.{ReadFault}
 use Rattle.dl_file.specs.declared.read_fault.ReadFault.TheVariants.{DamagedStream}
-use Rattle.dl_file.proofs.DamageLemmas.{plain_damage, undamaged}
+use Rattle.dl_file.proofs.DamageLemmas.{plain_damage}
 use Rattle.dl_open.specs.Directories.{bytes_had, within}
 use Rattle.dl_open.specs.Pieces.{IsDamaged, IsPiece, IsRead, IsWhole}
 use Rattle.dl_open.specs.declared.section.Piece.{Piece}
@@ -90,12 +90,9 @@ all_read : {S : Type 0} {g : _} (all_bytes : S → Option (List ℕ)) (reader : 
     → length bs ≤ limit → Some bs ≡ bytes_had limit c
 all_read all_bytes reader (Plain bytes) left limit bs gives consumes ended whole few =
     fits limit bs bytes (known_all _ left bytes bs gives.0 consumes ended) few
-all_read all_bytes reader (Inflated name known (Some at)) left limit bs gives consumes ended whole few =
+all_read all_bytes reader (Inflated name bytes (Some at)) left limit bs gives consumes ended whole few =
     let bad : Some at ≡ None = subst IsWhole gives.1 whole in absurd (cc bad)
-all_read all_bytes reader (Inflated name None None) left limit bs gives consumes ended whole few =
-    let known = undamaged all_bytes reader name gives.3 gives.1 in
-    let bad : None ≡ Some known.0 = sym gives.0 ∙ known.1 in absurd (cc bad)
-all_read all_bytes reader (Inflated name (Some bytes) None) left limit bs gives consumes ended whole few =
+all_read all_bytes reader (Inflated name bytes None) left limit bs gives consumes ended whole few =
     fits limit bs bytes (known_all _ left bytes bs gives.0 consumes ended) few
 
 -- a section can't be had: after bs it is damaged, or has more than `room` bytes
@@ -104,16 +101,15 @@ not_had : {S : Type 0} {g : _} (all_bytes : S → Option (List ℕ)) (reader : L
     → Consumes (line_remaining all_bytes reader) now bs → length bs + room ≡ limit
     → IsDamaged (line_damage all_bytes reader) ⊎ ((p : List ℕ) × (room < length p) × Consumes now new p)
     → None ≡ bytes_had limit c
-not_had all_bytes reader (Inflated name known (Some at)) now new limit room bs gives consumes all why = refl
-not_had all_bytes reader (Inflated name None None) now new limit room bs gives consumes all why = refl
+not_had all_bytes reader (Inflated name bytes (Some at)) now new limit room bs gives consumes all why = refl
 not_had all_bytes reader (Plain bytes) now new limit room bs gives consumes all (inl damaged) =
     let bad : None ≢ None = subst IsDamaged (plain_damage all_bytes reader gives.2) damaged in absurd (bad refl)
-not_had all_bytes reader (Inflated name (Some bytes) None) now new limit room bs gives consumes all (inl damaged) =
+not_had all_bytes reader (Inflated name bytes None) now new limit room bs gives consumes all (inl damaged) =
     let bad : None ≢ None = subst IsDamaged gives.1 damaged in absurd (bad refl)
 not_had all_bytes reader (Plain bytes) now new limit room bs gives consumes all (inr (p, more, next)) =
     let known = known_more _ new bytes (bs ++ p) gives.0 (Consumes-trans _ _ _ bs p consumes next) in
     sym (too_long limit room bytes bs p known.0 known.1 all more)
-not_had all_bytes reader (Inflated name (Some bytes) None) now new limit room bs gives consumes all (inr (p, more, next)) =
+not_had all_bytes reader (Inflated name bytes None) now new limit room bs gives consumes all (inr (p, more, next)) =
     let known = known_more _ new bytes (bs ++ p) gives.0 (Consumes-trans _ _ _ bs p consumes next) in
     sym (too_long limit room bytes bs p known.0 known.1 all more)
 

@@ -18,8 +18,8 @@ within limit bytes = if nat_le (length bytes) limit then Some bytes else None
 
 abbrev pub bytes_had : (limit : ℕ) → Content → Option (List ℕ)
 bytes_had limit (Plain bytes) = within limit bytes
-bytes_had limit (Inflated name known None) = option_and_then (within limit) known
-bytes_had limit (Inflated name known (Some at)) = None
+bytes_had limit (Inflated name bytes None) = within limit bytes
+bytes_had limit (Inflated name bytes (Some at)) = None
 
 -- ---- the directories
 

@@ -1,5 +1,5 @@
 -- What is said of the units of other versions, which aren't read, where an address has no answer.
-use Rattle.std.specs.Prelude.{◌≡◌, ◌⊎◌, ℕ, ◌==◌, if◌then◌else◌, List, ◌++◌, codes, decimal, Option, None, Result}
+use Rattle.std.specs.Prelude.{◌≡◌, ◌⊎◌, ℕ, ◌==◌, if◌then◌else◌, List, ◌++◌, codes, decimal, Option, Some, None, Result}
 use Rattle.std.specs.Prelude.{Ok, Err}
 use Rattle.std.specs.Io.KnownBytes.{Consumes}
 use Rattle.std.specs.declared.io.Error.{Error}
@@ -13,7 +13,7 @@ use Rattle.dl_open.specs.declared.dialect.FileUnits.{FileUnits}
 use Rattle.dl_open.specs.declared.not_read.UnitsNotRead.{UnitsNotRead}
 use Rattle.dl_open.specs.declared.fault.FileFault.{FileFault}
 use Rattle.dl_open.specs.Shown.{shown_word}
-use Rattle.dl_open.specs.Tables.{Refuses, file_dialect, known_bytes}
+use Rattle.dl_open.specs.Tables.{Refuses, bytes_of, file_dialect}
 
 -- ---- the line on standard error
 
@@ -40,7 +40,7 @@ told_of (Err fault) = None
 -- what `passed_over` answers for the bytes of the line section, of which `left` are left; read: which units are read
 abbrev pub PassesOverTable : (read : FileUnits) → LineTable → Result (Option PassedOver) RunFault → Type 0
 PassesOverTable read t answer =
-    (bytes : List ℕ) × (left : Option (List ℕ)) × Consumes (known_bytes t.line) left bytes
+    (bytes : List ℕ) × (left : Option (List ℕ)) × Consumes (Some (bytes_of t.line)) left bytes
     × PassesOver (file_dialect read t) SECTION_LIMIT bytes left answer
 
 -- what is told of a file with these bytes: nothing where its line section can't be had. fails: the errors that opening

@@ -1,7 +1,7 @@
 -- The line table of an ELF file as commands look into it. f: the bytes of the file; t: its line table as dl_file defines
 -- it.
 use Rattle.std.specs.Prelude.{⊤, ◌≡◌, ◌⊎◌, ◌↔◌, ◌<◌, ◌≤◌, ℕ, Bool, true, false, IsTrue, if◌then◌else◌, List, length}
-use Rattle.std.specs.Prelude.{Option, Some, None, IfSome, Ok, Err}
+use Rattle.std.specs.Prelude.{Option, Some, None, option_map, IfSome, Ok, Err}
 use Rattle.std.specs.declared.io.Error.{Error}
 use Rattle.dl_file.specs.declared.line_file.Wanted.{Wanted}
 use Rattle.dl_file.specs.declared.line_file.Wanted.TheVariants.{LineSection, LineAndLineStrings, LineAndStringSections}
@@ -41,26 +41,19 @@ use Rattle.dl_open.specs.Stops.{IsAt, StopsAt}
 abbrev pub Fits : Option (List ℕ) → Type 0
 Fits section = IfSome section (λ bytes. length bytes ≤ STRINGS_LIMIT)
 
--- these are the bytes of a section, where it is there; of one that is inflated what its stream inflates to, where it
--- is one
-abbrev pub IsHeldAs : Option Content → Option (List ℕ) → Type 0
-IsHeldAs None held = held ≡ None
-IsHeldAs (Some (Plain bytes)) held = held ≡ Some bytes
-IsHeldAs (Some (Inflated name known damage)) held =
-    (bytes : List ℕ) × (held ≡ Some bytes) × IfSome known (λ whole. bytes ≡ whole)
+-- the bytes of a section; of one that is inflated those before its damage
+abbrev pub bytes_of : Content → List ℕ
+bytes_of (Plain bytes) = bytes
+bytes_of (Inflated name bytes damage) = bytes
 
+-- these are the bytes of a section, where it is there
 abbrev pub IsHeld : Option Content → Option (List ℕ) → Type 0
-IsHeld content held = IsHeldAs content held × Fits held
+IsHeld content held = (held ≡ option_map bytes_of content) × Fits held
 
 -- s is both sections, whole
 pub record IsWhole (line_str str : Option Content) (s : Strings) : Type 0 where
   pub line_strings : IsHeld line_str s.line_strings
   pub strings : IsHeld str s.strings
-
--- the bytes of a section; of one that is inflated, where its stream is one
-abbrev pub known_bytes : Content → Option (List ℕ)
-known_bytes (Plain bytes) = Some bytes
-known_bytes (Inflated name bytes damage) = bytes
 
 -- the section's name where it is inflated
 abbrev pub stream_of : Content → Option SectionName
@@ -70,7 +63,7 @@ stream_of (Inflated name bytes damage) = Some name
 -- a section stops the program: a read or a growth failed, or it is too long
 abbrev pub SectionStops : (path : List ℕ) → Content → FileStop → Type 0
 SectionStops path content stop =
-    (f : RunFault) × FileStops (known_bytes content) STRINGS_LIMIT f × StopsAt path (stream_of content) f stop
+    (f : RunFault) × FileStops (Some (bytes_of content)) STRINGS_LIMIT f × StopsAt path (stream_of content) f stop
 
 -- one of both does
 abbrev pub StringsStop : (path : List ℕ) (line_str str : Option Content) → FileStop → Type 0
@@ -99,15 +92,13 @@ file_dialect units t = class_dialect units t.order t.class
 
 -- what is left of the section's bytes
 abbrev pub IsKept : Dialect → Part → Content → (kept : List ℕ) → Type 0
-IsKept dialect part content kept = (whole : List ℕ) × IfSome (known_bytes content) (λ known. whole ≡ known)
-    × Keeps dialect part.places.items part.section 0 whole kept
+IsKept dialect part content kept = Keeps dialect part.places.items part.section 0 (bytes_of content) kept
 
 -- they can't be read whole, or memory is refused: for a header, or for places that don't rise
 abbrev pub KeepingStops : (path : List ℕ) → Dialect → Part → Content → FileStop → Type 0
 KeepingStops path dialect part content stop =
-    ((f : RunFault) × FileStops (known_bytes content) SECTION_LIMIT f × StopsAt path (stream_of content) f stop)
-    ⊎ ((whole : List ℕ) × IfSome (known_bytes content) (λ known. whole ≡ known)
-    × ((Rises part.places.items → ⊥) ⊎ WantsCell dialect whole) × IsAt path Refused stop)
+    ((f : RunFault) × FileStops (Some (bytes_of content)) SECTION_LIMIT f × StopsAt path (stream_of content) f stop)
+    ⊎ (((Rises part.places.items → ⊥) ⊎ WantsCell dialect (bytes_of content)) × IsAt path Refused stop)
 
 -- ---- the file. fails: the errors that opening and reading it may give
 
@@ -129,7 +120,7 @@ OpeningStops fails path f wanted stop = (fault : FileFault) × Refuses fails f w
 -- a read of its stream fails
 abbrev pub IsNamed : Dialect → Content → (names : Bool) → Type 0
 IsNamed dialect (Plain bytes) names = IsTrue names ↔ Names dialect bytes
-IsNamed dialect (Inflated name known damage) names = IfSome known (λ bytes. Names dialect bytes → IsTrue names)
+IsNamed dialect (Inflated name bytes damage) names = Names dialect bytes → IsTrue names
 
 -- it can't be told: a read failed, or memory was refused for a header, or the section is too long
 abbrev pub StopsNaming : Dialect → (known : Option (List ℕ)) → RunFault → Type 0
@@ -140,7 +131,7 @@ StopsNaming dialect known other = ⊥
 
 abbrev pub NamingStops : (path : List ℕ) → Dialect → Content → FileStop → Type 0
 NamingStops path dialect content stop =
-    (f : RunFault) × StopsNaming dialect (known_bytes content) f × StopsAt path (stream_of content) f stop
+    (f : RunFault) × StopsNaming dialect (Some (bytes_of content)) f × StopsAt path (stream_of content) f stop
 
 abbrev pub with_strings : (names : Bool) → Wanted
 with_strings names = if names then LineAndStringSections else LineAndLineStrings

@@ -15,7 +15,7 @@ use Rattle.dl_open.specs.declared.dialect.FileUnits.{FileUnits}
 use Rattle.dl_open.specs.declared.object_part.Part.{Part}
 use Rattle.dl_open.specs.declared.stop.FileStop.{FileStop}
 use Rattle.dl_open.specs.Parts.{PartStops}
-use Rattle.dl_open.specs.Tables.{IsWhole, file_dialect, known_bytes, stream_of}
+use Rattle.dl_open.specs.Tables.{IsWhole, bytes_of, file_dialect, stream_of}
 use Rattle.dl_open.proofs.WiderLemmas.{part_stops_weaker, table_stops_weaker}
 use Rattle.dl_work.specs.declared.command.Command.{Command}
 use Rattle.dl_work.specs.Asked.{Does, WithoutTable, is_copy, looks_up, sections_of}
@@ -37,7 +37,7 @@ pub ran : (units : FileUnits) (path : Text) (command : Command) (t : LineTable)
     (start now left remaining : Option (List ℕ)) (hears : List Damage → Type 0)
     (s strings : Strings) (dialect : Dialect) (limit : ℕ) (answer : Result Survey RunFault)
     (result : Result Survey FileStop)
-    → ((read : List ℕ) → Consumes remaining left read → Consumes (known_bytes t.line) left read)
+    → ((read : List ℕ) → Consumes remaining left read → Consumes (Some (bytes_of t.line)) left read)
     → IsWhole t.line_str t.str s → dialect ≡ file_dialect units t → strings ≡ s → limit ≡ SECTION_LIMIT
     → (read : List ℕ) × Consumes remaining left read
     × Does command dialect strings limit read left start now hears answer
@@ -59,9 +59,9 @@ ran units path command t start now left remaining hears s strings dialect limit 
 
 -- the bytes of a section that is in memory
 pub plain_known : (content : Content) (bytes : List ℕ) (left : Option (List ℕ)) (read : List ℕ) → content ≡ Plain bytes
-    → Consumes (Some bytes) left read → Consumes (known_bytes content) left read
+    → Consumes (Some bytes) left read → Consumes (Some (bytes_of content)) left read
 plain_known content bytes left read is consumes =
-    subst (λ (c : Content). Consumes (known_bytes c) left read) (sym is) consumes
+    subst (λ (c : Content). Consumes (Some (bytes_of c)) left read) (sym is) consumes
 
 -- the command is done over the sequences of a part
 pub of_part : (units : FileUnits) (path : Text) (command : Command) (t : LineTable) (part : Part) (chosen : Option Part)

@@ -20,7 +20,7 @@ use Rattle.dl_open.specs.declared.stop.FileStop.{FileStop}
 use Rattle.dl_open.specs.Parts.{IsPart, PartStops}
 use Rattle.dl_open.specs.Stops.{IsAt, StopsAt}
 use Rattle.dl_open.specs.Tables.{HasTable, IsKept, IsWhole, KeepingStops, StringsStop, TableStops, file_dialect}
-use Rattle.dl_open.specs.Tables.{known_bytes, stream_of}
+use Rattle.dl_open.specs.Tables.{bytes_of, stream_of}
 use Rattle.dl_work.specs.declared.command.Command.{Command}
 use Rattle.dl_work.specs.Asked.{Does, Outcome, WithoutTable, is_copy, looks_up, sections_of}
 
@@ -40,7 +40,7 @@ pub record RunsOn (units : FileUnits) (path : Text) (command : Command) (t : Lin
   pub whole : IsWhole t.line_str t.str strings
   pub read : List ℕ
   pub left : Option (List ℕ)
-  pub bytes : Consumes (known_bytes t.line) left read
+  pub bytes : Consumes (Some (bytes_of t.line)) left read
   pub answer : Result Survey RunFault
   pub done : Does command (file_dialect units t) strings SECTION_LIMIT read left start now hears answer
   pub ends : EndsAt path (stream_of t.line) answer result

@@ -1,15 +1,18 @@
 pub mod AdlerLemmas
+pub mod AskLemmas
 pub mod BaseLemmas
 pub mod BlockLemmas
 pub mod BufferLemmas
 pub mod CheckLemmas
 pub mod CodeLaws
+pub mod CodeReads
 pub mod CopyLemmas
 pub mod DecodeLemmas
 pub mod FeedLemmas
 pub mod FieldLemmas
 pub mod FieldsLemmas
 pub mod FrontLemmas
+pub mod FuelLemmas
 pub mod HeaderLemmas
 pub mod KeptLemmas
 pub mod LongLemmas
@@ -17,6 +20,7 @@ pub mod OnwardLemmas
 pub mod LengthLemmas
 pub mod PieceLemmas
 pub mod PiecesLemmas
+pub mod ProgressLemmas
 pub mod ReadLemmas
 pub mod RepeatLemmas
 pub mod RunLemmas

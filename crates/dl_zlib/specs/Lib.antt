@@ -11,6 +11,7 @@ pub mod Kept
 pub mod Turns
 pub mod Blocks
 pub mod Onward
+pub mod Progress
 pub mod StreamStands
 -- Of contracts inside the crate, and of proofs; no public contract reaches these.
 pub mod BasesKept

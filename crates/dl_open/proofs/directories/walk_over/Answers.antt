@@ -1,5 +1,5 @@
 use Rattle.std.proofs.Common.{◌++◌, sym, ◌∙◌}
-use Rattle.dl_open.proofs.SectionLemmas.{had_all, lost, taken}
+use Rattle.dl_open.proofs.SectionLemmas.{lost, taken}
 use Rattle.dl_open.proofs.directories.walk_over.Goals as goal
 
 pub loop-walk-preserved : goal.loop-walk-preserved

@@ -20,7 +20,7 @@ returns-in-Ok-clause-damage g c = c.read.ensures.damage ∙ c.loop.invariant.dam
 
 pub returns-in-Some-DamagedStream-clause-read : goal.returns-in-Some-DamagedStream-clause-read
 returns-in-Some-DamagedStream-clause-read g c = damaged _ _ _ _ c.loop.invariant.damage
-    (sym c.last_fault.ensures ∙ c.in-Some-DamagedStream.is ∙ ap Some c.in-Some-DamagedStream.field-0-is) c.in-Err.ensures.ends
+    (sym c.last_fault.ensures ∙ c.in-Some-DamagedStream.is ∙ ap Some c.in-Some-DamagedStream.field-0-is) c.in-Err.ensures.ends.0
 
 pub returns-in-Some-DamagedStream-clause-damage : goal.returns-in-Some-DamagedStream-clause-damage
 returns-in-Some-DamagedStream-clause-damage g c = c.read.ensures.damage ∙ c.loop.invariant.damage

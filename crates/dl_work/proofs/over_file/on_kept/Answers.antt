@@ -10,7 +10,7 @@ returns-in-Err g c units t line ordered whole untold =
     let does = c.in-Err.ensures in
     ran _ _ _ t _ _ _ (Some c.args.bytes.now) (g.D.DamageSink.hears c.args.damages.now c.run.new.damages) _ _ _ _ _ _
     (λ read.
-    plain_known t.line c.args.bytes.now _ read line) whole ordered refl
+    plain_known t.line c.args.bytes.now (Some c.run.new.input.now) read line) whole ordered refl
     c.requires (does.0, does.1, does.2 untold) (
       c.at.result,
       refl,

@@ -1,5 +1,6 @@
 use Rattle.std.proofs.Common.{Ok, Err}
 use Rattle.dl_elf.specs.Reader.{known_range}
+use Rattle.dl_file.specs.ContentReader.{left_of}
 use Rattle.dl_file.proofs.InflatedLemmas.{ends_known, fails_known, follows_on, gives_known, keeps_known, next_known}
 use Rattle.dl_file.proofs.inflated_reader.InflatedReaderRead.read.Goals as goal
 
@@ -29,7 +30,8 @@ pub returns-in-Ok-clause-ends : goal.returns-in-Ok-clause-ends
 returns-in-Ok-clause-ends g c =
     let r = c.args.self.now in
     let known = known_range (g.S.ReadAt.all_bytes r.source.now) r.place.offset r.place.size in
-    ends_known r.told known r.at.left c.read_next.new.self.left c.in-Ok.n c.read_next.new.buffer
+    ends_known r.told known (left_of r.told.header known c.read_next.new.self.left) r.at.left c.read_next.new.self.left
+    c.in-Ok.n c.read_next.new.buffer
     (next_known g.S.ReadAt.all_bytes r.source.now r.place r.told r.at c.read_next.new.self (Ok c.in-Ok.n)
     c.read_next.new.buffer r.follows c.in-Ok.ensures.next)
 

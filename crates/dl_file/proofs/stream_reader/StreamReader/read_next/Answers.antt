@@ -1,6 +1,6 @@
-use Rattle.std.proofs.Common.{◌≡◌, ◌-◌, take, drop, arith, ap, subst, sym, Ok}
+use Rattle.std.proofs.Common.{◌≡◌, take, arith, ap, subst, sym, Ok}
 use Rattle.std.proofs.lemmas.Result.{err_from_is_err_and}
-use Rattle.dl_file.specs.InStep.{ComesTo, GivesNext}
+use Rattle.dl_file.specs.InStep.{ComesTo, GivesNext, to_come}
 use Rattle.dl_file.specs.declared.stream_reader.Progress.{Progress}
 use Rattle.dl_file.proofs.stream_reader.StreamReader.read_next.Goals as goal
 
@@ -36,9 +36,9 @@ returns-in-Ended-clause-next g c = λ b s.
     omega (arith, c.advance.ensures.left, c.give-n.ensures.left, c.loop.invariant.left, c.if-n-gt0.false) in (
       came.0,
       (
-        λ all is. ap (λ k. drop (told.header.size - k) all) (sym left),
+        ap (to_come told b) (sym left),
         λ none room. (
-          subst (λ (p : Progress). ComesTo told b (Ok p)) c.in-Ended.is came.1,
+          subst (λ (p : Progress). ComesTo told b c.advance.new.self.left (Ok p)) c.in-Ended.is came.1,
           c.in_ok-advance.ensures.ended (ap Ok c.in-Ended.is),
         ),
       ),
