@@ -1,14 +1,14 @@
 -- The bits of stretches in their bytes, one more.
 use Rattle.std.proofs.Common.{◌≡◌, ℕ, zero, suc, ◌+◌, ◌-◌, ◌*◌, ◌/◌, ◌%◌, ◌<◌, ◌≤◌, ◌^◌, List, [], ◌∷◌, ◌++◌, length, map, set, replicate}
-use Rattle.std.proofs.Common.{arith, refl, sym, ap, ap₂, subst, ◌∙◌, Option, Some, None, true, false, inl, inr, append_assoc, get_or, min, length-append}
+use Rattle.std.proofs.Common.{arith, refl, sym, ap, ap₂, ◌∙◌, Option, Some, None, true, false, inl, inr, append_assoc, get_or, min, length-append}
 use Rattle.std.proofs.lemmas.List.Folds.{concat-append}
-use Rattle.std.specs.Prelude.{if◌then◌else◌, slice_get}
+use Rattle.std.specs.Prelude.{if◌then◌else◌}
 use Rattle.std.specs.List.{range_with_len, concat}
 use Rattle.std.proofs.lemmas.List.{map-append, append-nil, replicate_more, length-map}
 use Rattle.std.proofs.lemmas.Bool.{cases_lt, cases_eq}
 use Rattle.dl_stretch.specs.declared.told.Told.{Told}
 use Rattle.dl_stretch.specs.declared.stretch.Stretch.{Stretch}
-use Rattle.dl_pack.specs.Columns.{told_bit, statement_bit, bit_at, byte_at, statement_bytes, padded}
+use Rattle.dl_pack.specs.Columns.{told_bit, bit_at, byte_at, statement_bytes, padded}
 use Rattle.dl_index.specs.Layout.{rounded}
 use Rattle.dl_pack.specs.Written.{bits_in, bits_room}
 use Rattle.dl_pack.proofs.BitLemmas.{below_8}

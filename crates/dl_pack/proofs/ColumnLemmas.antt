@@ -1,16 +1,8 @@
 -- Columns and bits, one number more.
-use borrow.Rule.Slice.PartMut.{put_mid, post_of}
-use Rattle.std.proofs.Common.{◌≡◌, ℕ, zero, suc, ◌+◌, ◌*◌, ◌<◌, ◌≤◌, List, [], ◌∷◌, ◌++◌, length, get_or, take, map, max}
-use Rattle.std.proofs.Common.{arith, refl, sym, ap, ap₂, ◌∙◌, append_assoc, length-append, length-drop, drop}
+use Rattle.std.proofs.Common.{◌≡◌, ℕ, zero, suc, ◌+◌, List, [], ◌∷◌, ◌++◌, max}
+use Rattle.std.proofs.Common.{arith, refl, ap, ◌∙◌}
 use Rattle.std.specs.List.{range_with_len}
-use Rattle.std.proofs.Math.Nat.{mul-le-mul_right}
-use Rattle.std.proofs.lemmas.Grind.{flat_map-append}
-use Rattle.std.proofs.lemmas.List.{take_more, map-append, append-nil, length-take-le}
-use Rattle.std.proofs.lemmas.Slice.{take-put_mid}
-use Rattle.dl_num.specs.Fixed.{little_bytes}
-use Rattle.dl_stretch.specs.declared.stretch.Stretch.{Stretch}
-use Rattle.dl_pack.specs.Columns.{column_bytes, greatest}
-use Rattle.dl_pack.proofs.ItemLemmas.{size_is}
+use Rattle.dl_pack.specs.Columns.{greatest}
 
 pub greatest_push : (numbers : List ℕ) (n : ℕ) → greatest (numbers ++ n ∷ []) ≡ max n (greatest numbers)
 greatest_push [] n = refl

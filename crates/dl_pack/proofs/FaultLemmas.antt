@@ -1,14 +1,12 @@
 -- Files that have no name.
-use Rattle.std.proofs.Common.{◌≡◌, ℕ, zero, suc, ◌<◌, ◌≤◌, List, [], ◌∷◌, ◌++◌, length, get_or, refl, sym, subst, arith}
+use Rattle.std.proofs.Common.{◌≡◌, ℕ, ◌≤◌, List, [], ◌∷◌, ◌++◌, length, refl, sym, subst, arith}
 use Rattle.std.specs.Prelude.{Some}
-use Rattle.std.specs.List.{Contains, flat_map}
-use Rattle.std.proofs.lemmas.List.{append-nil}
-use Rattle.std.proofs.lemmas.List.Elements.{Contains-append_left, Contains-append_right}
+use Rattle.std.specs.List.{Contains}
 use Rattle.dl_stretch.specs.declared.told.Told.{Told}
 use Rattle.dl_stretch.specs.declared.stretch.Stretch.{Stretch}
 use Rattle.dl_pack.specs.declared.fault.PackFault.{PackFault}
 use Rattle.dl_pack.specs.declared.fault.PackFault.TheVariants as fault
-use Rattle.dl_pack.specs.IndexOf.{told_files, files_of_stretch}
+use Rattle.dl_pack.specs.IndexOf.{told_files}
 use Rattle.dl_pack.specs.Faults.{TellsUnnamed, MentionFails, PackFails, TotalsFail}
 
 -- a stretch that tells this

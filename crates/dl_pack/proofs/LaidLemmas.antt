@@ -1,7 +1,7 @@
 -- The columns and bits of an index, of stretches of which the totals are known.
-use Rattle.std.proofs.Common.{◌≡◌, ℕ, ◌+◌, ◌<◌, ◌≤◌, ◌^◌, List, [], ◌∷◌, ◌++◌, length, map, min, Option, Some, None}
-use Rattle.std.proofs.Common.{arith, refl, sym, ap, ap₂, subst, ◌∙◌, length-append}
-use Rattle.std.specs.List.{All, concat, flat_map}
+use Rattle.std.proofs.Common.{◌≡◌, ℕ, ◌<◌, ◌^◌, List, [], ◌∷◌, ◌++◌, length, map, Option, Some, None}
+use Rattle.std.proofs.Common.{arith, sym, ap, ap₂, subst, ◌∙◌}
+use Rattle.std.specs.List.{All, flat_map}
 use Rattle.std.proofs.lemmas.List.Elements.{All-nil, All-cons}
 use Rattle.dl_index.specs.Columns.{size_of}
 use Rattle.dl_stretch.specs.declared.stretch.Stretch.{Stretch}
@@ -15,7 +15,7 @@ use Rattle.dl_pack.specs.Fits.{NumbersFit}
 use Rattle.dl_pack.specs.IndexOf.{base_of, file_order, files_told}
 use Rattle.dl_pack.specs.Mentioned.{order_of}
 use Rattle.dl_pack.specs.Totals.{OrderOr, Totalled}
-use Rattle.dl_pack.specs.Writing.{parts_laid, HasWidths, IsFresh, TotalsFit, Written}
+use Rattle.dl_pack.specs.Writing.{HasWidths, TotalsFit, Written}
 use Rattle.dl_pack.proofs.TotalLemmas.{file_greatest}
 use Rattle.dl_pack.proofs.WriterLemmas.{all_laid}
 

@@ -1,9 +1,9 @@
 -- What is known of stretches, of one more.
-use Rattle.std.proofs.Common.{◌≡◌, ℕ, zero, suc, ◌+◌, ◌-◌, ◌<◌, ◌≤◌, ◌^◌, Bool, true, false, List, [], ◌∷◌, ◌++◌, length, map, max, min}
+use Rattle.std.proofs.Common.{◌≡◌, ℕ, ◌+◌, ◌-◌, ◌<◌, ◌≤◌, ◌^◌, Bool, true, false, List, [], ◌∷◌, ◌++◌, length, map, max, min}
 use Rattle.std.proofs.Common.{arith, refl, sym, ap, ap₂, subst, ◌∙◌, length-append, Option, Some, None, eqb, ◌⊎◌, inl, inr}
 use Rattle.std.specs.Prelude.{if◌then◌else◌, is_some}
-use Rattle.std.specs.List.{All, Contains, flat_map}
-use Rattle.std.proofs.lemmas.Bool.{eqb-true, eqb-false}
+use Rattle.std.specs.List.{All, Contains}
+use Rattle.std.proofs.lemmas.Bool.{eqb-true}
 use Rattle.std.proofs.lemmas.Grind.{flat_map-append}
 use Rattle.std.proofs.lemmas.List.{append-nil, map-append}
 use Rattle.std.proofs.lemmas.List.Elements.{All-push, All-append, Contains-append_left, Contains-append_right}
@@ -15,8 +15,8 @@ use Rattle.dl_pack.specs.declared.fault.PackFault.TheVariants as fault
 use Rattle.dl_pack.specs.declared.totals.StartTotals.{StartTotals}
 use Rattle.dl_pack.specs.declared.totals.RowTotals.{RowTotals}
 use Rattle.dl_pack.specs.Columns.{told_number, number_of, column_of, greatest}
-use Rattle.dl_pack.specs.Faults.{TellsUnnamed, MentionFails}
-use Rattle.dl_pack.specs.IndexOf.{told_files, files_of_stretch, files_told, file_order, base_of}
+use Rattle.dl_pack.specs.Faults.{MentionFails}
+use Rattle.dl_pack.specs.IndexOf.{told_files, files_of_stretch, files_told, file_order}
 use Rattle.dl_pack.specs.Numbering.{number_in, with_mention, mentioned}
 use Rattle.dl_pack.specs.Totals.{AreStarts, AreRows, OrderOr}
 use Rattle.dl_pack.proofs.ColumnLemmas.{greatest_push}

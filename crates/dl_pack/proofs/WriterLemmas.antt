@@ -1,6 +1,6 @@
 -- What is written of stretches, of one more, and of all.
-use Rattle.std.proofs.Common.{◌≡◌, ℕ, ◌+◌, ◌-◌, ◌*◌, ◌/◌, ◌<◌, ◌≤◌, ◌^◌, List, [], ◌∷◌, ◌++◌, length, map, take, drop}
-use Rattle.std.proofs.Common.{arith, refl, sym, ap, ap₂, subst, ◌∙◌, length-append}
+use Rattle.std.proofs.Common.{◌≡◌, ℕ, ◌+◌, ◌*◌, ◌<◌, ◌≤◌, List, [], ◌∷◌, ◌++◌, length, map, take, drop}
+use Rattle.std.proofs.Common.{arith, refl, sym, ap, ap₂, ◌∙◌, length-append}
 use Rattle.std.specs.List.{concat, flat_map, range_with_len}
 use Rattle.std.proofs.Math.Nat.{mul-le-mul_right}
 use Rattle.std.proofs.lemmas.List.{append-nil, length-map, take_all, drop_all}
@@ -13,10 +13,10 @@ use Rattle.dl_pack.specs.declared.columns.Column.{Column}
 use Rattle.dl_pack.specs.declared.columns.Column.TheVariants as kind
 use Rattle.dl_pack.specs.declared.writer.Cursor.{Cursor}
 use Rattle.dl_pack.specs.declared.writer.ColumnWriter.{ColumnWriter}
-use Rattle.dl_pack.specs.Columns.{number_of, column_of, column_bytes, columns_of, greatest, least_size, padded, part_by, width_by, statement_bytes, byte_at}
+use Rattle.dl_pack.specs.Columns.{number_of, column_of, column_bytes, columns_of, padded, part_by, width_by, statement_bytes, byte_at}
 use Rattle.dl_pack.specs.Mentioned.{order_of}
 use Rattle.dl_pack.specs.Written.{region, bits_in, room_of, bits_room}
-use Rattle.dl_pack.specs.Writing.{part_of, column_region, parts_laid, IsFresh, WentOn, Written, AreWritten}
+use Rattle.dl_pack.specs.Writing.{part_of, column_region, parts_laid, IsFresh, WentOn, AreWritten}
 use Rattle.dl_pack.proofs.BitPlaces.{bits_padded, range_len}
 use Rattle.dl_pack.proofs.ItemLemmas.{items_len, size_is}
 use Rattle.dl_pack.proofs.RegionLemmas.{region_len, column_more, parts_len}

@@ -1,4 +1,4 @@
-use Rattle.std.proofs.Common.{◌≡◌, ◌+◌, ◌++◌, ◌-◌, Bool, length, take, replicate, arith, ap, sym, ◌∙◌, refl, ℕ, []}
+use Rattle.std.proofs.Common.{◌≡◌, ◌++◌, ◌-◌, Bool, length, take, arith, ap, ◌∙◌, refl, []}
 use Rattle.std.specs.Prelude.{if◌then◌else◌}
 use Rattle.std.proofs.lemmas.List.{take_all}
 use Rattle.dl_index.specs.Columns.{size_of}

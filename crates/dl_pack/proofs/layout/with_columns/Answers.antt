@@ -1,7 +1,6 @@
-use Rattle.std.proofs.Common.{◌≡◌, ℕ, ◌<◌, ◌≤◌, ◌++◌, ◌∷◌, [], List, length, map, arith, ap, ap₂, sym, subst, ◌∙◌, length-append}
+use Rattle.std.proofs.Common.{◌++◌, ◌∷◌, [], length, map, arith, ap, ap₂, sym, subst, ◌∙◌, length-append}
 use Rattle.std.specs.List.{flat_map}
 use Rattle.dl_index.specs.Columns.{size_of}
-use Rattle.dl_stretch.specs.declared.stretch.Stretch.{Stretch}
 use Rattle.dl_pack.specs.Columns.{columns_of, padded, part_by, statement_bytes}
 use Rattle.dl_pack.specs.IndexOf.{base_of}
 use Rattle.dl_pack.specs.Mentioned.{order_of}

@@ -1,11 +1,10 @@
-use Rattle.std.proofs.Common.{◌≡◌, ◌<◌, ◌≤◌, ◌^◌, ◌++◌, List, ℕ, refl, ap, ap₂, ◌∙◌, sym, replicate, length, map, rules, subst, arith, length-append}
+use Rattle.std.proofs.Common.{◌≡◌, ◌<◌, ◌^◌, ◌++◌, ℕ, ap, ◌∙◌, sym, replicate, length, map, rules, subst, arith, length-append}
 use Rattle.std.specs.List.{flat_map}
 use Rattle.std.specs.Prelude.{if◌then◌else◌}
 use Rattle.std.proofs.lemmas.List.{length-replicate}
-use Rattle.dl_stretch.specs.declared.stretch.Stretch.{Stretch}
-use Rattle.dl_pack.specs.Columns.{columns_of, padded, part_by, statement_bytes, width_by}
+use Rattle.dl_pack.specs.Columns.{columns_of, padded, width_by}
 use Rattle.dl_pack.specs.Fits.{NumbersFit, AreKnown}
-use Rattle.dl_pack.specs.IndexOf.{base_of, file_order, text_order, tables_by, index_by, body_by}
+use Rattle.dl_pack.specs.IndexOf.{base_of, text_order, tables_by, index_by, body_by}
 use Rattle.dl_pack.specs.Mentioned.{order_of}
 use Rattle.dl_pack.specs.Shown.{files_of, texts_of}
 use Rattle.dl_pack.specs.Tables.{texts_at, total_len}

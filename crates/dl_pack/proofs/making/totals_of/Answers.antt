@@ -1,4 +1,4 @@
-use Rattle.std.proofs.Common.{◌∙◌, ap, sym, subst, length, []}
+use Rattle.std.proofs.Common.{◌∙◌, sym, subst, length, []}
 use Rattle.dl_pack.specs.Mentioned.{order_of}
 use Rattle.dl_pack.specs.Shown.{files_of}
 use Rattle.dl_pack.specs.Totals.{Totalled, OrderOr}

@@ -1,4 +1,3 @@
-use borrow.Rule.Slice.PartMut.{put_mid, post_of}
 use Rattle.std.proofs.Common.{◌≡◌, ◌+◌, ◌-◌, ◌++◌, take, drop, ap, ap₂, sym, ◌∙◌, arith}
 use Rattle.dl_num.specs.Fixed.{little_bytes}
 use Rattle.dl_pack.proofs.ByteLemmas.{lowest_bytes}

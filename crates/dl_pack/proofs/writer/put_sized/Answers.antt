@@ -1,4 +1,4 @@
-use Rattle.std.proofs.Common.{◌≡◌, ◌∙◌, arith, refl, length}
+use Rattle.std.proofs.Common.{◌∙◌, arith, refl}
 use Rattle.dl_num.specs.Fixed.{little_bytes}
 use Rattle.dl_pack.proofs.ItemLemmas.{size_is}
 use Rattle.dl_pack.proofs.RegionLemmas.{there, put_in}

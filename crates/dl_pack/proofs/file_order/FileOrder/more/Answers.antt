@@ -1,4 +1,4 @@
-use Rattle.std.proofs.Common.{◌∙◌, sym, subst}
+use Rattle.std.proofs.Common.{◌∙◌, sym}
 use Rattle.dl_pack.specs.Mentioned.{order_of, count_of}
 use Rattle.dl_pack.proofs.TotalLemmas.{order_stays, order_more, fails_here}
 use Rattle.dl_pack.proofs.file_order.FileOrder.more.Goals as goal
