@@ -1,4 +1,4 @@
--- The abbreviations of a table that are kept. No promise rests on how this is said. b: the bytes from the table on.
+-- The abbreviations of a table that are kept; b: the bytes from the table on. No promise rests on how this is said.
 use Rattle.std.specs.Prelude.{◌≡◌, ℕ, ◌==◌, Bool, not, if◌then◌else◌, List, length, drop, Option, Some, None, IfSome, option_map}
 use Rattle.std.specs.Prelude.{Result, Ok, Err}
 use Rattle.std.specs.BTreeMap.{get}

@@ -1,4 +1,4 @@
--- The bytes of .debug_abbrev that are held.
+-- The bytes of .debug_abbrev that are held. No promise rests on how this is said.
 use Rattle.std.specs.Prelude.{ℕ, List}
 use Rattle.dl_info.specs.declared.abbreviations.Abbreviations.{Abbreviations}
 

@@ -1,5 +1,4 @@
--- Runs and spans of units that have ended, of the current unit, and of the current sequence. No promise rests on how this
--- is said.
+-- Runs and spans of whole units, of the current one, and of a sequence. No promise rests on how this is said.
 use Rattle.std.specs.Prelude.{ℕ, ◌+◌, ◌≤◌, List, length, take, drop}
 use Rattle.std.specs.List.{All}
 use Rattle.dl_look.specs.declared.probed.Span.{Span}
