@@ -3,6 +3,7 @@
 use crate::vectors::FREE_PASCAL;
 use dl_dirs::{CompilationDirectories, Directories, Texts, Walk};
 use dl_head::{AddressSize, Dialect, Older};
+use dl_memory::NoMemory;
 use dl_num::Order;
 use dl_run::{Options, RunFault, SECTION_LIMIT, Summary, copy_to_5, dump};
 use std::alloc::Global;
