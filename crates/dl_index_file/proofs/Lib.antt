@@ -1,4 +1,5 @@
 pub mod FileLemmas
+pub mod FinderLemmas
 pub mod NarrowLemmas
 pub mod OpeningLemmas
 pub mod PlaceLemmas

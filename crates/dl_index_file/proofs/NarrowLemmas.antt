@@ -3,14 +3,10 @@ use Rattle.std.proofs.Common.{◌≡◌, ℕ, suc, ◌+◌, ◌-◌, ◌<◌, �
 use Rattle.std.proofs.lemmas.Bool.{cases_eq}
 use Rattle.std.proofs.lemmas.Bool.Decides.{leb_tells}
 use Rattle.dl_index.specs.LookUp.{Rise, IsLastUpto, FindsLast}
+use Rattle.dl_index_file.specs.Narrowed.{Narrowed}
 
 lt_or_le : (m n : ℕ) → (m < n) ⊎ (n ≤ m)
 lt_or_le m n = ⊎_elim (λ u. inr u.1) (λ a. inl a.1) (leb_tells n m)
-
--- the last start that isn't above x is one of those from low on, `left` of them
-pub record Narrowed (start : ℕ → ℕ) (count x low left : ℕ) : Type 0 where
-  pub upto : start 0 ≤ x → start low ≤ x
-  pub next : Rise start count → low + left < count → x < start (low + left)
 
 pub all_left : (start : ℕ → ℕ) (count x : ℕ) → Narrowed start count x 0 count
 all_left start count x = record { upto = λ h. h; next = λ rise less. absurd (omega arith) }

@@ -6,8 +6,8 @@ ghost use Rattle.dl_index_file.specs.Kept.{IsKept, StandsIn};
 
 use crate::fault::TextFault;
 use crate::filling::{fill_in, number_at};
+use crate::finder::FileFinder;
 use crate::parts::Places;
-use crate::search::last_upto;
 use crate::text::read_range;
 use dl_elf::{Range, ReadAt};
 use dl_index::{HEADER_LEN, Header, Numbers, Width};
@@ -69,7 +69,7 @@ impl<'a, S: ReadAt> IndexFile<'a, S> {
     ghost use Rattle.dl_elf.specs.Elf.{bytes_at};
     ghost use Rattle.dl_elf.specs.Sections.{range_within};
     ghost use Rattle.dl_index_file.specs.FindsIn.{FindsIn};
-    ghost use Rattle.dl_index_file.specs.Steps.{IsLastStart, StretchTells, TextIs, TextsAre, HasNumbers};
+    ghost use Rattle.dl_index_file.specs.Steps.{StretchTells, TextIs, TextsAre, HasNumbers};
 
     /// Whether each sequence counts, a dead one too.
     pub fn has_all_sequences(&self) -> bool
@@ -98,19 +98,13 @@ impl<'a, S: ReadAt> IndexFile<'a, S> {
         self.header.count
     }
 
-    /// What is told of an address: nothing in a gap, and before the first stretch. What stands after the header wasn't
-    /// checked: nothing is told either where the number of a file or text, or the place of a text, lies outside. No more
-    /// than 64 pieces are read. The error is that of a read, or of the kind `UnexpectedEof` where the file has become
-    /// shorter since it was opened.
+    /// What is told of an address, as by [`FileFinder::find`], which keeps what it read for the next address.
     pub fn find(&self, address: u64) -> io::Result<Option<FileFound>>
         ensures finds { ForBytes (S.all_bytes (source_of self.now)) (λ b. IfOk result (FindsIn b address)) }
         ensures fails { IfErr result
             (ReadFails (S.all_bytes (source_of self.now)) (S.fails_with (source_of self.now))) }
     {
-        match self.last_upto(address)? {
-            Some(k) => self.found(k),
-            None => Ok(None),
-        }
+        FileFinder::of(self).find(address)
     }
 
     /// Puts the bytes of a text that was told behind those of `out`. They are read piece by piece, and memory is taken
@@ -160,33 +154,8 @@ impl<'a, S: ReadAt> IndexFile<'a, S> {
         numbers.get(2)
     }
 
-    /// The number of the last stretch that doesn't begin above an address.
-    fn last_upto(&self, address: u64) -> io::Result<Option<u64>>
-        ensures within { IfOk result (λ last. IfSome last (λ k. k < self.now.header.count)) }
-        ensures last { ForBytes (S.all_bytes (source_of self.now)) (λ b. IfOk result (IsLastStart b address)) }
-        ensures fails { IfErr result
-            (ReadFails (S.all_bytes (source_of self.now)) (S.fails_with (source_of self.now))) }
-    {
-        let header = &self.header;
-        let Some(offset) = address.checked_sub(header.base) else {
-            return Ok(None);
-        };
-        if header.count == 0 {
-            return Ok(None);
-        }
-        let starts = &self.places.starts;
-        let k = last_upto(
-            self.source,
-            starts,
-            header.widths.starts,
-            header.count,
-            offset,
-        )?;
-        Ok(Some(k))
-    }
-
     /// What stretch `k` tells.
-    fn found(&self, k: u64) -> io::Result<Option<FileFound>>
+    pub(crate) fn found(&self, k: u64) -> io::Result<Option<FileFound>>
         requires { k < self.now.header.count }
         ensures tells { ForBytes (S.all_bytes (source_of self.now)) (λ b. IfOk result (StretchTells b k)) }
         ensures fails { IfErr result

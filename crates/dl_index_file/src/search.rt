@@ -1,36 +1,47 @@
-//! The search for the last start that isn't above a number, by pieces of a file.
+//! The search for the last start that isn't above a number, by single starts of a file, down to a few next to one another.
 
 ghost use Rattle.std.specs.Prelude.{◌≡◌, ◌+◌, ◌*◌, ◌<◌, ◌≤◌, ◌^◌, length, IfOk, IfErr};
 ghost use Rattle.dl_elf.specs.Elf.{bytes_at};
 ghost use Rattle.dl_elf.specs.Source.{ForBytes};
 ghost use Rattle.dl_index.specs.Columns.{number_at, size_of};
-ghost use Rattle.dl_index.specs.LookUp.{FindsLast};
+ghost use Rattle.dl_index_file.specs.Narrowed.{Narrowed};
 ghost use Rattle.dl_index_file.specs.Reading.{ReadFails};
 
-use crate::filling::{fill_all, number_at};
+use crate::filling::number_at;
 use dl_elf::{Range, ReadAt};
-use dl_index::{Numbers, Width};
+use dl_index::Width;
 use std::io;
 
-/// How many bytes are read at once: where so few are left to be searched, they are read whole.
-const PIECE: usize = 4096;
+/// How many bytes of starts are read at once: where so few are left to be searched, they are read whole.
+pub const PIECE: usize = 4096;
 
-/// The last of `count` starts, which fill a range, that isn't above `x`. Each start that halves those that are left is
-/// read by itself, until they lie in one piece.
-pub fn last_upto<S: ReadAt>(
+/// Starts that stand next to one another.
+#[derive(Clone, Copy)]
+pub struct Few {
+    /// The number of the first one.
+    pub first: u64,
+    /// How many there are.
+    pub count: u64,
+}
+
+/// Few starts, among which the last of `count` starts is that isn't above `x`. Each start that halves those that are left
+/// is read by itself, until they fit a piece.
+pub fn narrow<S: ReadAt>(
     source: &S,
     starts: &Range,
     width: Width,
     count: u64,
     x: u64,
-) -> io::Result<u64>
+) -> io::Result<Few>
     requires some { 0 < count }
     requires size { starts.now.size ≡ count * size_of width }
     requires below { starts.now.offset + starts.now.size < 2 ^ 64 }
     requires within { ForBytes (S.all_bytes source.now) (λ b. starts.now.offset + starts.now.size ≤ length b) }
-    ensures within { IfOk result (λ k. k < count) }
-    ensures last { ForBytes (S.all_bytes source.now) (λ b. IfOk result (λ k.
-        FindsLast (number_at (size_of width) (bytes_at starts.now.offset starts.now.size b)) count x k)) }
+    ensures some { IfOk result (λ few. 0 < few.count) }
+    ensures fits { IfOk result (λ few. few.count * size_of width ≤ 4096) }
+    ensures within { IfOk result (λ few. few.first + few.count ≤ count) }
+    ensures narrowed { ForBytes (S.all_bytes source.now) (λ b. IfOk result (λ few.
+        Narrowed (number_at (size_of width) (bytes_at starts.now.offset starts.now.size b)) count x few.first few.count)) }
     ensures fails { IfErr result (ReadFails (S.all_bytes source.now) (S.fails_with source.now)) }
 {
     let size = width.size() as u64;
@@ -44,33 +55,8 @@ pub fn last_upto<S: ReadAt>(
         }
         left -= half;
     }
-    let k = last_in_piece(source, starts.offset + low * size, width, left as usize, x)?;
-    Ok(low + k)
-}
-
-/// The last of some starts, which stand from an offset on and fit a piece, that isn't above `x`.
-fn last_in_piece<S: ReadAt>(
-    source: &S,
-    offset: u64,
-    width: Width,
-    count: usize,
-    x: u64,
-) -> io::Result<u64>
-    requires some { 0 < count }
-    requires fits { count * size_of width ≤ 4096 }
-    requires within { ForBytes (S.all_bytes source.now) (λ b. offset + count * size_of width ≤ length b) }
-    ensures within { IfOk result (λ k. k < count) }
-    ensures last { ForBytes (S.all_bytes source.now) (λ b. IfOk result (λ k.
-        FindsLast (number_at (size_of width) (bytes_at offset (count * size_of width) b)) count x k)) }
-    ensures fails { IfErr result (ReadFails (S.all_bytes source.now) (S.fails_with source.now)) }
-{
-    let mut buffer = [0; PIECE];
-    let len = count * width.size();
-    fill_all(source, offset, &mut buffer[..len])?;
-    let numbers = Numbers {
-        bytes: &buffer[..len],
-        width,
-        len: count,
-    };
-    Ok(numbers.last_upto(x) as u64)
+    Ok(Few {
+        first: low,
+        count: left,
+    })
 }

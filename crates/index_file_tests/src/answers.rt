@@ -3,7 +3,7 @@
 use crate::sample::{BASE, BUILD_ID, index};
 use dl_elf::{Range, ReadAt};
 use dl_index::{Found, IndexRef, open};
-use dl_index_file::{FileFound, IndexFile, TextFault, is_index, open_index};
+use dl_index_file::{FileFinder, FileFound, IndexFile, TextFault, is_index, open_index};
 use dl_memory::System;
 use std::io::Cursor;
 use std::test::Fail;
@@ -48,13 +48,13 @@ fn is_same<S: ReadAt>(
 
 /// Whether an address is answered as in memory.
 pub fn agrees<S: ReadAt>(
-    file: &IndexFile<'_, S>,
+    finder: &mut FileFinder<'_, '_, S>,
     memory: &IndexRef<'_>,
     address: u64,
     read: &mut Vec<u8>,
 ) -> Result<bool, TextFault> {
-    match (file.find(address)?, memory.find(address)) {
-        (Some(found), Some(told)) => is_same(file, &found, &told, read),
+    match (finder.find(address)?, memory.find(address)) {
+        (Some(found), Some(told)) => is_same(finder.index(), &found, &told, read),
         (found, told) => Ok(found.is_none() && told.is_none()),
     }
 }
@@ -66,14 +66,15 @@ fn all_agree<S: ReadAt>(
     step: u64,
     read: &mut Vec<u8>,
 ) -> Result<bool, TextFault> {
+    let mut finder = FileFinder::of(file);
     let mut address = BASE - 3;
     for _ in 0..600 {
-        if !agrees(file, memory, address, read)? {
+        if !agrees(&mut finder, memory, address, read)? {
             return Ok(false);
         }
         address = address.wrapping_add(step);
     }
-    Ok(agrees(file, memory, 0, read)? && agrees(file, memory, u64::MAX, read)?)
+    Ok(agrees(&mut finder, memory, 0, read)? && agrees(&mut finder, memory, u64::MAX, read)?)
 }
 
 /// Whether the bytes of an index, in a file, are answered as in memory.

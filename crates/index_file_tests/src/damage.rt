@@ -3,7 +3,7 @@
 use crate::answers::agrees;
 use crate::sample::{BASE, index};
 use dl_index::{IndexFault, IndexPart, open_unchecked};
-use dl_index_file::{OpenFault, open_index};
+use dl_index_file::{FileFinder, OpenFault, open_index};
 use std::io::Cursor;
 use std::test::Fail;
 
@@ -24,10 +24,11 @@ fn is_same(bytes: &[u8], read: &mut Vec<u8>) -> Result<bool, Fail> {
     };
     let source = Cursor::new(bytes);
     let file = open_index(&source)?;
+    let mut finder = FileFinder::of(&file);
     Ok(
-        agrees(&file, &memory, BASE, read)?
-            && agrees(&file, &memory, BASE + 17, read)?
-            && agrees(&file, &memory, BASE + 90, read)?,
+        agrees(&mut finder, &memory, BASE, read)?
+            && agrees(&mut finder, &memory, BASE + 17, read)?
+            && agrees(&mut finder, &memory, BASE + 90, read)?,
     )
 }
 

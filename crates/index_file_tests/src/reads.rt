@@ -3,7 +3,7 @@
 use crate::sample::{BASE, index};
 use crate::source::Source;
 use dl_elf::Range;
-use dl_index_file::{IndexFile, OpenFault, TextFault, open_index};
+use dl_index_file::{FileFinder, IndexFile, OpenFault, TextFault, open_index};
 use dl_memory::System;
 use std::io::ErrorKind;
 use std::test::Fail;
@@ -42,6 +42,64 @@ fn few_are_made(rt: HostRuntime) -> Result<(), Fail> {
     let most = most_reads(&file, &source)?;
     assert!(rt; opened == 3);
     assert!(rt; 10 < most && most <= 15, "{most} reads");
+    Ok(())
+}
+
+/// How many reads an address takes after another one, both so far above the first start.
+fn reads_after(
+    file: &IndexFile<'_, Source<'_>>,
+    source: &Source<'_>,
+    first: u64,
+    second: u64,
+) -> Result<u32, Fail> {
+    let mut finder = FileFinder::of(file);
+    let _first = finder.find(BASE + first)?;
+    let _reads = source.reads();
+    let _second = finder.find(BASE + second)?;
+    Ok(source.reads())
+}
+
+/// Two addresses, and how many reads the second one takes at most. Stretches begin every 5 addresses, and a piece of starts is
+/// some 3,000 addresses long.
+const NEAR: &[(u64, u64, u32)] = &[
+    // Of the same stretch.
+    (53, 54, 0),
+    // Of another one in the piece: the numbers and rows of that alone.
+    (53, 61, 9),
+    (61, 53, 9),
+    // Of another piece.
+    (53, 90_000, 15),
+    (90_000, 53, 15),
+];
+
+#[test]
+fn fewer_are_made_where_addresses_are_near(rt: HostRuntime) -> Result<(), Fail> {
+    let bytes = index(rt.alloc(), 20_000)?;
+    let source = Source::new(bytes.as_slice());
+    let file = open_index(&source)?;
+    for (first, second, most) in NEAR {
+        let reads = reads_after(&file, &source, *first, *second)?;
+        assert!(rt; reads <= *most, "{first} {second}: {reads}");
+    }
+    Ok(())
+}
+
+/// A read that fails leaves nothing behind that answers later.
+#[test]
+fn a_failure_is_not_kept(rt: HostRuntime) -> Result<(), Fail> {
+    let bytes = index(rt.alloc(), 20_000)?;
+    for before in 3..15 {
+        let source = Source::failing(bytes.as_slice(), before);
+        let file = open_index(&source)?;
+        let mut finder = FileFinder::of(&file);
+        for _ in 0..2 {
+            let fails = match finder.find(BASE + 53) {
+                Ok(_) => false,
+                Err(error) => error.kind() == ErrorKind::BrokenPipe,
+            };
+            assert!(rt; fails, "{before}");
+        }
+    }
     Ok(())
 }
 

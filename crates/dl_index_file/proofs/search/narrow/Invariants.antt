@@ -2,8 +2,8 @@ use Rattle.std.proofs.Common.{◌+◌, ◌*◌, ◌<◌, ◌≤◌}
 use Rattle.dl_elf.specs.Elf.{bytes_at}
 use Rattle.dl_elf.specs.Source.{ForBytes}
 use Rattle.dl_index.specs.Columns.{number_at, size_of}
-use Rattle.dl_index_file.proofs.NarrowLemmas.{Narrowed}
-use Rattle.dl_index_file.proofs.search.last_upto.Given as goal
+use Rattle.dl_index_file.specs.Narrowed.{Narrowed}
+use Rattle.dl_index_file.proofs.search.narrow.Given as goal
 
 abbrev pub invariant-loop-left : goal.invariant-loop-left
 invariant-loop-left g l =
