@@ -141,6 +141,13 @@ stops_weaker m Fails start now asked (Write lost) stops = stops
 stops_weaker m Fails start now asked Input stops = stops
 stops_weaker m Fails start now asked (Tell fault) (answered, others, is, (fails, out)) = absurd fails
 
+-- what doesn't fail but by the writer
+pub written_weaker : (P : Type 0) (m : Manner) (Fails : TellFault → Type 0) (start now : Option (List ℕ)) (asked : List Asked)
+    (r : Result (Unit {0}) AnswerFault) → MatchResult r (λ _. P) (StopsBy m (λ _. ⊥) start now asked)
+    → MatchResult r (λ _. P) (StopsBy m Fails start now asked)
+written_weaker P m Fails start now asked (Ok x) done = done
+written_weaker P m Fails start now asked (Err fault) stops = stops_weaker m Fails start now asked fault stops
+
 -- ---- of a list that is answered in order
 
 pub each_answered : (m : Manner) (start now : Option (List ℕ)) (asked : List Asked) (i : ℕ) (d : Asked) (p : Printed)

@@ -48,3 +48,9 @@ read_three (Ok x) a b c none one two three empty first second third =
     third ∙ (ap (λ l. l ++ concat c) (second ∙ ap (λ l. l ++ concat b) (first ∙ ap (λ l. l ++ concat a) empty))
     ∙ joined_three a b c)
 read_three (Err fault) a b c none one two three empty first second third = tt
+
+-- what holds of each of all bytes that may be known
+pub of_all_bytes : {A E : Type 0} (known : Option (List ℕ)) (r : Result A E) (Q : List ℕ → A → Type 0)
+    → ForBytes known (λ b. IfOk r (Q b)) → IfOk r (λ x. ForBytes known (λ b. Q b x))
+of_all_bytes known (Ok x) Q all = all
+of_all_bytes known (Err e) Q all = tt

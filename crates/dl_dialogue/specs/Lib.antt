@@ -1,5 +1,6 @@
 -- What the public contracts say rests on these, in reading order.
 pub mod Faults
+pub mod Staying
 pub mod Answers
 pub mod Dialogues
 -- For what a value stands; public contracts name this, and don't rest on how it is said.

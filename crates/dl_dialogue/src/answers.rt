@@ -8,6 +8,7 @@ ghost use Rattle.dl_addr.specs.declared.question.Found.TheVariants as all_found;
 ghost use Rattle.dl_dialogue.specs.Answers.{AnswersAll, Manner, Determines, answer_by};
 ghost use Rattle.dl_dialogue.specs.Faults.{TellFails};
 ghost use Rattle.dl_dialogue.specs.Standing.{stopped, written};
+ghost use Rattle.dl_dialogue.specs.Staying.{Stays};
 
 use crate::fault::{AnswerFault, TellFault};
 use crate::telling::Tell;
@@ -67,14 +68,15 @@ fn stopped(printed: Result<(), WriteFault>, fault: TellFault) -> Result<(), Answ
 /// What is told of what is asked, less the base: nothing below 0, and of what is no address.
 fn told<'a, M: Memory, T: Tell>(
     memory: &M,
-    teller: &T,
+    teller: &mut T,
     base: u64,
     asked: Asked,
     path: &'a mut Vec<u8>,
 ) -> Result<Option<Location<'a>>, TellFault>
-    ensures told { (m : Manner) → base ≡ m.base → Determines (T.tells teller.now) m.told
+    ensures told { (m : Manner) → base ≡ m.base → Determines (T.tells teller.old) m.told
         → IfOk result (λ told. option_map location_seen told ≡ answer_by m asked) }
-    ensures fails { IfErr result (TellFails (T.fails_with teller.now) (M.refuses memory.now)) }
+    ensures fails { IfErr result (TellFails (T.fails_with teller.old) (M.refuses memory.now)) }
+    ensures stays { Stays T.tells T.fails_with teller.old teller.new }
 {
     match asked.place(base) {
         Some(place) => teller.tell(memory, place.address, path),
@@ -91,6 +93,7 @@ impl<'q> Answers<'q> {
     ghost use Rattle.dl_asked.specs.AskedLines.{and_asked};
     ghost use Rattle.dl_dialogue.specs.Faults.{TellFails};
     ghost use Rattle.dl_dialogue.specs.Standing.{Stands};
+    ghost use Rattle.dl_dialogue.specs.Staying.{Stays};
     ghost use Rattle.dl_print.specs.Printed.{Printed};
 
     /// Nothing was asked yet.
@@ -118,17 +121,18 @@ impl<'q> Answers<'q> {
     pub fn answer<M: Memory, T: Tell, W: Write>(
         &mut self,
         memory: &M,
-        teller: &T,
+        teller: &mut T,
         printer: &mut Printer,
         output: &mut W,
         asked: Asked,
     ) -> Result<(), AnswerFault>
-        ensures { (m : Manner) (start : Option (List ℕ)) (before : List question.Asked)
-            → Determines (T.tells teller.now) m.told
+        ensures stays { Stays T.tells T.fails_with teller.old teller.new }
+        ensures answers { (first : T) (m : Manner) (start : Option (List ℕ)) (before : List question.Asked)
+            → Stays T.tells T.fails_with first teller.old → Determines (T.tells first) m.told
             → Stands m start (W.contents output.old) before printer.old self.old
             → MatchResult result
             (λ _. Stands m start (W.contents output.new) (before ++ asked ∷ []) printer.new self.new)
-            (StopsBy m (TellFails (T.fails_with teller.now) (M.refuses memory.now)) start (W.contents output.new) (before ++ asked ∷ [])) }
+            (StopsBy m (TellFails (T.fails_with first) (M.refuses memory.now)) start (W.contents output.new) (before ++ asked ∷ [])) }
     {
         match told(memory, teller, self.base, asked, &mut self.path) {
             Ok(location) => {
@@ -143,17 +147,18 @@ impl<'q> Answers<'q> {
     pub fn answer_if_asked<M: Memory, T: Tell, W: Write>(
         &mut self,
         memory: &M,
-        teller: &T,
+        teller: &mut T,
         printer: &mut Printer,
         output: &mut W,
         asked: Option<Asked>,
     ) -> Result<(), AnswerFault>
-        ensures { (m : Manner) (start : Option (List ℕ)) (before : List question.Asked)
-            → Determines (T.tells teller.now) m.told
+        ensures stays { Stays T.tells T.fails_with teller.old teller.new }
+        ensures answers { (first : T) (m : Manner) (start : Option (List ℕ)) (before : List question.Asked)
+            → Stays T.tells T.fails_with first teller.old → Determines (T.tells first) m.told
             → Stands m start (W.contents output.old) before printer.old self.old
             → MatchResult result
             (λ _. Stands m start (W.contents output.new) (before ++ and_asked asked []) printer.new self.new)
-            (StopsBy m (TellFails (T.fails_with teller.now) (M.refuses memory.now)) start (W.contents output.new) (before ++ and_asked asked [])) }
+            (StopsBy m (TellFails (T.fails_with first) (M.refuses memory.now)) start (W.contents output.new) (before ++ and_asked asked [])) }
     {
         match asked {
             Some(asked) => self.answer(memory, teller, printer, output, asked),
@@ -165,18 +170,19 @@ impl<'q> Answers<'q> {
     pub fn answer_last<M: Memory, T: Tell, W: Write>(
         &mut self,
         memory: &M,
-        teller: &T,
+        teller: &mut T,
         printer: &mut Printer,
         output: &mut W,
         asked: Option<Asked>,
     ) -> Result<(), AnswerFault>
-        ensures { (m : Manner) (start : Option (List ℕ)) (before : List question.Asked)
-            → Determines (T.tells teller.now) m.told
+        ensures stays { Stays T.tells T.fails_with teller.old teller.new }
+        ensures answers { (first : T) (m : Manner) (start : Option (List ℕ)) (before : List question.Asked)
+            → Stays T.tells T.fails_with first teller.old → Determines (T.tells first) m.told
             → Stands m start (W.contents output.old) before printer.old self.old
             → MatchResult result
             (λ _. Stands m start (W.contents output.new) (before ++ and_asked asked []) printer.new self.new
             × Appends start (W.contents output.new) (lines_by m (before ++ and_asked asked [])))
-            (StopsBy m (TellFails (T.fails_with teller.now) (M.refuses memory.now)) start (W.contents output.new) (before ++ and_asked asked [])) }
+            (StopsBy m (TellFails (T.fails_with first) (M.refuses memory.now)) start (W.contents output.new) (before ++ and_asked asked [])) }
     {
         self.answer_if_asked(memory, teller, printer, output, asked)?;
         self.flush(printer, output)
@@ -200,14 +206,14 @@ impl<'q> Answers<'q> {
 /// Where nothing can be told of an address, the lines of those before it are written out, and its fault is answered.
 pub fn answer_all<M: Memory, T: Tell, W: Write>(
     memory: &M,
-    teller: &T,
+    teller: &mut T,
     style: Style<'_>,
     base: u64,
     asked: &[Asked],
     output: &mut W,
 ) -> Result<Found, AnswerFault>
-    ensures { (f : ℕ → Option locations.Location) → Determines (T.tells teller.now) f
-        → AnswersAll (record { style = style.entry; base = base; told = f }) (TellFails (T.fails_with teller.now) (M.refuses memory.now)) asked.now
+    ensures { (f : ℕ → Option locations.Location) → Determines (T.tells teller.old) f
+        → AnswersAll (record { style = style.entry; base = base; told = f }) (TellFails (T.fails_with teller.old) (M.refuses memory.now)) asked.now
         (W.contents output.old) (W.contents output.new) result }
 {
     let mut printer = Printer::new();

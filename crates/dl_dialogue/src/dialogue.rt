@@ -42,6 +42,7 @@ impl<'q> Dialogue<'q> {
     ghost use Rattle.dl_dialogue.specs.Dialogues.{Talks, StopsIn, Ends};
     ghost use Rattle.dl_dialogue.specs.Faults.{TellFails};
     ghost use Rattle.dl_dialogue.specs.Standing.{Speaks};
+    ghost use Rattle.dl_dialogue.specs.Staying.{Stays};
     ghost use Rattle.dl_print.specs.Printed.{Printed};
 
     /// A dialogue of which nothing was said yet. `base` is subtracted from each address before it is looked up; with `hex`
@@ -62,17 +63,18 @@ impl<'q> Dialogue<'q> {
     pub fn take<M: Memory, T: Tell, W: Write>(
         &mut self,
         memory: &M,
-        teller: &T,
+        teller: &mut T,
         printer: &mut Printer,
         output: &mut W,
         piece: &[u8],
     ) -> Result<(), AnswerFault>
-        ensures { (m : Manner) (hex : Bool) (start : Option (List ℕ)) (done : List ℕ)
-            → Determines (T.tells teller.now) m.told
+        ensures stays { Stays T.tells T.fails_with teller.old teller.new }
+        ensures answers { (first : T) (m : Manner) (hex : Bool) (start : Option (List ℕ)) (done : List ℕ)
+            → Stays T.tells T.fails_with first teller.old → Determines (T.tells first) m.told
             → Talks m hex start (W.contents output.old) done printer.old self.old
             → MatchResult result
             (λ _. Talks m hex start (W.contents output.new) (done ++ piece.now) printer.new self.new)
-            (StopsIn m hex (TellFails (T.fails_with teller.now) (M.refuses memory.now)) start (W.contents output.new) (done ++ piece.now)) }
+            (StopsIn m hex (TellFails (T.fails_with first) (M.refuses memory.now)) start (W.contents output.new) (done ++ piece.now)) }
     {
         for byte in piece {
             self.take_byte(memory, teller, printer, output, *byte)?;
@@ -84,17 +86,18 @@ impl<'q> Dialogue<'q> {
     fn take_byte<M: Memory, T: Tell, W: Write>(
         &mut self,
         memory: &M,
-        teller: &T,
+        teller: &mut T,
         printer: &mut Printer,
         output: &mut W,
         byte: u8,
     ) -> Result<(), AnswerFault>
-        ensures { (m : Manner) (hex : Bool) (start : Option (List ℕ)) (done : List ℕ)
-            → Determines (T.tells teller.now) m.told
+        ensures stays { Stays T.tells T.fails_with teller.old teller.new }
+        ensures answers { (first : T) (m : Manner) (hex : Bool) (start : Option (List ℕ)) (done : List ℕ)
+            → Stays T.tells T.fails_with first teller.old → Determines (T.tells first) m.told
             → Speaks m hex start (W.contents output.old) done printer.old self.old
             → MatchResult result
             (λ _. Speaks m hex start (W.contents output.new) (done ++ byte ∷ []) printer.new self.new)
-            (StopsIn m hex (TellFails (T.fails_with teller.now) (M.refuses memory.now)) start (W.contents output.new) (done ++ byte ∷ [])) }
+            (StopsIn m hex (TellFails (T.fails_with first) (M.refuses memory.now)) start (W.contents output.new) (done ++ byte ∷ [])) }
     {
         let asked = self.line.take(byte);
         self.answers
@@ -105,15 +108,16 @@ impl<'q> Dialogue<'q> {
     pub fn end<M: Memory, T: Tell, W: Write>(
         self,
         memory: &M,
-        teller: &T,
+        teller: &mut T,
         printer: &mut Printer,
         output: &mut W,
     ) -> Result<Answered, AnswerFault>
-        ensures { (m : Manner) (hex : Bool) (start : Option (List ℕ)) (done : List ℕ)
-            → Determines (T.tells teller.now) m.told
+        ensures stays { Stays T.tells T.fails_with teller.old teller.new }
+        ensures answers { (first : T) (m : Manner) (hex : Bool) (start : Option (List ℕ)) (done : List ℕ)
+            → Stays T.tells T.fails_with first teller.old → Determines (T.tells first) m.told
             → Talks m hex start (W.contents output.old) done printer.old self.entry
             → MatchResult result (Ends m hex start (W.contents output.new) done)
-            (StopsBy m (TellFails (T.fails_with teller.now) (M.refuses memory.now)) start (W.contents output.new) (asked_in hex done)) }
+            (StopsBy m (TellFails (T.fails_with first) (M.refuses memory.now)) start (W.contents output.new) (asked_in hex done)) }
     {
         let Dialogue { mut answers, line } = self;
         let LastLine { asked, no_address } = line.end();
@@ -136,7 +140,7 @@ impl<'q> Dialogue<'q> {
 /// lines before it were answered. Memory is taken for one path.
 pub fn answer_lines<M: Memory, T: Tell, R: Read, W: Write>(
     memory: &M,
-    teller: &T,
+    teller: &mut T,
     style: Style<'_>,
     base: u64,
     hex: bool,
@@ -144,8 +148,8 @@ pub fn answer_lines<M: Memory, T: Tell, R: Read, W: Write>(
     output: &mut W,
 ) -> Result<Answered, AnswerFault>
     ensures { (bs : List ℕ) × Consumes (R.remaining input.old) (R.remaining input.new) bs
-        × ((f : ℕ → Option Location) → Determines (T.tells teller.now) f
-        → AnswersLines (record { style = style.entry; base = base; told = f }) hex (TellFails (T.fails_with teller.now) (M.refuses memory.now)) bs
+        × ((f : ℕ → Option Location) → Determines (T.tells teller.old) f
+        → AnswersLines (record { style = style.entry; base = base; told = f }) hex (TellFails (T.fails_with teller.old) (M.refuses memory.now)) bs
         (R.remaining input.new) (W.contents output.old) (W.contents output.new) result) }
 {
     let mut buffer = Input::new();

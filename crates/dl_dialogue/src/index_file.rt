@@ -1,54 +1,76 @@
 //! What an index tells that lies in a file.
 
-ghost use Rattle.std.specs.Prelude.{◌≡◌, ◌++◌, ℕ, List, IfOk, IfErr, is_some};
+ghost use Rattle.std.specs.Prelude.{◌≡◌, ◌++◌, ℕ, List, IfOk, IfErr, IfSome, is_some, option_map};
 ghost use Rattle.dl_elf.specs.Source.{ForBytes};
+ghost use Rattle.dl_addr.specs.Locations.{location_seen};
+ghost use Rattle.dl_index.specs.IsIndex.{IsIndex};
+ghost use Rattle.dl_index.specs.Telling.{find_in};
+ghost use Rattle.dl_index_file.specs.FindsIn.{FindsIn};
 ghost use Rattle.dl_index_file.specs.Opening.{source_of};
 ghost use Rattle.dl_index_file.specs.Shown.{TextsLie, Lies, text_shown, texts_shown};
 ghost use Rattle.dl_dialogue.specs.Faults.{FileFails, as_told};
 ghost use Rattle.std.specs.List.{concat};
-ghost use Rattle.dl_making.specs.Telling.{path_told};
+ghost use Rattle.dl_making.specs.Telling.{location_told, path_told};
 
 use crate::fault::TellFault;
 use crate::telling::{Tell, path_if};
 use dl_addr::Location;
 use dl_elf::{Range, ReadAt};
-use dl_index_file::{IndexFile, TextFault, TextPlaces};
+use dl_index_file::{FileFinder, FileFound, IndexFile, TextFault, TextPlaces};
 use dl_memory::Memory;
 
-impl<S: ReadAt> Tell for IndexFile<'_, S> {
+impl<S: ReadAt> Tell for FileFinder<'_, '_, S> {
     ghost use Rattle.std.specs.Prelude.{◌≡◌, option_map};
     ghost use Rattle.dl_elf.specs.Source.{ForBytes};
     ghost use Rattle.dl_index.specs.IsIndex.{IsIndex};
     ghost use Rattle.dl_index.specs.Telling.{find_in};
+    ghost use Rattle.dl_index_file.specs.Finder.{index_of};
     ghost use Rattle.dl_index_file.specs.Opening.{source_of};
     ghost use Rattle.dl_index_file.specs.Reading.{ReadFails};
     ghost use Rattle.dl_making.specs.Telling.{location_told};
 
-    ghost tells = { λ index address told. ForBytes (S.all_bytes (source_of index)) (λ b.
+    ghost tells = { λ finder address told. ForBytes (S.all_bytes (source_of (index_of finder))) (λ b.
         IsIndex b → told ≡ option_map location_told (find_in b address)) };
 
-    ghost fails_with = { λ index error.
-        ReadFails (S.all_bytes (source_of index)) (S.fails_with (source_of index)) error };
+    ghost fails_with = { λ finder error. ReadFails (S.all_bytes (source_of (index_of finder)))
+        (S.fails_with (source_of (index_of finder))) error };
 
     fn tell<'a, M: Memory>(
-        &self,
+        &mut self,
         memory: &M,
         address: u64,
         path: &'a mut Vec<u8>,
     ) -> Result<Option<Location<'a>>, TellFault> {
-        let Some(found) = self.find(address)? else {
-            return Ok(None);
-        };
-        read_texts(memory, self, found.texts, path)?;
-        Ok(Some(Location {
-            unit: found.unit,
-            path: path_if(is_known(found.texts), path.as_slice()),
-            line: found.line,
-            column: found.column,
-            discriminator: found.discriminator,
-            is_stmt: found.is_stmt,
-        }))
+        let found = self.find(address)?;
+        located(memory, self.index(), found, path)
     }
+}
+
+/// The location of what was found in an index. The path is read into `path`, in place of what stood there.
+fn located<'a, S: ReadAt, M: Memory>(
+    memory: &M,
+    index: &IndexFile<'_, S>,
+    found: Option<FileFound>,
+    path: &'a mut Vec<u8>,
+) -> Result<Option<Location<'a>>, TellFault>
+    ensures tells { ForBytes (S.all_bytes (source_of index.now)) (λ b. IfOk result (λ told. (address : ℕ) → FindsIn b address found
+        → IsIndex b → option_map location_seen told ≡ option_map location_told (find_in b address))) }
+    ensures fails { ForBytes (S.all_bytes (source_of index.now)) (λ b. IfSome found (λ f. TextsLie b f.texts))
+        → IfErr result (FileFails (S.all_bytes (source_of index.now)) (S.fails_with (source_of index.now))
+        (M.refuses memory.now)) }
+{
+    let Some(found) = found else {
+        return Ok(None);
+    };
+    read_texts(memory, index, found.texts, path)?;
+    Ok(Some(Location {
+        unit: found.unit,
+        path: path_if(is_known(found.texts), path.as_slice()),
+        line: found.line,
+        column: found.column,
+        discriminator: found.discriminator,
+        is_stmt: found.is_stmt,
+    }))
 }
 
 /// Whether there is a text.

@@ -25,7 +25,7 @@ impl Tell for IndexRef<'_> {
     ghost fails_with = { λ _ error. ⊥ };
 
     fn tell<'a, M: Memory>(
-        &self,
+        &mut self,
         memory: &M,
         address: u64,
         path: &'a mut Vec<u8>,

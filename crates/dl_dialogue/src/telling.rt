@@ -15,6 +15,7 @@ pub trait Tell {
     ghost use Rattle.dl_addr.specs.Location.{Location};
     ghost use Rattle.dl_addr.specs.Locations.{location_seen};
     ghost use Rattle.dl_dialogue.specs.Faults.{TellFails};
+    ghost use Rattle.dl_dialogue.specs.Staying.{Stays};
 
     /// What it may tell of an address.
     ghost tells: { Self → ℕ → Option Location → Type 0 };
@@ -22,15 +23,17 @@ pub trait Tell {
     /// The errors that its reads may give.
     ghost fails_with: { Self → Error → Type 0 };
 
-    /// What is told of an address; None where nothing is. The path is put into `path`, in place of what stood there.
+    /// What is told of an address; None where nothing is. The path is put into `path`, in place of what stood there. What it
+    /// tells of other addresses stays the same.
     fn tell<'a, M: Memory>(
-        &self,
+        &mut self,
         memory: &M,
         address: u64,
         path: &'a mut Vec<u8>,
     ) -> Result<Option<Location<'a>>, TellFault>
-        ensures tells { IfOk result (λ told. tells self.now address (option_map location_seen told)) }
-        ensures fails { IfErr result (TellFails (fails_with self.now) (M.refuses memory.now)) };
+        ensures tells { IfOk result (λ told. tells self.old address (option_map location_seen told)) }
+        ensures fails { IfErr result (TellFails (fails_with self.old) (M.refuses memory.now)) }
+        ensures stays { Stays tells fails_with self.old self.new };
 }
 
 /// The path, where it is known.
@@ -52,7 +55,7 @@ impl Tell for Nothing {
     ghost fails_with = { λ _ error. ⊥ };
 
     fn tell<'a, M: Memory>(
-        &self,
+        &mut self,
         _memory: &M,
         _address: u64,
         _path: &'a mut Vec<u8>,

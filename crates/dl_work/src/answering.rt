@@ -26,14 +26,14 @@ pub fn answer_asked<T: Tell, R: Read, W: Write>(
     alloc: Global,
     words: &AddrWords<'_>,
     understood: &AskedWords,
-    teller: &T,
+    teller: &mut T,
     input: &mut R,
     output: &mut W,
 ) -> Result<Answered, AnswerFault>
     ensures { (bytes : List ℕ) × Consumes (R.remaining input.old) (R.remaining input.new) bytes
-        × ((f : ℕ → Option Location) → Determines (T.tells teller.now) f
+        × ((f : ℕ → Option Location) → Determines (T.tells teller.old) f
         → IsUnderstood (addr_words_made words.now) understood.now
-        → AnswersAsked (addr_words_made words.now) f (T.fails_with teller.now) bytes (R.remaining input.new)
+        → AnswersAsked (addr_words_made words.now) f (T.fails_with teller.old) bytes (R.remaining input.new)
         (W.contents output.old) (W.contents output.new) result) }
 {
     let memory = System::new(alloc);
@@ -67,8 +67,8 @@ pub fn answer_made<R: Read, W: Write>(
         (W.contents output.new) result) }
 {
     match open_unchecked(index) {
-        Ok(index) => answer_asked(alloc, words, understood, &index, input, output),
-        Err(_) => answer_asked(alloc, words, understood, &Nothing, input, output),
+        Ok(mut index) => answer_asked(alloc, words, understood, &mut index, input, output),
+        Err(_) => answer_asked(alloc, words, understood, &mut Nothing, input, output),
     }
 }
 

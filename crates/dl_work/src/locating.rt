@@ -76,7 +76,7 @@ fn unanswered<R: Read, W: Write>(
         × (IsUnderstood (addr_words_made words.now) understood.now → Unanswered (addr_words_made words.now) bytes
         (R.remaining input.new) (W.contents output.old) (W.contents output.new)) }
 {
-    let _ = answer_asked(alloc, words, understood, &Nothing, input, output);
+    let _ = answer_asked(alloc, words, understood, &mut Nothing, input, output);
 }
 
 /// Looks into the file at this path, an index or an ELF file.

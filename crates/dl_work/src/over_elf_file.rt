@@ -77,7 +77,7 @@ pub fn in_elf_file<'a, S: ReadAt, R: Read, W: Write>(
             }
         }
         Err(fault) => {
-            let _ = answer_asked(alloc, words, understood, &Nothing, input, output);
+            let _ = answer_asked(alloc, words, understood, &mut Nothing, input, output);
             Err(Stop::File { path, fault })
         }
     }

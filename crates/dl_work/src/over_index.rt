@@ -23,7 +23,7 @@ use crate::stop::Stop;
 use dl_cmd::AddrWords;
 use dl_dialogue::{AnswerFault, Answered};
 use dl_elf::{BuildId, ReadAt};
-use dl_index_file::{IndexFile, open_index};
+use dl_index_file::{FileFinder, IndexFile, open_index};
 use dl_making::id_front;
 use dl_memory::System;
 use dl_open::{FileFault, FileSource, open_file};
@@ -86,13 +86,13 @@ fn answer_from<S: ReadAt, R: Read, W: Write>(
         (ReadFails (Some b) (S.fails_with (source_of index.now))) bytes (R.remaining input.new) (W.contents output.old)
         (W.contents output.new) result)) }
 {
-    if are_few(understood) {
-        return answer_asked(alloc, words, understood, index, input, output);
+    if !are_few(understood) {
+        if let Some(bytes) = index.whole(&System::new(alloc)) {
+            return answer_made(alloc, words, understood, bytes.as_slice(), input, output);
+        }
     }
-    match index.whole(&System::new(alloc)) {
-        Some(bytes) => answer_made(alloc, words, understood, bytes.as_slice(), input, output),
-        None => answer_asked(alloc, words, understood, index, input, output),
-    }
+    let mut finder = FileFinder::of(index);
+    answer_asked(alloc, words, understood, &mut finder, input, output)
 }
 
 /// What came of all.

@@ -4,12 +4,14 @@ use Rattle.std.specs.Io.KnownBytes.{Consumes}
 use Rattle.std.proofs.lemmas.Result.{err_from_is_err_and}
 use Rattle.dl_dialogue.proofs.DialogueLemmas.{end_answers, fault_answers, nothing_of}
 use Rattle.dl_dialogue.specs.Faults.{TellFails}
+use Rattle.dl_dialogue.proofs.StayLemmas.{stays_itself, stays_on}
 use Rattle.dl_dialogue.proofs.dialogue.answer_lines.Goals as goal
 
 pub loop-init : goal.loop-init
 loop-init g c = (
   [],
   Consumes-nil _,
+  stays_itself c.args.teller.now,
   λ f determines. c.new-dialogue.ensures f (g.W.Write.contents c.args.output.now) c.new-printer.result
       c.new-printer.ensures.nothing_pending c.new-printer.ensures.nothing_out,
 )
@@ -20,13 +22,14 @@ loop-preserved g c =
     let piece = c.in-Ok.piece.now in (
       i.0 ++ piece,
       Consumes-trans _ _ _ _ _ i.1 c.in-Ok.ensures.ok,
-      λ f determines. c.in_ok-take.ensures (record { style = c.args.style; base = c.args.base; told = f }) c.args.hex (g.W.Write.contents c.args.output.now) i.0 determines
-          (i.2 f determines),
+      stays_on i.2 c.in_ok-take.ensures.stays,
+      λ f determines. c.in_ok-take.ensures.answers c.args.teller.now (record { style = c.args.style; base = c.args.base; told = f })
+          c.args.hex (g.W.Write.contents c.args.output.now) i.0 i.2 determines (i.3 f determines),
     )
 
 pub returns-in_default : goal.returns-in_default
 returns-in_default g c =
-    (c.loop.invariant.0, search rules, λ f determines. (c.loop.invariant.2 f determines).out)
+    (c.loop.invariant.0, search rules, λ f determines. (c.loop.invariant.3 f determines).out)
 
 pub returns-then-is_empty : goal.returns-then-is_empty
 returns-then-is_empty g c =
@@ -41,7 +44,8 @@ returns-then-is_empty g c =
       λ f determines. end_answers (record { style = c.args.style; base = c.args.base; told = f }) c.args.hex (TellFails (g.T.Tell.fails_with c.args.teller.now) (g.M.Memory.refuses c.args.memory.now)) i.0
           (g.R.Read.remaining c.next_piece.new.reader) (g.W.Write.contents c.args.output.now)
           (g.W.Write.contents c.end.new.output) c.end.result (c.in-Ok.ensures.end none)
-          (c.end.ensures (record { style = c.args.style; base = c.args.base; told = f }) c.args.hex (g.W.Write.contents c.args.output.now) i.0 determines (i.2 f determines)),
+          (c.end.ensures.answers c.args.teller.now (record { style = c.args.style; base = c.args.base; told = f }) c.args.hex
+          (g.W.Write.contents c.args.output.now) i.0 i.2 determines (i.3 f determines)),
     )
 
 pub returns-in_err-take : goal.returns-in_err-take
@@ -54,10 +58,10 @@ returns-in_err-take g c =
       λ f determines. rw (p.1, p.2) (fault_answers (record { style = c.args.style; base = c.args.base; told = f }) c.args.hex (TellFails (g.T.Tell.fails_with c.args.teller.now) (g.M.Memory.refuses c.args.memory.now)) bytes
           (g.R.Read.remaining c.next_piece.new.reader) (g.W.Write.contents c.args.output.now)
           (g.W.Write.contents c.take.new.output) _
-          (c.in_err-take.ensures (record { style = c.args.style; base = c.args.base; told = f }) c.args.hex (g.W.Write.contents c.args.output.now) i.0 determines
-          (i.2 f determines))),
+          (c.in_err-take.ensures.answers c.args.teller.now (record { style = c.args.style; base = c.args.base; told = f }) c.args.hex
+          (g.W.Write.contents c.args.output.now) i.0 i.2 determines (i.3 f determines))),
     )
 
 pub returns : goal.returns
 returns g c =
-    (c.loop.invariant.0, c.loop.invariant.1, λ f determines. (c.loop.invariant.2 f determines).out)
+    (c.loop.invariant.0, c.loop.invariant.1, λ f determines. (c.loop.invariant.3 f determines).out)

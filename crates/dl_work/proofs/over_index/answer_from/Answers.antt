@@ -1,4 +1,4 @@
-use Rattle.std.proofs.Common.{Some, subst, sym, ◌∙◌}
+use Rattle.std.proofs.Common.{Some, ap, subst, sym, ◌∙◌}
 use Rattle.dl_cmd.specs.Job.{addr_words_made}
 use Rattle.dl_index.specs.IsIndex.{IsIndex}
 use Rattle.dl_index_file.specs.Opening.{source_of}
@@ -7,19 +7,6 @@ use Rattle.dl_work.specs.Answering.{AnswersAsked}
 use Rattle.dl_work.specs.OverIndex.{location_in}
 use Rattle.dl_work.proofs.ReadsLemmas.{answers_wider}
 use Rattle.dl_work.proofs.over_index.answer_from.Goals as goal
-
-pub returns-then-are_few : goal.returns-then-are_few
-returns-then-are_few g c =
-    let w = addr_words_made c.args.words.now in
-    let e = c.answer_asked.ensures in (
-      e.0,
-      e.1,
-      λ understood b known short whole.
-          answers_wider _ (ReadFails (Some b) (g.S.ReadAt.fails_with (source_of c.args.index.now)))
-          (λ error fails. subst (λ k. ReadFails k (g.S.ReadAt.fails_with (source_of c.args.index.now)) error) known fails)
-          w (location_in b) e.0 _ _ _ c.answer_asked.result
-          (e.2 (location_in b) (λ address told tells. tells b known short whole) understood),
-    )
 
 pub returns-in-Some : goal.returns-in-Some
 returns-in-Some g c =
@@ -38,15 +25,19 @@ returns-in-Some g c =
           ((e.2 understood).made (subst IsIndex (sym same) whole))),
     )
 
-pub returns-in-None : goal.returns-in-None
-returns-in-None g c =
+pub returns : goal.returns
+returns g c =
     let w = addr_words_made c.args.words.now in
-    let e = c.answer_asked-in-None.ensures in (
+    let e = c.answer_asked.ensures in
+    let known_of = g.S.ReadAt.all_bytes in
+    let same = c.of-finder.ensures in (
       e.0,
       e.1,
       λ understood b known short whole.
           answers_wider _ (ReadFails (Some b) (g.S.ReadAt.fails_with (source_of c.args.index.now)))
-          (λ error fails. subst (λ k. ReadFails k (g.S.ReadAt.fails_with (source_of c.args.index.now)) error) known fails)
-          w (location_in b) e.0 _ _ _ c.answer_asked-in-None.result
-          (e.2 (location_in b) (λ address told tells. tells b known short whole) understood),
+          (λ error fails. subst (λ k. ReadFails k (g.S.ReadAt.fails_with (source_of c.args.index.now)) error) known
+          (subst (λ i. ReadFails (known_of (source_of i)) (g.S.ReadAt.fails_with (source_of i)) error) same fails))
+          w (location_in b) e.0 _ _ _ c.answer_asked.result
+          (e.2 (location_in b) (λ address told tells. tells b (ap (λ i. known_of (source_of i)) same ∙ known) short whole)
+          understood),
     )

@@ -1,31 +1,50 @@
-use Rattle.std.proofs.Common.{List, ℕ, Option, Some, ap, ◌∙◌, subst}
-use Rattle.std.proofs.lemmas.Result.{err_from_is_err_and}
-use Rattle.std.specs.Option.{option_map}
-use Rattle.dl_addr.specs.Location.{Location}
-use Rattle.dl_index_file.specs.FindsIn.{FindsIn}
-use Rattle.dl_index_file.specs.Shown.{texts_shown}
+use Rattle.std.proofs.Common.{◌≡◌, ap, ◌∙◌, sym, subst}
+use Rattle.std.specs.Prelude.{option_map, IfErr}
+use Rattle.dl_elf.specs.Source.{ForBytes}
+use Rattle.dl_index.specs.IsIndex.{IsIndex}
+use Rattle.dl_index.specs.Telling.{find_in}
+use Rattle.dl_index_file.specs.Finder.{index_of}
+use Rattle.dl_index_file.specs.Opening.{source_of}
+use Rattle.dl_index_file.specs.Reading.{ReadFails}
 use Rattle.dl_making.specs.Telling.{location_told}
-use Rattle.dl_dialogue.proofs.TellingLemmas.{path_is}
-use Rattle.dl_dialogue.proofs.index_file.IndexFileTell.tell.Goals as goal
+use Rattle.dl_dialogue.specs.Faults.{FileFails}
+use Rattle.dl_addr.specs.Locations.{location_seen}
+use Rattle.dl_dialogue.proofs.StayLemmas.{stays_by}
+use Rattle.dl_dialogue.proofs.TellingLemmas.{of_all_bytes}
+use Rattle.std.proofs.lemmas.Result.{IfOk-weaker}
+use Rattle.dl_dialogue.proofs.index_file.FileFinderTell.tell.Goals as goal
 
-pub returns-in_err-read_texts-clause-fails : goal.returns-in_err-read_texts-clause-fails
-returns-in_err-read_texts-clause-fails g c =
-    let p = err_from_is_err_and c.from_residual-in_err-read_texts.result c.from_residual-in_err-read_texts.ensures.1 in
-    rw (p.1, p.2) (c.in_err-read_texts.ensures.fails (λ b is below.
-    (subst (FindsIn b c.args.address) c.in-Some.is (c.in_ok-found.ensures.finds b is below)).lie))
+pub returns-in_err-found-clause-stays : goal.returns-in_err-found-clause-stays
+returns-in_err-found-clause-stays g c =
+    stays_by
+    (λ i address told. ForBytes (g.S.ReadAt.all_bytes (source_of i)) (λ b.
+    IsIndex b → told ≡ option_map location_told (find_in b address)))
+    (λ i error. ReadFails (g.S.ReadAt.all_bytes (source_of i)) (g.S.ReadAt.fails_with (source_of i)) error) index_of _ _
+    c.in_err-found.ensures.index
+
+pub returns-clause-stays : goal.returns-clause-stays
+returns-clause-stays g c =
+    stays_by
+    (λ i address told. ForBytes (g.S.ReadAt.all_bytes (source_of i)) (λ b.
+    IsIndex b → told ≡ option_map location_told (find_in b address)))
+    (λ i error. ReadFails (g.S.ReadAt.all_bytes (source_of i)) (g.S.ReadAt.fails_with (source_of i)) error) index_of _ _
+    c.in_ok-found.ensures.index
 
 pub returns-clause-tells : goal.returns-clause-tells
-returns-clause-tells g c = λ f is below is_index.
-    let found = c.in-Some.found in
-    let with_path : Option (List ℕ) → Option Location = λ path. Some (record {
-      unit = found.unit;
-      path = path;
-      line = found.line;
-      column = found.column;
-      discriminator = found.discriminator;
-      is_stmt = found.is_stmt;
-    }) in
-    ap with_path (c.path_if.ensures ∙ path_is (texts_shown f found.texts) c.is_known.result c.as_slice.result.now
-    (c.is_known.ensures f) (c.as_slice.ensures.value ∙ c.in_ok-read_texts.ensures.texts f is below))
-    ∙ ap (option_map location_told) ((subst (FindsIn f c.args.address) c.in-Some.is
-    (c.in_ok-found.ensures.finds f is below)).exact is_index)
+returns-clause-tells g c =
+    let known = g.S.ReadAt.all_bytes in
+    let same = c.index.ensures ∙ c.in_ok-found.ensures.index in
+    of_all_bytes (known (source_of (index_of c.args.self.now))) c.located.result
+    (λ b told. IsIndex b → option_map location_seen told ≡ option_map location_told (find_in b c.args.address))
+    (λ b is below. IfOk-weaker c.located.result _ _
+    (λ told tells. tells c.args.address (c.in_ok-found.ensures.finds b is below))
+    (c.located.ensures.tells b (ap (λ i. known (source_of i)) same ∙ is) below))
+
+pub returns-clause-fails : goal.returns-clause-fails
+returns-clause-fails g c =
+    let known = g.S.ReadAt.all_bytes in
+    let same = c.index.ensures ∙ c.in_ok-found.ensures.index in
+    subst (λ i. IfErr c.located.result (FileFails (known (source_of i)) (g.S.ReadAt.fails_with (source_of i))
+    (g.M.Memory.refuses c.args.memory.now))) same
+    (c.located.ensures.fails (λ b is below.
+    (c.in_ok-found.ensures.finds b (ap (λ i. known (source_of i)) (sym same) ∙ is) below).lie))

@@ -1,0 +1,36 @@
+-- What tells of addresses stays as it is while it is asked.
+use Rattle.std.proofs.Common.{◌≡◌, ℕ, Option, subst}
+use Rattle.std.specs.declared.io.Error.{Error}
+use Rattle.dl_addr.specs.Location.{Location}
+use Rattle.dl_dialogue.specs.Answers.{Determines}
+use Rattle.dl_dialogue.specs.Faults.{TellFails}
+use Rattle.dl_dialogue.specs.Staying.{Stays}
+use Rattle.dl_dialogue.specs.declared.fault.TellFault.{TellFault}
+use Rattle.dl_dialogue.specs.declared.fault.TellFault.TheVariants.{NoMemory, Read}
+
+module _ {T : Type 0} {tells : T → ℕ → Option Location → Type 0} {Fails : T → Error → Type 0} where
+  pub stays_itself : (t : T) → Stays tells Fails t t
+  stays_itself t = record { told = λ address told is. is; fails = λ error is. is }
+
+  module _ {first now : T} (s : Stays tells Fails first now) where
+    pub stays_on : {later : T} → Stays tells Fails now later → Stays tells Fails first later
+    stays_on t = record {
+      told = λ address told is. s.told address told (t.told address told is);
+      fails = λ error is. s.fails error (t.fails error is);
+    }
+
+    pub determined : {f : ℕ → Option Location} → Determines (tells first) f → Determines (tells now) f
+    determined determines address told is = determines address told (s.told address told is)
+
+    pub tell_fails : (refuses : ℕ → Type 0) (fault : TellFault) → TellFails (Fails now) refuses fault
+        → TellFails (Fails first) refuses fault
+    tell_fails refuses (Read error) fails = s.fails error fails
+    tell_fails refuses NoMemory refused = refused
+
+-- what is told, and with which errors reads fail, is that of a part that stays
+pub stays_by : {I T : Type 0} (tells : I → ℕ → Option Location → Type 0) (Fails : I → Error → Type 0) (part : T → I)
+    (first now : T) → part now ≡ part first → Stays (λ t. tells (part t)) (λ t. Fails (part t)) first now
+stays_by tells Fails part first now same = record {
+  told = λ address told is. subst (λ i. tells i address told) same is;
+  fails = λ error is. subst (λ i. Fails i error) same is;
+}
