@@ -1,6 +1,6 @@
 //! The files of units, of which each is kept once with the texts of its path. Sections 3.1.1 and 6.2.4.
 
-ghost use Rattle.std.specs.Prelude.{◌≡◌, ◌≤◌, ◌++◌, [], Some, IfOk, length, slice_get};
+ghost use Rattle.std.specs.Prelude.{◌≡◌, ◌<◌, ◌≤◌, ◌^◌, ◌++◌, [], Some, IfOk, length, slice_get};
 ghost use Rattle.std.specs.Option.{option_copied, option_map, option_map_or};
 ghost use Rattle.dl_path.specs.Parts.{path_apart, path_seen};
 ghost use Rattle.dl_path.specs.PathTexts.{folder, root_of, text_if_any, texts_under};
@@ -36,6 +36,7 @@ pub(crate) fn file_number(
     file: u64,
 ) -> Result<u64, NoMemory>
     ensures number { IfOk result (λ n. slice_get (named_files names.new) n ≡ Some (file_in unit.now file)) }
+    ensures small { IfOk result (λ n. n < 2 ^ 63) }
     ensures grows { Grows (named_files names.old) (named_files names.new) }
     ensures once { Once (named_files names.new) }
 {

@@ -1,13 +1,14 @@
 //! The numbers of the files that a unit's runs name.
 
 ghost use Rattle.std.specs.Prelude.{◌≡◌, ℕ, ◌<◌, ◌^◌, Some, IfOk, OnOk, length, map, slice_get};
-ghost use Rattle.std.specs.List.{Contains};
+ghost use Rattle.std.specs.List.{All, Contains};
 ghost use Rattle.std.specs.Option.{option_copied, option_map_or};
 ghost use Rattle.dl_addr.specs.Texts.{files_end};
 ghost use Rattle.dl_pack.specs.Named.{Grows, Once};
 ghost use Rattle.dl_pack.specs.Shown.{named_files};
-ghost use Rattle.dl_stretch.specs.declared.run.Run as each;
+ghost use Rattle.dl_stretch.specs.Held.{AreHeld, held};
 ghost use Rattle.dl_stretch.specs.Runs.{number_in};
+ghost use Rattle.dl_stretch.specs.ToldUnits.{file_of};
 ghost use Rattle.dl_making.specs.Numbers.{AreSeen, IsNumbered};
 ghost use Rattle.dl_making.specs.UnitFile.{file_in};
 
@@ -19,7 +20,7 @@ use dl_stretch::Run;
 use std::alloc::Global;
 
 /// What stands for the number of a file that wasn't looked up.
-const UNSEEN: u64 = 0xffff_ffff_ffff_ffff;
+const UNSEEN: u64 = 0x7fff_ffff_ffff_ffff;
 
 /// The numbers of the files that the runs of a unit name, each at the place of the number that the unit gives it, and
 /// the number of the files past those of the unit's table. What stands at other places says nothing.
@@ -29,8 +30,9 @@ pub(crate) fn numbers_of(
     unit: &UnitFiles<'_, '_>,
     runs: &[Run],
 ) -> Result<(Vec<u64>, u64), NoMemory>
-    ensures numbers { IfOk result (λ r. (file : ℕ) → Contains (map (λ (x : each.Run). x.told.file) runs.now) file
+    ensures numbers { IfOk result (λ r. (file : ℕ) → Contains (map file_of runs.now) (held file)
         → slice_get (named_files names.new) (number_in r.0.items r.1 file) ≡ Some (file_in unit.now file)) }
+    ensures held { IfOk result (λ r. AreHeld r.0.items r.1) }
     ensures grows { Grows (named_files names.old) (named_files names.new) }
     ensures once { Once (named_files names.old) → Once (named_files names.new) }
 {
@@ -39,7 +41,7 @@ pub(crate) fn numbers_of(
         return Err(NoMemory);
     };
     for run in runs {
-        number_file(alloc, names, unit, &mut numbers, run.told.file)?;
+        number_file(alloc, names, unit, &mut numbers, run.told().file)?;
     }
     let other = numbers[end];
     Ok((numbers, other))
@@ -67,6 +69,7 @@ fn number_file(
 ) -> Result<(), NoMemory>
     requires { 0 < length numbers.old.items }
     ensures len { length numbers.new.items ≡ length numbers.old.items }
+    ensures small { All (λ n. n < 2 ^ 63) numbers.old.items → All (λ n. n < 2 ^ 63) numbers.new.items }
     ensures seen { OnOk result (AreSeen unit.now (named_files names.old) numbers.old.items
         → AreSeen unit.now (named_files names.new) numbers.new.items) }
     ensures numbered { OnOk result (AreSeen unit.now (named_files names.old) numbers.old.items

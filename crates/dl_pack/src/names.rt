@@ -30,7 +30,7 @@ pub struct Names {
 }
 
 impl Names {
-    ghost use Rattle.std.specs.Prelude.{◌≡◌, ◌+◌, ◌-◌, ◌≤◌, ◌++◌, ◌∷◌, [], Some, length, slice_get, is_ok, IfOk, if◌then◌else◌};
+    ghost use Rattle.std.specs.Prelude.{◌≡◌, ◌+◌, ◌-◌, ◌<◌, ◌≤◌, ◌^◌, ◌++◌, ◌∷◌, [], Some, length, slice_get, is_ok, IfOk, if◌then◌else◌};
     ghost use Rattle.std.specs.Option.{option_copied, option_map, option_to_list};
     ghost use Rattle.dl_pack.specs.Named.{Grows, Once, named, text_of, file_of, with_text};
     ghost use Rattle.dl_pack.specs.Shown.{named_files, texts_of};
@@ -65,6 +65,7 @@ impl Names {
     /// text, as 0, is left out. Answers the number of the file: that of the same one, where it was added before.
     pub fn add_file(&mut self, unit: u64, texts: [u32; 3]) -> Result<u64, NoMemory>
         ensures number { IfOk result (λ n. slice_get (named_files self.new) n ≡ Some (file_of (texts_of self.old) unit texts)) }
+        ensures small { IfOk result (λ n. n < 2 ^ 63) }
         ensures grows { Grows (named_files self.old) (named_files self.new) }
         ensures once { Once (named_files self.new) }
         ensures texts { texts_of self.new ≡ texts_of self.old }
@@ -78,7 +79,7 @@ impl Names {
         ]);
         let file = FileTexts { unit, texts };
         match self.files.insert_full(file) {
-            Ok(placed) => Ok(placed.0 as u64),
+            Ok(placed) => Ok(number_at(&self.files, placed.0)),
             Err(_) => Err(NoMemory),
         }
     }
@@ -142,6 +143,16 @@ impl Names {
             None => &[],
         }
     }
+}
+
+/// The number of the file at a place, of which a set has fewer than 2^63.
+fn number_at(files: &IndexSet<FileTexts>, place: usize) -> u64
+    requires { place < length files.now.keys }
+    ensures same { result ≡ place }
+    ensures small { result < 2 ^ 63 }
+{
+    prove!(place < files.len());
+    place as u64
 }
 
 /// The place of a text, which goes last where it is new.

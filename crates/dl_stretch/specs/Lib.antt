@@ -1,5 +1,6 @@
 -- What the public contracts say rests on these, in reading order.
 pub mod Stretches
+pub mod Held
 pub mod Runs
 pub mod ToldUnits
 pub mod Laws

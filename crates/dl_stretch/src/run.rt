@@ -7,6 +7,7 @@ ghost use Rattle.dl_look.specs.Answer.{is_at_most, last_place, place_of};
 ghost use Rattle.dl_stretch.specs.Runs.{first_address};
 ghost use Rattle.dl_stretch.specs.RowRuns.{AreRunsOf};
 
+use crate::file_and_statement::FileAndStatement;
 use crate::told::Told;
 use dl_look::Place;
 use dl_memory::NoMemory;
@@ -18,8 +19,64 @@ use dl_rows::Row;
 pub struct Run {
     /// Its first address.
     pub start: u64,
-    /// What is told of each of its addresses.
-    pub told: Told,
+    line: u64,
+    column: u64,
+    discriminator: u64,
+    file_and_statement: FileAndStatement,
+}
+
+impl Run {
+    ghost use Rattle.std.specs.Prelude.{◌≡◌};
+    ghost use Rattle.dl_stretch.specs.Held.{held, told_by};
+    ghost use Rattle.dl_stretch.specs.Renumbered.{renumbered_run};
+    ghost use Rattle.dl_stretch.specs.Runs.{told_of, number_in};
+
+    /// From `start` on, what a row tells.
+    #[inline(always)]
+    pub(crate) fn of(start: u64, row: &Row) -> Run
+        ensures start { result.start ≡ start }
+        ensures told { told_by result ≡ told_of held row.now }
+    {
+        Run {
+            start,
+            line: row.line,
+            column: row.column,
+            discriminator: row.discriminator,
+            file_and_statement: FileAndStatement::of(row.file, row.is_stmt),
+        }
+    }
+
+    /// What is told of each of its addresses. The number of its file is at most 2^63 - 1.
+    #[inline(always)]
+    pub fn told(&self) -> Told
+        ensures { result ≡ told_by self.now }
+    {
+        Told {
+            file: self.file_and_statement.file(),
+            line: self.line,
+            column: self.column,
+            discriminator: self.discriminator,
+            is_stmt: self.file_and_statement.is_stmt(),
+        }
+    }
+
+    /// The same, with the number that the list has for its file; `other` where the list ends before it.
+    #[inline(always)]
+    pub(crate) fn renumbered(self, numbers: &[u64], other: u64) -> Run
+        ensures { result ≡ renumbered_run (number_in numbers.now other) self }
+    {
+        let file = self.file_and_statement.file();
+        let number = if file < numbers.len() as u64 {
+            numbers[file as usize]
+        } else {
+            other
+        };
+        let is_stmt = self.file_and_statement.is_stmt();
+        Run {
+            file_and_statement: FileAndStatement::of(number, is_stmt),
+            ..self
+        }
+    }
 }
 
 /// The first address whose place isn't below this one; None where there is none.
@@ -49,10 +106,7 @@ pub(crate) fn push_row(runs: &mut Vec<Run>, begun: usize, row: &Row) -> Result<(
     let Some(start) = address_from(Place::of(row)) else {
         return Ok(());
     };
-    let run = Run {
-        start,
-        told: Told::of(row),
-    };
+    let run = Run::of(start, row);
     let count = runs.len();
     if count > begun {
         let last = runs[count - 1];
@@ -60,7 +114,7 @@ pub(crate) fn push_row(runs: &mut Vec<Run>, begun: usize, row: &Row) -> Result<(
             runs[count - 1] = run;
             return Ok(());
         }
-        if last.told.is_same(run.told) {
+        if last.told().is_same(run.told()) {
             return Ok(());
         }
     }

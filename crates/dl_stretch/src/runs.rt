@@ -17,7 +17,7 @@ use std::alloc::Global;
 ///
 /// Where a growth is refused a call answers `NoMemory`, and nothing more is promised of the runs.
 ///
-/// Kept are 48 bytes for each run, at most one for each row of a live rising sequence, and 56 for each such sequence.
+/// Kept are 40 bytes for each run, at most one for each row of a live rising sequence, and 56 for each such sequence.
 /// A row takes constant time.
 #[derive(Drop)]
 pub struct Runs {
@@ -30,6 +30,7 @@ impl Runs {
     ghost use Rattle.dl_rows.specs.declared.row.Row as each;
     ghost use Rattle.dl_look.specs.FinderRows.{unended};
     ghost use Rattle.dl_stretch.specs.declared.stretch.Stretch as kept;
+    ghost use Rattle.dl_stretch.specs.Held.{AreHeld};
     ghost use Rattle.dl_stretch.specs.Runs.{number_in};
     ghost use Rattle.dl_stretch.specs.StandFor.{StandFor};
     ghost use Rattle.dl_stretch.specs.Stands.{Stands};
@@ -70,8 +71,8 @@ impl Runs {
         }
     }
 
-    /// The runs of the sequences of the current unit that have ended, with the numbers of files that its rows give.
-    /// They name all files of which `end_unit` is told the numbers.
+    /// The runs of the sequences of the current unit that have ended, with the numbers of files that its rows give, or
+    /// 2^63 - 1 for a greater one. They name all files of which `end_unit` is told the numbers.
     pub fn unit_runs(&self) -> &[Run]
         ensures { (live : ℕ → Bool) (units : List UnitRows) (rows : List each.Row) → Stands live self.now units rows
             → NameFiles live rows result.now }
@@ -80,8 +81,10 @@ impl Runs {
     }
 
     /// The current unit ends, and its rows count; the next row is the first one of the next unit. The list has for
-    /// each file of the unit the number that stands for it, `other` is that of the files where it ends before.
+    /// each file of the unit the number that stands for it, `other` is that of the files where it ends before. These
+    /// numbers are below 2^63, and there are fewer than 2^63 of them.
     pub fn end_unit(&mut self, numbers: &[u64], other: u64)
+        requires { AreHeld numbers.now other }
         ensures { (live : ℕ → Bool) (units : List UnitRows) (rows : List each.Row)
             → Stands live self.old units rows → Stands live self.new (units ++ record {
               number = number_in numbers.now other;

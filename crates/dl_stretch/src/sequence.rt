@@ -172,7 +172,7 @@ fn renumber_all(runs: &mut [Run], numbers: &[u64], other: u64)
     ensures { runs.new ≡ map (renumbered_run (number_in numbers.now other)) runs.old }
 {
     for run in runs {
-        run.told = run.told.renumbered(numbers, other);
+        *run = run.renumbered(numbers, other);
     }
 }
 

@@ -100,15 +100,16 @@ fn tell_runs<S: StretchSink>(
 {
     let mut next = begun(runs, reach.first);
     let mut told = if next > 0 {
-        Some(runs[next - 1].told)
+        Some(runs[next - 1].told())
     } else {
         None
     };
     tell_from(sink, last, reach.first, told);
     while next < runs.len() && runs[next].start <= reach.last {
         let run = runs[next];
-        tell_from(sink, told, run.start, Some(run.told));
-        told = Some(run.told);
+        let more = Some(run.told());
+        tell_from(sink, told, run.start, more);
+        told = more;
         next += 1;
     }
     told

@@ -83,7 +83,7 @@ fn runs_of_a_unit(rt: HostRuntime) -> Result<(), Fail> {
     assert!(rt; runs.begins());
     let mut files = 0u64;
     for run in runs.unit_runs() {
-        files = files.saturating_add(run.told.file);
+        files = files.saturating_add(run.told().file);
     }
     assert_eq!(rt; files, 10);
     Ok(())

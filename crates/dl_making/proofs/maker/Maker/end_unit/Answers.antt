@@ -6,6 +6,9 @@ use Rattle.dl_making.specs.declared.files.UnitFiles.{UnitFiles}
 use Rattle.dl_making.proofs.MakerLemmas.{ended, file_is}
 use Rattle.dl_making.proofs.maker.Maker.end_unit.Goals as goal
 
+pub end_unit-requires : goal.end_unit-requires
+end_unit-requires c = rw c.as_slice.ensures.value c.in_ok-numbers.ensures.held
+
 pub returns-clause-ended : goal.returns-clause-ended
 returns-clause-ended c =
     let unit : UnitFiles = record {

@@ -1,4 +1,5 @@
-use Rattle.std.proofs.Common.{rules, ◌≡◌, ◌∙◌, ◌++◌, ap, ap₂, sym, subst, ℕ, List, length, Some, Decides}
+use Rattle.std.specs.Prelude.{slice_get}
+use Rattle.std.proofs.Common.{rules, map, ◌≡◌, ◌∙◌, ◌++◌, ap, ap₂, sym, subst, ℕ, List, length, Some, Decides}
 use Rattle.std.specs.Global.{Vec}
 use Rattle.std.specs.List.{All}
 use Rattle.std.proofs.lemmas.List.{length-map}
@@ -52,7 +53,8 @@ pub returns-in-Ok-clause-number : goal.returns-in-Ok-clause-number
 returns-in-Ok-clause-number c =
     let texts = texts_in c.args.self.now.texts in
     let few = c.len-count.ensures.len ∙ sym (length-map c.args.self.now.texts.keys (λ (v : Vec ℕ). v.items)) in
-    number_mapped (named texts) eq-value.it decides c.insert_full.new.self.keys (record { unit = c.args.unit; texts = c.packed-texts.result })
+    ap (slice_get (map (named texts) c.insert_full.new.self.keys)) c.number_at.ensures.same
+    ∙ number_mapped (named texts) eq-value.it decides c.insert_full.new.self.keys (record { unit = c.args.unit; texts = c.packed-texts.result })
     c.in-Ok.placed.0 c.in-Ok.ensures.stored
     ∙ ap (λ parts. Some (record { unit = c.args.unit; parts = parts })) (c.packed-texts.ensures.same texts
     ∙ ap₂ (λ x y. x ++ y) (c.known.ensures.same texts few)
