@@ -1,6 +1,6 @@
 -- The numbers of the files of a unit, while an index is made. No promise rests on this file.
 -- They stand in a list by the numbers that its rows give them, of which the last one stands for all past it too.
-use Rattle.std.specs.Prelude.{◌≡◌, ◌⊎◌, ℕ, ◌-◌, ◌<◌, ◌^◌, min, List, length, get_or, slice_get, Some}
+use Rattle.std.specs.Prelude.{◌≡◌, ◌⊎◌, ℕ, ◌-◌, ◌<◌, min, List, length, get_or, slice_get, Some}
 use Rattle.dl_pack.specs.Named.{Named}
 use Rattle.dl_making.specs.declared.files.UnitFiles.{UnitFiles}
 use Rattle.dl_making.specs.UnitFile.{file_in}

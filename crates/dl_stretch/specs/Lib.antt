@@ -5,6 +5,7 @@ pub mod Runs
 pub mod ToldUnits
 pub mod Laws
 pub mod Hearing
+pub mod Kept
 -- For what a value stands; public contracts name this, and don't rest on how it is said.
 pub mod RowRuns
 pub mod Spans

@@ -1,6 +1,6 @@
 //! What the rows of a sequence tell at addresses. Section 6.2.2.
 
-ghost use Rattle.std.specs.Prelude.{◌≡◌, ◌<◌, ◌≤◌, ◌^◌, ◌∷◌, ◌++◌, [], List, length, take, drop, IfOk, OnErr};
+ghost use Rattle.std.specs.Prelude.{◌≡◌, ◌+◌, ◌<◌, ◌≤◌, ◌^◌, ◌∷◌, ◌++◌, [], List, length, take, drop, IfOk, OnErr};
 ghost use Rattle.std.specs.Prelude.{MatchOption, true};
 ghost use Rattle.dl_rows.specs.declared.row.Row as each;
 ghost use Rattle.dl_look.specs.Answer.{is_at_most, last_place, place_of};
@@ -10,8 +10,9 @@ ghost use Rattle.dl_stretch.specs.RowRuns.{AreRunsOf};
 use crate::file_and_statement::FileAndStatement;
 use crate::told::Told;
 use dl_look::Place;
-use dl_memory::NoMemory;
+use dl_memory::{Memory, NoMemory};
 use dl_rows::Row;
+use std::mem::size_of;
 
 /// Addresses of a sequence that tell the same, from `start` on, up to the start of the next run or to the
 /// sequence's end.
@@ -24,6 +25,8 @@ pub struct Run {
     discriminator: u64,
     file_and_statement: FileAndStatement,
 }
+
+const _: () = prove!(size_of::<Run>() == 40);
 
 impl Run {
     ghost use Rattle.std.specs.Prelude.{◌≡◌};
@@ -94,11 +97,18 @@ pub(crate) fn address_from(place: Place) -> Option<u64>
 
 /// One more row of a rising sequence, whose runs are those from `begun` on. Where a growth is refused nothing changes.
 #[inline(always)]
-pub(crate) fn push_row(runs: &mut Vec<Run>, begun: usize, row: &Row) -> Result<(), NoMemory>
+pub(crate) fn push_row<M: Memory>(
+    memory: &M,
+    runs: &mut Vec<Run>,
+    begun: usize,
+    row: &Row,
+) -> Result<(), NoMemory>
     requires { begun ≤ length runs.old.items }
     ensures same { OnErr result (runs.new.items ≡ runs.old.items) }
     ensures before { take begun runs.new.items ≡ take begun runs.old.items }
     ensures within { begun ≤ length runs.new.items }
+    ensures more { length runs.new.items ≤ length runs.old.items + 1 }
+    ensures refused { OnErr result (M.refuses memory.now (length runs.old.items + 1)) }
     ensures pushed { IfOk result (λ _. (rows : List each.Row) → AreRunsOf rows (drop begun runs.old.items)
         → is_at_most (last_place rows) (place_of row.now) ≡ true
         → AreRunsOf (rows ++ row.now ∷ []) (drop begun runs.new.items)) }
@@ -118,8 +128,6 @@ pub(crate) fn push_row(runs: &mut Vec<Run>, begun: usize, row: &Row) -> Result<(
             return Ok(());
         }
     }
-    match runs.push(run) {
-        Ok(()) => Ok(()),
-        Err(_) => Err(NoMemory),
-    }
+    memory.push(runs, run)?;
+    Ok(())
 }

@@ -7,12 +7,12 @@ use Rattle.dl_making.proofs.NumberLemmas.{numbered_more, numbered_all, grows_tra
 use Rattle.dl_making.proofs.numbers.numbers_of.Goals as goal
 
 pub returns-in_err-number_file-clause-grows : goal.returns-in_err-number_file-clause-grows
-returns-in_err-number_file-clause-grows c =
+returns-in_err-number_file-clause-grows g c =
     grows_trans (named_files c.args.names.now) (named_files c.loop-run.names) (named_files c.number_file.new.names)
     c.loop-run.invariant.grows c.number_file.ensures.grows
 
 pub loop-run-preserved : goal.loop-run-preserved
-loop-run-preserved c = record {
+loop-run-preserved g c = record {
   len = c.number_file.ensures.len ∙ c.loop-run.invariant.len;
   small = c.number_file.ensures.small c.loop-run.invariant.small;
   seen = c.in_ok-number_file.ensures.seen c.loop-run.invariant.seen;
@@ -28,7 +28,7 @@ few : (v : Vec ℕ) → length v.items < 2 ^ 63
 few v = omega (arith, v.ok.0, v.ok.1, v.small)
 
 pub returns-clause-held : goal.returns-clause-held
-returns-clause-held c = record {
+returns-clause-held g c = record {
   few = few c.loop-run.numbers;
   small = c.loop-run.invariant.small;
   other_small = subst (λ n. n < 2 ^ 63) (sym c.index-other.ensures) (c.loop-run.invariant.small c.files_end-end.result c.index-other.result.now
@@ -36,10 +36,10 @@ returns-clause-held c = record {
 }
 
 pub returns-clause-numbers : goal.returns-clause-numbers
-returns-clause-numbers c file named =
+returns-clause-numbers g c file named =
     numbered_all c.args.unit.now (named_files c.loop-run.names) c.loop-run.numbers.items c.files_end-end.result c.index-other.result.now
     c.args.runs.now c.loop-run.run-index file c.loop-run.invariant.len (few c.loop-run.numbers) c.index-other.ensures c.files_end-end.ensures
     (omega (arith, c.loop-run-test.false)) c.loop-run.invariant.numbered named
 
 pub returns-clause-grows : goal.returns-clause-grows
-returns-clause-grows c = c.loop-run.invariant.grows
+returns-clause-grows g c = c.loop-run.invariant.grows

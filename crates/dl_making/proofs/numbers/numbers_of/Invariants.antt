@@ -8,7 +8,7 @@ use Rattle.dl_making.specs.Numbers.{AreSeen, IsNumbered}
 use Rattle.dl_making.proofs.numbers.numbers_of.Given as goal
 
 abbrev pub invariant-loop-run : goal.invariant-loop-run
-invariant-loop-run l = record {
+invariant-loop-run g l = record {
   len : length l.numbers.items ≡ l.end + 1;
   small : All (λ n. n < 2 ^ 63) l.numbers.items;
   seen : AreSeen l.unit (named_files l.names) l.numbers.items;

@@ -9,12 +9,12 @@ use Rattle.dl_stretch.proofs.run.push_row.Goals as goal
 use Rattle.dl_stretch.proofs.run.push_row.Goals.{then-count-begun+else-last-start+else-is_same, else-count-begun}
 
 pub returns-in_default-clause-pushed : goal.returns-in_default-clause-pushed
-returns-in_default-clause-pushed c = λ rows are after.
+returns-in_default-clause-pushed g c = λ rows are after.
     row_past rows (drop c.args.begun c.args.runs.now.items) c.args.row.now are after (ap first_address (sym c.of.ensures)
     ∙ c.in_default.ensures)
 
 pub returns-then-last-start-clause-pushed : goal.returns-then-last-start-clause-pushed
-returns-then-last-start-clause-pushed c = λ rows are after. (
+returns-then-last-start-clause-pushed g c = λ rows are after. (
     let runs = c.args.runs.now.items in
     let begun = c.args.begun in
     let seen = drop begun runs in
@@ -31,7 +31,7 @@ returns-then-last-start-clause-pushed c = λ rows are after. (
     ∙ c.if-last-start.true ∙ sym c.of-run.ensures.start)))
 
 pub returns-then-is_same-clause-pushed : goal.returns-then-is_same-clause-pushed
-returns-then-is_same-clause-pushed c = λ rows are after. (
+returns-then-is_same-clause-pushed g c = λ rows are after. (
     let runs = c.args.runs.now.items in
     let begun = c.args.begun in
     let seen = drop begun runs in
@@ -44,8 +44,8 @@ returns-then-is_same-clause-pushed c = λ rows are after. (
     ∙ sym c.index.ensures)
     ∙ sym c.told.ensures ∙ same_told c.told.result c.told-then-count-begun.result (sym c.is_same.ensures ∙ c.if-is_same.true) ∙ c.told-then-count-begun.ensures))
 
-pub returns-in-Ok-clause-pushed : goal.returns-in-Ok-clause-pushed
-returns-in-Ok-clause-pushed c = λ rows are after. (
+pub returns-clause-pushed : goal.returns-clause-pushed
+returns-clause-pushed g c = λ rows are after. (
     let runs = c.args.runs.now.items in
     let begun = c.args.begun in
     let seen = drop begun runs in
@@ -54,7 +54,7 @@ returns-in-Ok-clause-pushed c = λ rows are after. (
     row_pushed rows seen c.args.row.now are after c.of-run.result
     (c.of-run.ensures.start ∙ c.in-Some.ensures.0 ∙ ap first_address c.of.ensures) c.of-run.ensures.told in
     subst (AreRunsOf (rows ++ c.args.row.now ∷ []))
-    (sym (ap (drop begun) c.in-Ok.ensures.items ∙ drop-append-le begun runs (new ∷ []) c.requires))
+    (sym (ap (drop begun) c.in_ok-push.ensures.items ∙ drop-append-le begun runs (new ∷ []) c.requires))
     (elim c.if-count-begun.branch [
       | then-count-begun+else-last-start+else-is_same w ↦ (
           let d = w.index.result.now in

@@ -23,4 +23,4 @@ returns-clause-ended c =
     (c.beside_table.ensures ∙ ap₂ beside_table c.has_directory_0.ensures c.of.ensures) refl refl)
     (λ live units rows st. subst (λ ns. Stands live c.end_unit.new.self
     (units ++ record { number = number_in ns c.in_ok-numbers.other; rows = rows } ∷ []) [])
-    c.as_slice.ensures.value (c.end_unit.ensures live units rows st))
+    c.as_slice.ensures.value (c.end_unit.ensures.ended live units rows st))
