@@ -1,7 +1,7 @@
 -- What a maker keeps of what it is told.
 use Rattle.std.proofs.Common.{◌≡◌, ℕ, ◌+◌, ◌<◌, ◌^◌, Bool, true, false, List, [], ◌∷◌, ◌++◌, length, map, Option, Some, None}
 use Rattle.std.proofs.Common.{Result, Ok, Err, refl, sym, ap, ap₂, ◌∙◌, subst}
-use Rattle.std.specs.Prelude.{slice_get, unwrap_or, IfOk, OnOk}
+use Rattle.std.specs.Prelude.{slice_get, unwrap_or}
 use Rattle.std.specs.List.{Contains}
 use Rattle.std.specs.Option.{option_map, option_or, option_copied}
 use Rattle.std.specs.Io.KnownBytes.{Appends}
@@ -34,7 +34,8 @@ use Rattle.dl_stretch.specs.Runs as runs
 use Rattle.dl_stretch.specs.Stands.{Stands}
 use Rattle.dl_stretch.specs.declared.run.Run.{Run}
 use Rattle.dl_stretch.specs.Runs.{number_in}
-use Rattle.dl_stretch.specs.ToldUnits.{NameFiles, UnitRows, told_of_units}
+use Rattle.dl_stretch.specs.Held.{held}
+use Rattle.dl_stretch.specs.ToldUnits.{NameFiles, UnitRows, file_of, told_of_units}
 use Rattle.dl_stretch.proofs.UnitLemmas.{told_of_units-push}
 use Rattle.dl_pack.specs.Named.{Named, Grows, Once}
 use Rattle.dl_pack.specs.Shown.{named_files}
@@ -244,7 +245,7 @@ settles first now start held visits flow.Stop s = absurd s
 module _ (old new : Maker) (h : Option HeaderData) (u : UnitFiles) (runs : List Run) (numbers : List ℕ) (other : ℕ)
     (grows : Grows (named_files old.names) (named_files new.names))
     (once : Once (named_files old.names) → Once (named_files new.names)) where
-  pub ended : ((file : ℕ) → Contains (map (λ (x : Run). x.told.file) runs) file
+  pub ended : ((file : ℕ) → Contains (map file_of runs) (held file)
       → slice_get (named_files new.names) (number_in numbers other file) ≡ Some (file_in u file))
       → ((live : ℕ → Bool) (units : List UnitRows) (rows : List Row) → Stands live old.runs units rows
       → NameFiles live rows runs)

@@ -15,6 +15,8 @@ use Rattle.dl_print.specs.ValueText.{Strings, strings_of}
 use Rattle.dl_path.specs.PathTexts.{entry_parts, file_parts, texts_under}
 use Rattle.dl_pack.specs.Named.{Named, Grows}
 use Rattle.dl_stretch.specs.declared.run.Run.{Run}
+use Rattle.dl_stretch.specs.Held.{held}
+use Rattle.dl_stretch.specs.ToldUnits.{file_of}
 use Rattle.dl_addr.specs.Texts.{files_end}
 use Rattle.dl_addr.proofs.TextLemmas.{numbered_past}
 use Rattle.dl_making.specs.declared.files.UnitFiles.{UnitFiles}
@@ -55,17 +57,16 @@ module _ (u : UnitFiles) (old new : List Named) (numbers : List ℕ) where
 
   pub numbered_grown : (file : ℕ) → Grows old new → IsNumbered u old numbers file → IsNumbered u new numbers file
   numbered_grown file grows is = record {
-    within = is.within;
     right = still_there old new (get_or numbers (place_of numbers file) 0) (file_in u (place_of numbers file)) grows is.right;
   }
 
   -- a number that was looked up, and is not the one that stands for none
-  pub numbered_seen : (file entry : ℕ) → 0 < length numbers → file < 2 ^ 64 → entry ≡ place_of numbers file
-      → (get_or numbers entry 0 ≡ 0xffffffffffffffff → ⊥) → AreSeen u old numbers → IsNumbered u old numbers file
-  numbered_seen file entry some within is not_none seen =
+  pub numbered_seen : (file entry : ℕ) → 0 < length numbers → entry ≡ place_of numbers file
+      → (get_or numbers entry 0 ≡ 0x7fffffffffffffff → ⊥) → AreSeen u old numbers → IsNumbered u old numbers file
+  numbered_seen file entry some is not_none seen =
       elim (seen (place_of numbers file) (omega arith)) [
         | inl none ↦ absurd (not_none (ap (λ e. get_or numbers e 0) is ∙ none))
-        | inr right ↦ record { within = within; right = right }
+        | inr right ↦ record { right = right }
       ]
 
   -- one number more is looked up
@@ -97,50 +98,46 @@ module _ (u : UnitFiles) (old new : List Named) (numbers : List ℕ) where
     place_same : (file : ℕ) → place_of (slice_set numbers entry n) file ≡ place_of numbers file
     place_same file = ap (λ m. min file (m - 1)) (length-set numbers entry n)
 
-    right_at : (file k : ℕ) → file < 2 ^ 64 → k ≡ place_of numbers file
+    right_at : (file k : ℕ) → k ≡ place_of numbers file
         → slice_get new (get_or (slice_set numbers entry n) k 0) ≡ Some (file_in u k)
         → IsNumbered u new (slice_set numbers entry n) file
-    right_at file k within is there = record {
-      within = within;
+    right_at file k is there = record {
       right = subst (λ e. slice_get new (get_or (slice_set numbers entry n) e 0) ≡ Some (file_in u e))
           (is ∙ sym (place_same file)) there;
     }
 
-    pub numbered_set : (file : ℕ) → file < 2 ^ 64 → entry ≡ place_of numbers file
+    pub numbered_set : (file : ℕ) → entry ≡ place_of numbers file
         → IsNumbered u new (slice_set numbers entry n) file
-    numbered_set file within is = right_at file entry within is (here entry refl)
+    numbered_set file is = right_at file entry is (here entry refl)
 
     pub others_set : (other : ℕ) → IsNumbered u old numbers other → IsNumbered u new (slice_set numbers entry n) other
     others_set other is =
         let k = place_of numbers other in
         elim (number_at k (omega (arith, lt))) [
-          | inl same ↦ right_at other k is.within refl (here k same)
-          | inr same ↦ right_at other k is.within refl (ap (slice_get new) same
+          | inl same ↦ right_at other k refl (here k same)
+          | inr same ↦ right_at other k refl (ap (slice_get new) same
               ∙ still_there old new (get_or numbers k 0) (file_in u k) grows is.right)
         ]
 
 -- ---- files past those of the table
 
-parts_clamped : (s : Strings) (header : Option HeaderData) (file end : ℕ) → file < 2 ^ 64
+parts_clamped : (s : Strings) (header : Option HeaderData) (file end : ℕ) → end < 2 ^ 63
     → end ≡ option_map_or files_end header 0 → file_parts s header (min file end) ≡ file_parts s header file
-parts_clamped s None file end within is = refl
-parts_clamped s (Some h) file end within is =
+parts_clamped s None file end few is = refl
+parts_clamped s (Some h) file end few is =
     let first = first_number h.params in
     let n = first + length h.files.entries in
     elim (cases_lt file end) [
       | inl lt ↦ (let e : min file end ≡ file = omega (arith, lt) in ap (file_parts s (Some h)) e)
-      | inr le ↦ elim (cases_lt n (2 ^ 64)) [
-        | inl few ↦ ap (option_and_then (entry_parts s h)) (numbered_past first h.files (min file end) (omega (arith, le, few, is))
-            ∙ sym (numbered_past first h.files file (omega (arith, le, few, is))))
-        | inr many ↦ (let e : min file end ≡ file = omega (arith, within, many, is) in ap (file_parts s (Some h)) e)
-      ]
+      | inr le ↦ ap (option_and_then (entry_parts s h)) (numbered_past first h.files (min file end) (omega (arith, le, few, is))
+          ∙ sym (numbered_past first h.files file (omega (arith, le, few, is))))
     ]
 
-pub file_clamped : (u : UnitFiles) (file end : ℕ) → file < 2 ^ 64
+pub file_clamped : (u : UnitFiles) (file end : ℕ) → end < 2 ^ 63
     → end ≡ option_map_or files_end (option_copied u.header) 0 → file_in u (min file end) ≡ file_in u file
-file_clamped u file end within is =
+file_clamped u file end few is =
     ap (λ parts. record { unit = u.offset; parts = option_map_or (texts_under (option_copied u.directory)) parts [] })
-    (parts_clamped (strings_of u.strings.now) (option_copied u.header) file end within is)
+    (parts_clamped (strings_of u.strings.now) (option_copied u.header) file end few is)
 
 -- the number of a file in the list, and past its end the last one
 number_placed : (numbers : List ℕ) (file : ℕ) → 0 < length numbers
@@ -157,40 +154,45 @@ number_placed numbers file some =
     ]
 
 pub numbered_right : (u : UnitFiles) (files : List Named) (numbers : List ℕ) (end other file : ℕ)
-    → length numbers ≡ end + 1 → other ≡ get_or numbers end other → end ≡ option_map_or files_end (option_copied u.header) 0
-    → IsNumbered u files numbers file → slice_get files (slice_index_or numbers file other) ≡ Some (file_in u file)
-numbered_right u files numbers end other file len other_is end_is is =
+    → length numbers ≡ end + 1 → length numbers < 2 ^ 63 → other ≡ get_or numbers end other
+    → end ≡ option_map_or files_end (option_copied u.header) 0
+    → IsNumbered u files numbers (held file) → slice_get files (slice_index_or numbers file other) ≡ Some (file_in u file)
+numbered_right u files numbers end other file len few other_is end_is is =
     let last : length numbers - 1 ≡ end = omega (arith, len) in
+    let place : place_of numbers file ≡ place_of numbers (held file) = omega (arith, few) in
     ap (λ o. slice_get files (slice_index_or numbers file o)) (other_is
     ∙ any_default numbers end other (omega (arith, len))
     ∙ ap (λ k. get_or numbers k 0) (sym last))
     ∙ ap (slice_get files) (number_placed numbers file (omega (arith, len)))
+    ∙ ap (λ k. slice_get files (get_or numbers k 0)) place
     ∙ is.right
+    ∙ ap (λ k. Some (file_in u k)) (sym place)
     ∙ ap (λ k. Some (file_in u (min file k))) last
-    ∙ ap Some (file_clamped u file end is.within end_is)
+    ∙ ap Some (file_clamped u file end (omega (arith, len, few)) end_is)
 
 -- ---- runs, one after the other
 
 module _ (u : UnitFiles) (old new : List Named) (numbers after : List ℕ) (runs : List Run) where
   abbrev numbered_in : List Named → List ℕ → Run → Type 0
-  numbered_in files list run = IsNumbered u files list run.told.file
+  numbered_in files list run = IsNumbered u files list (file_of run)
 
-  pub numbered_more : (i file : ℕ) (d : Run) → i < length runs → file ≡ (get_or runs i d).told.file
+  pub numbered_more : (i file : ℕ) (d : Run) → i < length runs → file ≡ file_of (get_or runs i d)
       → All (numbered_in old numbers) (take i runs)
       → ((other : ℕ) → IsNumbered u old numbers other → IsNumbered u new after other)
       → IsNumbered u new after file → All (numbered_in new after) (take (i + 1) runs)
   numbered_more i file d lt is before others one =
       All-more (numbered_in new after) runs i d lt
-      (All-weaker (numbered_in old numbers) (numbered_in new after) (λ r numbered. others r.told.file numbered) (take i runs) before)
+      (All-weaker (numbered_in old numbers) (numbered_in new after) (λ r numbered. others (file_of r) numbered) (take i runs) before)
       (subst (IsNumbered u new after) is one)
 
 pub numbered_all : (u : UnitFiles) (files : List Named) (numbers : List ℕ) (end other : ℕ) (runs : List Run) (i file : ℕ)
-    → length numbers ≡ end + 1 → other ≡ get_or numbers end other → end ≡ option_map_or files_end (option_copied u.header) 0
-    → length runs ≤ i → All (λ (run : Run). IsNumbered u files numbers run.told.file) (take i runs)
-    → Contains (map (λ (x : Run). x.told.file) runs) file
+    → length numbers ≡ end + 1 → length numbers < 2 ^ 63 → other ≡ get_or numbers end other
+    → end ≡ option_map_or files_end (option_copied u.header) 0
+    → length runs ≤ i → All (λ (run : Run). IsNumbered u files numbers (file_of run)) (take i runs)
+    → Contains (map file_of runs) (held file)
     → slice_get files (slice_index_or numbers file other) ≡ Some (file_in u file)
-numbered_all u files numbers end other runs i file len other_is end_is le all named =
-    numbered_right u files numbers end other file len other_is end_is
-    (All-contains (IsNumbered u files numbers) (map (λ (x : Run). x.told.file) runs) file
-    (All-map (IsNumbered u files numbers) (λ (x : Run). x.told.file) runs
-    (subst (All (λ (run : Run). IsNumbered u files numbers run.told.file)) (take_all i runs le) all)) named)
+numbered_all u files numbers end other runs i file len few other_is end_is le all named =
+    numbered_right u files numbers end other file len few other_is end_is
+    (All-contains (IsNumbered u files numbers) (map file_of runs) (held file)
+    (All-map (IsNumbered u files numbers) file_of runs
+    (subst (All (λ (run : Run). IsNumbered u files numbers (file_of run))) (take_all i runs le) all)) named)

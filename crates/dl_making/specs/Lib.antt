@@ -9,5 +9,6 @@ pub mod WritesUntil
 pub mod LineLaws
 -- Of contracts inside the crate, and of proofs; no public contract reaches these.
 pub mod UnitFile
+pub mod Wants
 pub mod Numbers
 pub mod Making

@@ -9,7 +9,7 @@ use crate::numbers::numbers_of;
 use dl_dirs::CompilationDirectories;
 use dl_head::Header;
 use dl_look::CodeRanges;
-use dl_memory::NoMemory;
+use dl_memory::{NoMemory, System};
 use dl_pack::Names;
 use dl_path::{beside_table, has_directory_0};
 use dl_print::StringSections;
@@ -52,7 +52,7 @@ impl<W: Write> Visitor<W> for Maker<'_, '_, '_> {
     #[inline(always)]
     fn row(&mut self, _output: &mut W, row: &Row) -> Result<(), RunFault> {
         let is_live = self.begins_live(row.address);
-        match self.runs.row(row, is_live) {
+        match self.runs.row(&System::new(self.alloc), row, is_live) {
             Ok(()) => Ok(()),
             Err(NoMemory) => {
                 self.is_refused = true;
@@ -160,7 +160,7 @@ impl<'s, 'o, 'q> Maker<'s, 'o, 'q> {
             offset: self.unit,
         };
         let runs = self.runs.unit_runs();
-        let (numbers, other) = numbers_of(self.alloc, &mut self.names, &unit, runs)?;
+        let (numbers, other) = numbers_of(&System::new(self.alloc), &mut self.names, &unit, runs)?;
         self.runs.end_unit(numbers.as_slice(), other);
         Ok(())
     }

@@ -12,7 +12,7 @@ ghost use Rattle.dl_making.specs.Making.{Making, WasTold, told_after};
 use crate::maker::Maker;
 use dl_dirs::CompilationDirectories;
 use dl_look::CodeRanges;
-use dl_memory::NoMemory;
+use dl_memory::{NoMemory, System};
 use dl_pack::{PackFault, index_bytes};
 use dl_print::{StringSections, Summary};
 use dl_run::{Options, RunFault, SECTION_LIMIT, Survey, read_units, read_units_around};
@@ -110,7 +110,7 @@ pub(crate) fn told_index(
     if maker.is_refused {
         return Err(NoMemory);
     }
-    let stretches = maker.runs.stretches(alloc)?;
+    let stretches = maker.runs.stretches(&System::new(alloc))?;
     match index_bytes(
         alloc,
         &stretches,

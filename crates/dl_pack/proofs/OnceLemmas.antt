@@ -166,7 +166,7 @@ kept_or_put : {A : Type 0} (b : Bool) (old new : List A) (k : A) → new ≡ (if
 kept_or_put true old new k is = ([], is ∙ sym (append-nil old), All-nil (λ x. x ≡ k))
 kept_or_put false old new k is = (k ∷ [], is, All-cons (λ x. x ≡ k) k [] refl (All-nil (λ x. x ≡ k)))
 
-pub keys_after : {A E : Type 0} (e : A → A → Bool) (old new : List A) (k : A) (r : Result (ℕ × Bool) E)
+pub keys_after : {A B E : Type 0} (e : A → A → Bool) (old new : List A) (k : A) (r : Result B E)
     → IfOk r (λ _. new ≡ insert_key e old k) → OnErr r (new ≡ old)
     → (more : List A) × (new ≡ old ++ more) × All (λ x. x ≡ k) more
 keys_after e old new k (Ok r) put same = kept_or_put (list_any (e k) old) old new k put

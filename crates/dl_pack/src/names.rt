@@ -1,10 +1,12 @@
 //! What the numbers of files stand for.
 
-ghost use Rattle.std.specs.Prelude.{◌≡◌, ◌+◌, ◌≤◌, ◌<◌, ◌^◌, ℕ, List, length, map, Some, slice_get, is_ok, IfOk, if◌then◌else◌};
+ghost use Rattle.std.specs.Prelude.{◌≡◌, ◌+◌, ◌≤◌, ◌<◌, ◌^◌, ℕ, List, length, map, Some, slice_get, is_ok, IfOk, OnErr, if◌then◌else◌};
 ghost use Rattle.std.specs.List.{All};
+ghost use Rattle.dl_memory.specs.Refusals.{IsRefused};
 ghost use Rattle.dl_pack.specs.Named.{Once, named, parts_of, text_of, with_text};
 ghost use Rattle.dl_pack.specs.Within.{HasTexts, Packed, texts_in};
 
+use crate::set_memory::SetMemory;
 use dl_memory::NoMemory;
 use indexmap::IndexSet;
 use std::alloc::Global;
@@ -20,7 +22,6 @@ pub struct FileTexts {
 /// Files by their numbers, from 0, and the texts of their paths by theirs, from 1, each of which is kept once.
 #[derive(Drop)]
 pub struct Names {
-    alloc: Global,
     texts: IndexSet<Vec<u8>>,
     files: IndexSet<FileTexts>,
     ghost few: { length texts.keys < 2 ^ 32 },
@@ -30,7 +31,8 @@ pub struct Names {
 }
 
 impl Names {
-    ghost use Rattle.std.specs.Prelude.{◌≡◌, ◌+◌, ◌-◌, ◌≤◌, ◌++◌, ◌∷◌, [], Some, length, slice_get, is_ok, IfOk, if◌then◌else◌};
+    ghost use Rattle.dl_memory.specs.Refusals.{IsRefused};
+    ghost use Rattle.std.specs.Prelude.{◌≡◌, ◌⊎◌, ◌+◌, ◌-◌, ◌<◌, ◌≤◌, ◌^◌, ◌++◌, ◌∷◌, [], Some, length, slice_get, is_ok, IfOk, OnErr, if◌then◌else◌};
     ghost use Rattle.std.specs.Option.{option_copied, option_map, option_to_list};
     ghost use Rattle.dl_pack.specs.Named.{Grows, Once, named, text_of, file_of, with_text};
     ghost use Rattle.dl_pack.specs.Shown.{named_files, texts_of};
@@ -41,14 +43,15 @@ impl Names {
         ensures files { named_files result ≡ [] }
     {
         Names {
-            alloc,
             texts: IndexSet::new(alloc),
             files: IndexSet::new(alloc),
         }
     }
 
-    /// The number of a text. It is refused where there would be 2^32 of them, as where memory is.
-    pub fn add_text(&mut self, text: &[u8]) -> Result<u32, NoMemory>
+    /// The number of a text. `NoMemory` only where memory is refused, or there would be 2^32 texts.
+    pub fn add_text<M: SetMemory>(&mut self, memory: &M, text: &[u8]) -> Result<u32, NoMemory>
+        ensures refused { OnErr result (IsRefused (M.refuses memory.now) (length text.now + length (texts_of self.old) + 1)
+            ⊎ (0xffffffff ≤ length (texts_of self.new))) }
         ensures text { IfOk result (λ n. (1 ≤ n) × (slice_get (texts_of self.new) (n - 1) ≡ Some text.now)) }
         ensures texts { texts_of self.new ≡ (if is_ok result then with_text (texts_of self.old) text.now
             else texts_of self.old) }
@@ -57,14 +60,21 @@ impl Names {
         if self.texts.len() >= 0xffff_ffff {
             return Err(NoMemory);
         }
-        let index = put(self.alloc, &mut self.texts, text)?;
+        let index = put(memory, &mut self.texts, text)?;
         Ok(index as u32 + 1)
     }
 
     /// Adds a file, of the unit at this offset, whose path is made of the texts of these numbers; one that stands for no
     /// text, as 0, is left out. Answers the number of the file: that of the same one, where it was added before.
-    pub fn add_file(&mut self, unit: u64, texts: [u32; 3]) -> Result<u64, NoMemory>
+    pub fn add_file<M: SetMemory>(
+        &mut self,
+        memory: &M,
+        unit: u64,
+        texts: [u32; 3],
+    ) -> Result<u64, NoMemory>
+        ensures refused { OnErr result (IsRefused (M.refuses memory.now) (length (named_files self.old) + 1)) }
         ensures number { IfOk result (λ n. slice_get (named_files self.new) n ≡ Some (file_of (texts_of self.old) unit texts)) }
+        ensures small { IfOk result (λ n. n < 2 ^ 63) }
         ensures grows { Grows (named_files self.old) (named_files self.new) }
         ensures once { Once (named_files self.new) }
         ensures texts { texts_of self.new ≡ texts_of self.old }
@@ -77,9 +87,9 @@ impl Names {
             known(third, count),
         ]);
         let file = FileTexts { unit, texts };
-        match self.files.insert_full(file) {
-            Ok(placed) => Ok(placed.0 as u64),
-            Err(_) => Err(NoMemory),
+        match memory.insert(&mut self.files, file) {
+            Ok(place) => Ok(number_at(&self.files, place)),
+            Err(NoMemory) => Err(NoMemory),
         }
     }
 
@@ -144,21 +154,32 @@ impl Names {
     }
 }
 
+/// The number of the file at a place, of which a set has fewer than 2^63.
+fn number_at(files: &IndexSet<FileTexts>, place: usize) -> u64
+    requires { place < length files.now.keys }
+    ensures same { result ≡ place }
+    ensures small { result < 2 ^ 63 }
+{
+    prove!(place < files.len());
+    place as u64
+}
+
 /// The place of a text, which goes last where it is new.
-fn put(alloc: Global, texts: &mut IndexSet<Vec<u8>>, text: &[u8]) -> Result<usize, NoMemory>
+fn put<M: SetMemory>(
+    memory: &M,
+    texts: &mut IndexSet<Vec<u8>>,
+    text: &[u8],
+) -> Result<usize, NoMemory>
+    ensures refused { OnErr result (IsRefused (M.refuses memory.now) (length text.now + length texts.old.keys + 1)) }
     ensures index { IfOk result (λ i. slice_get (texts_in texts.new) i ≡ Some text.now) }
     ensures texts { texts_in texts.new ≡ (if is_ok result then with_text (texts_in texts.old) text.now else texts_in texts.old) }
     ensures within { IfOk result (λ i. i ≤ length texts.old.keys) }
     ensures more { length texts.old.keys ≤ length texts.new.keys }
     ensures few { length texts.new.keys ≤ length texts.old.keys + 1 }
 {
-    let Ok(copy) = Vec::from_slice(alloc, text) else {
-        return Err(NoMemory);
-    };
-    match texts.insert_full(copy) {
-        Ok(placed) => Ok(placed.0),
-        Err(_) => Err(NoMemory),
-    }
+    let mut copy = memory.with_capacity(text.len())?;
+    memory.extend_from_slice(&mut copy, text)?;
+    memory.insert(texts, copy)
 }
 
 /// The same number; 0 where there are fewer texts.

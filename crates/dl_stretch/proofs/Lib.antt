@@ -1,5 +1,6 @@
 pub mod CutPlaceLemmas
 pub mod CutStretches
+pub mod HeldLemmas
 pub mod LastBegun
 pub mod NameLemmas
 pub mod PartLemmas

@@ -14,17 +14,15 @@ use Rattle.dl_look.proofs.LiveLemmas.{of_live_rows}
 use Rattle.dl_stretch.specs.declared.told.Told.{Told}
 use Rattle.dl_stretch.specs.declared.run.Run.{Run}
 use Rattle.dl_stretch.specs.declared.run_spans.RunSpans.{RunSpans}
+use Rattle.dl_stretch.specs.Held.{told_by}
 use Rattle.dl_stretch.specs.Runs.{place_at, run_told_at}
 use Rattle.dl_stretch.specs.Spans.{runs_in, answer_of}
 use Rattle.dl_stretch.specs.Parts.{ended}
 use Rattle.dl_stretch.specs.Stands.{Holds}
-use Rattle.dl_stretch.specs.ToldUnits.{NameFiles}
+use Rattle.dl_stretch.specs.ToldUnits.{NameFiles, file_of}
 use Rattle.dl_stretch.proofs.RenumberLemmas.{run_told-cons}
 use Rattle.dl_stretch.proofs.RunLemmas.{row_told}
 use Rattle.dl_stretch.proofs.SpanAnswers.{answer-cons}
-
-abbrev file_of : Run → ℕ
-file_of x = x.told.file
 
 abbrev files : List Run → List ℕ
 files runs = map file_of runs
@@ -40,9 +38,9 @@ begun false u t h = cc
 run_named : (runs : List Run) (a : ℕ) (t : Told) → run_told_at runs a ≡ Some t → Contains (files runs) t.file
 run_named [] a t e = cc
 run_named (x ∷ xs) a t e =
-    either (run_told_at xs a) (if nat_le x.start a then Some x.told else None) t (Contains (files (x ∷ xs)) t.file)
-    (λ h. Contains-append_right (x.told.file ∷ []) (files xs) t.file (run_named xs a t h))
-    (λ h. (0, omega arith, ap (λ (t : Told). t.file) (begun (nat_le x.start a) x.told t h)))
+    either (run_told_at xs a) (if nat_le x.start a then Some (told_by x) else None) t (Contains (files (x ∷ xs)) t.file)
+    (λ h. Contains-append_right (file_of x ∷ []) (files xs) t.file (run_named xs a t h))
+    (λ h. (0, omega arith, ap (λ (t : Told). t.file) (begun (nat_le x.start a) (told_by x) t h)))
     (sym (run_told-cons x xs a) ∙ e)
 
 part_named : (l : List ℕ) (start len y : ℕ) → Contains (take len (drop start l)) y → Contains l y

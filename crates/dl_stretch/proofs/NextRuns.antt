@@ -6,6 +6,7 @@ use Rattle.std.specs.Option.{option_map}
 use Rattle.std.proofs.lemmas.Bool.{cases_lt, cases_eq, lt-ltb, le-ltb}
 use Rattle.dl_stretch.specs.declared.told.Told.{Told}
 use Rattle.dl_stretch.specs.declared.run.Run.{Run}
+use Rattle.dl_stretch.specs.Held.{told_by}
 use Rattle.dl_stretch.specs.Runs.{run_told_at}
 use Rattle.dl_stretch.specs.RowRuns.{RunsRise}
 use Rattle.dl_stretch.specs.Made.{no_run, start_at, next_start}
@@ -30,15 +31,15 @@ starts_above runs m a r above k le lt = let h = starts_far runs r m k le lt in o
 -- what the run before the run n tells
 abbrev pub told_before : List Run → ℕ → Option Told
 told_before runs zero = None
-told_before runs (suc n) = Some (get_or runs n no_run).told
+told_before runs (suc n) = Some (told_by (get_or runs n no_run))
 
 pub between : (runs : List Run) (n a : ℕ) → RunsRise runs → n ≤ length runs
     → ((k : ℕ) → k < n → start_at runs k ≤ a) → (n < length runs → a < start_at runs n)
     → run_told_at runs a ≡ told_before runs n
 between runs zero a r le upto above =
-    ap (option_map (λ (r : Run). r.told)) (none_at run_start runs a no_run r above)
+    ap (option_map told_by) (none_at run_start runs a no_run r above)
 between runs (suc n) a r le upto above =
-    ap (option_map (λ (r : Run). r.told)) (some_at run_start runs a n no_run r (omega arith) (upto n (omega arith)) above)
+    ap (option_map told_by) (some_at run_start runs a n no_run r (omega arith) (upto n (omega arith)) above)
 
 pub next_within : (runs : List Run) (end n : ℕ) → n < length runs
     → next_start runs end n ≡ min (start_at runs n) end

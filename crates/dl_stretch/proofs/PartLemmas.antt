@@ -119,7 +119,7 @@ module _ (runs : List Run) (spans : List Span) (w n : ℕ) (parted : AreParted r
 
   -- ---- the current unit ends
 
-  module _ (number : ℕ → ℕ) where
+  module _ (number : ℕ → ℕ) (small : (file : ℕ) → number file < 2 ^ 63) where
     abbrev all : List Run
     all = take w runs ++ map (renumbered_run number) (drop w runs)
 
@@ -131,7 +131,7 @@ module _ (runs : List Run) (spans : List Span) (w n : ℕ) (parted : AreParted r
     ended_sound =
         subst (AreSound all) (take-append-drop n spans)
         (sound_append all (take n spans) (drop n spans) ended_front
-        (sound_moved number runs w parted.runs_few (drop n spans) unit_sound parted.after))
+        (sound_moved number small runs w parted.runs_few (drop n spans) unit_sound parted.after))
 
     pub parted_ended : (m k : ℕ) → m ≡ length all → k ≡ length spans → AreParted all spans m k
     parted_ended m k at count = record {
@@ -149,7 +149,7 @@ module _ (runs : List Run) (spans : List Span) (w n : ℕ) (parted : AreParted r
         ap (λ l. answer_of all l a) (take_all k spans (omega (arith, count)) ∙ sym (take-append-drop n spans))
         ∙ answer-append all (take n spans) (drop n spans) a ended_front.full lt
         ∙ ap₂ option_or (front_answers (map (renumbered_run number) (drop w runs)) a)
-        (answer-moved number runs w parted.runs_few (drop n spans) a parted.after)
+        (answer-moved number small runs w parted.runs_few (drop n spans) a parted.after)
 
     pub none_left : (k a : ℕ) → k ≡ length spans → answer_of all (drop k spans) a ≡ None
     none_left k a count = ap (λ l. answer_of all l a) (drop_all k spans (omega (arith, count)))

@@ -1,5 +1,5 @@
 -- Runs with other numbers of their files.
-use Rattle.std.proofs.Common.{◌≡◌, ℕ, ◌+◌, ◌-◌, ◌<◌, ◌≤◌, true, false, List, [], ◌∷◌, ◌++◌, length, take, drop, map}
+use Rattle.std.proofs.Common.{◌≡◌, ℕ, ◌+◌, ◌-◌, ◌<◌, ◌≤◌, ◌^◌, true, false, List, [], ◌∷◌, ◌++◌, length, take, drop, map}
 use Rattle.std.proofs.Common.{get_or, set, Option, Some, None, arith, refl, sym, ap, ap₂, subst, ◌∙◌, length-append}
 use Rattle.std.specs.Prelude.{if◌then◌else◌, nat_le, is_none}
 use Rattle.std.specs.List.{All}
@@ -13,10 +13,12 @@ use Rattle.dl_look.specs.Cuts.{covers_span}
 use Rattle.dl_stretch.specs.declared.told.Told.{Told}
 use Rattle.dl_stretch.specs.declared.run.Run.{Run}
 use Rattle.dl_stretch.specs.Renumbered.{renumbered_run}
+use Rattle.dl_stretch.specs.Held.{told_by}
 use Rattle.dl_stretch.specs.Runs.{place_at, run_told_at, renumbered}
 use Rattle.dl_stretch.specs.RowRuns.{RunsRise, StartsRise}
 use Rattle.dl_stretch.specs.Spans.{runs_in, answer_of, AreSound}
 use Rattle.dl_stretch.specs.Stretches.{last_begun}
+use Rattle.dl_stretch.proofs.HeldLemmas.{told_renumbered}
 use Rattle.dl_stretch.proofs.LastBegun.{last_begun-cons}
 use Rattle.dl_stretch.proofs.RunLemmas.{run_start, rise_from, rise_to}
 use Rattle.dl_stretch.proofs.SpanAnswers.{answer-cons}
@@ -26,17 +28,17 @@ map-or f None p = refl
 map-or f (Some x) p = refl
 
 pub run_told-cons : (x : Run) (xs : List Run) (a : ℕ) → run_told_at (x ∷ xs) a ≡ option_or (run_told_at xs a)
-    (if nat_le x.start a then Some x.told else None)
+    (if nat_le x.start a then Some (told_by x) else None)
 run_told-cons x xs a =
-    ap (option_map (λ (r : Run). r.told)) (last_begun-cons run_start x xs a)
-    ∙ elim (nat_le x.start a) as (λ b. option_map (λ (r : Run). r.told) (option_or
+    ap (option_map told_by) (last_begun-cons run_start x xs a)
+    ∙ elim (nat_le x.start a) as (λ b. option_map told_by (option_or
     (last_begun run_start xs a) (if b then Some x else None))
-    ≡ option_or (run_told_at xs a) (if b then Some x.told else None)) [
-      | true ↦ map-or (λ (r : Run). r.told) (last_begun run_start xs a) (Some x)
-      | false ↦ map-or (λ (r : Run). r.told) (last_begun run_start xs a) None
+    ≡ option_or (run_told_at xs a) (if b then Some (told_by x) else None)) [
+      | true ↦ map-or told_by (last_begun run_start xs a) (Some x)
+      | false ↦ map-or told_by (last_begun run_start xs a) None
     ]
 
-module _ (number : ℕ → ℕ) where
+module _ (number : ℕ → ℕ) (small : (file : ℕ) → number file < 2 ^ 63) where
   abbrev anew : List Run → List Run
   anew runs = map (renumbered_run number) runs
 
@@ -44,11 +46,11 @@ module _ (number : ℕ → ℕ) where
   told-map [] a = refl
   told-map (x ∷ xs) a =
       run_told-cons (renumbered_run number x) (anew xs) a
-      ∙ ap (λ o. option_or o (if nat_le x.start a then Some (renumbered number x.told) else None)) (told-map xs a)
+      ∙ ap₂ (λ o t. option_or o (if nat_le x.start a then Some t else None)) (told-map xs a) (told_renumbered number small x)
       ∙ elim (nat_le x.start a) as (λ b. option_or (option_map (renumbered number) (run_told_at xs a)) (if b
-      then Some (renumbered number x.told) else None) ≡ option_map (renumbered number) (option_or (run_told_at xs a) (if b
-      then Some x.told else None))) [
-        | true ↦ sym (map-or (renumbered number) (run_told_at xs a) (Some x.told))
+      then Some (renumbered number (told_by x)) else None) ≡ option_map (renumbered number) (option_or (run_told_at xs a) (if b
+      then Some (told_by x) else None))) [
+        | true ↦ sym (map-or (renumbered number) (run_told_at xs a) (Some (told_by x)))
         | false ↦ sym (map-or (renumbered number) (run_told_at xs a) None)
       ]
       ∙ ap (option_map (renumbered number)) (sym (run_told-cons x xs a))
@@ -117,12 +119,9 @@ module _ (number : ℕ → ℕ) where
     }
 
 -- one run more has its number
-module _ (number : ℕ → ℕ) (items old : List Run) (i : ℕ) (lt : i < length items) (less : i < length old) (d : Run) (t : Told)
-    (told : t ≡ renumbered number (get_or items i d).told)
+module _ (number : ℕ → ℕ) (items old : List Run) (i : ℕ) (lt : i < length items) (less : i < length old) (d one : Run)
+    (is : one ≡ renumbered_run number (get_or items i d))
     (done : take i items ≡ map (renumbered_run number) (take i old)) (left : drop i items ≡ drop i old) where
-  abbrev one : Run
-  one = record { start = (get_or items i d).start; told = t }
-
   here : i + 0 ≡ i
   here = omega arith
 
@@ -132,7 +131,7 @@ module _ (number : ℕ → ℕ) (items old : List Run) (i : ℕ) (lt : i < lengt
       ∙ get_or-drop i old 0 d ∙ ap (λ n. get_or old n d) here
 
   one_is : one ≡ renumbered_run number (get_or old i d)
-  one_is = ap (λ (u : Told). record { start = (get_or items i d).start; told = u }) told ∙ ap (renumbered_run number) same
+  one_is = is ∙ ap (renumbered_run number) same
 
   pub one_done : take (i + 1) (set items i one) ≡ map (renumbered_run number) (take (i + 1) old)
   one_done =

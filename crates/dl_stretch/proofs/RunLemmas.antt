@@ -23,7 +23,8 @@ use Rattle.dl_look.proofs.MoreRows.{last_place-push}
 use Rattle.dl_stretch.specs.declared.told.Told.{Told}
 use Rattle.dl_stretch.specs.declared.run.Run.{Run}
 use Rattle.dl_stretch.specs.Stretches.{last_begun}
-use Rattle.dl_stretch.specs.Runs.{place_at, first_address, told_of, as_given, run_told_at}
+use Rattle.dl_stretch.specs.Held.{held, told_by}
+use Rattle.dl_stretch.specs.Runs.{place_at, first_address, told_of, run_told_at}
 use Rattle.dl_stretch.specs.Laws.{CoversAddresses, CoversLast, LastRowBegun}
 use Rattle.dl_stretch.specs.RowRuns.{RunsRise, StartsRise, AreRunsOf}
 use Rattle.dl_stretch.specs.Made.{is_same}
@@ -76,7 +77,7 @@ pub rise_to : (runs : List Run) → RunsRise runs → StartsRise runs
 rise_to runs r j k d less lt = rise_at run_start runs r j k d less lt
 
 abbrev pub row_told : Row → Told
-row_told r = told_of as_given r
+row_told r = told_of held r
 
 -- what is told by the last row not above a, where one more row comes
 row_more : (rows : List Row) (r : Row) (a : ℕ) → option_map row_told (last_upto (place_at a) (rows ++ r ∷ []))
@@ -92,11 +93,11 @@ row_more rows r a =
 
 -- a run at the end
 pub run_more : (runs : List Run) (x : Run) (a : ℕ)
-    → run_told_at (runs ++ x ∷ []) a ≡ (if nat_le x.start a then Some x.told else run_told_at runs a)
+    → run_told_at (runs ++ x ∷ []) a ≡ (if nat_le x.start a then Some (told_by x) else run_told_at runs a)
 run_more runs x a =
-    ap (option_map (λ (r : Run). r.told)) (last_begun-push run_start runs x a)
-    ∙ elim (nat_le x.start a) as (λ b. option_map (λ (r : Run). r.told) (if b then Some x
-    else last_begun run_start runs a) ≡ (if b then Some x.told else run_told_at runs a)) [ true ↦ refl | false ↦ refl ]
+    ap (option_map told_by) (last_begun-push run_start runs x a)
+    ∙ elim (nat_le x.start a) as (λ b. option_map told_by (if b then Some x
+    else last_begun run_start runs a) ≡ (if b then Some (told_by x) else run_told_at runs a)) [ true ↦ refl | false ↦ refl ]
 
 twice : (b : Bool) (x y z : Option Told) → (if b then x else (if b then y else z)) ≡ (if b then x else z)
 twice true x y z = refl
@@ -120,7 +121,7 @@ module _ (runs : List Run) (some : 0 < length runs) (d : Run) where
       set_split runs (length runs - 1) x (omega arith)
       ∙ ap (λ l. front ++ x ∷ l) (drop_all (suc (length runs - 1)) runs (omega arith))
 
-  pub last_tells : (a : ℕ) → run_told_at runs a ≡ (if nat_le last.start a then Some last.told else run_told_at front a)
+  pub last_tells : (a : ℕ) → run_told_at runs a ≡ (if nat_le last.start a then Some (told_by last) else run_told_at front a)
   last_tells a = ap (λ l. run_told_at l a) split ∙ run_more front last a
 
 -- runs that tell of one row more
@@ -161,16 +162,13 @@ module _ (rows : List Row) (runs : List Run) (r : Row) (are : AreRunsOf rows run
       (λ a lt. sym (ap (λ (b : Bool). if b then Some (row_told r)
       else run_told_at runs a) (lt-leb begun a (omega (arith, past, lt))))) are.rise upto_before
 
-  module _ (start : ℕ) (told : Told) (at : start ≡ begun) (says : told ≡ row_told r) where
-    abbrev new : Run
-    new = record { start = start; told = told }
-
+  module _ (new : Run) (at : new.start ≡ begun) (says : told_by new ≡ row_told r) where
     same_test : (a : ℕ) (o : Option Told)
-        → (if nat_le start a then Some told else o) ≡ (if nat_le begun a then Some (row_told r) else o)
+        → (if nat_le new.start a then Some (told_by new) else o) ≡ (if nat_le begun a then Some (row_told r) else o)
     same_test a o = ap₂ (λ (n : ℕ) (t : Told). if nat_le n a then Some t else o) at says
 
     -- no run was there, or the last one begins before it
-    pub row_pushed : ((k : ℕ) (d : Run) → k < length runs → (get_or runs k d).start < start)
+    pub row_pushed : ((k : ℕ) (d : Run) → k < length runs → (get_or runs k d).start < new.start)
         → AreRunsOf (rows ++ r ∷ []) (runs ++ new ∷ [])
     row_pushed below =
         made (runs ++ new ∷ []) (λ a lt. run_more runs new a ∙ same_test a (run_told_at runs a))
@@ -188,14 +186,14 @@ module _ (rows : List Row) (runs : List Run) (r : Row) (are : AreRunsOf rows run
       rise_split = subst RunsRise (split runs some d) are.rise
 
       -- the last one begins there too
-      pub row_replaced : last_run.start ≡ start → AreRunsOf (rows ++ r ∷ []) (set runs (length runs - 1) new)
+      pub row_replaced : last_run.start ≡ new.start → AreRunsOf (rows ++ r ∷ []) (set runs (length runs - 1) new)
       row_replaced there =
           subst (AreRunsOf (rows ++ r ∷ [])) (sym (replaced runs some d new))
           (made (front runs some d ++ new ∷ [])
           (λ a lt. run_more (front runs some d) new a
-          ∙ sym (twice (nat_le start a) (Some told) (Some last_run.told) (run_told_at (front runs some d) a))
-          ∙ ap (λ o. if nat_le start a then Some told else o)
-          (ap (λ n. if nat_le n a then Some last_run.told else run_told_at (front runs some d) a) (sym there)
+          ∙ sym (twice (nat_le new.start a) (Some (told_by new)) (Some (told_by last_run)) (run_told_at (front runs some d) a))
+          ∙ ap (λ o. if nat_le new.start a then Some (told_by new) else o)
+          (ap (λ n. if nat_le n a then Some (told_by last_run) else run_told_at (front runs some d) a) (sym there)
           ∙ sym (last_tells runs some d a))
           ∙ same_test a (run_told_at runs a))
           (rise_push run_start (front runs some d) new
@@ -206,13 +204,13 @@ module _ (rows : List Row) (runs : List Run) (r : Row) (are : AreRunsOf rows run
           (All-take (λ (x : Run). x.start ≤ begun) (length runs - 1) runs upto_before) (omega (arith, at))))
 
       -- the last one tells the same
-      pub row_kept : last_run.told ≡ told → AreRunsOf (rows ++ r ∷ []) runs
+      pub row_kept : told_by last_run ≡ told_by new → AreRunsOf (rows ++ r ∷ []) runs
       row_kept same =
           made runs (λ a lt. elim (cases_lt a begun) [
             | inl under ↦ sym (ap (λ (b : Bool). if b then Some (row_told r)
                 else run_told_at runs a) (lt-leb begun a under))
             | inr from ↦ last_tells runs some d a
-                ∙ ap (λ (b : Bool). if b then Some last_run.told else run_told_at (front runs some d) a)
+                ∙ ap (λ (b : Bool). if b then Some (told_by last_run) else run_told_at (front runs some d) a)
                 (le-leb last_run.start a (omega (arith, last_upto_begun, from)))
                 ∙ ap (λ t. Some t) (same ∙ says)
                 ∙ sym (ap (λ (b : Bool). if b then Some (row_told r)
@@ -220,7 +218,7 @@ module _ (rows : List Row) (runs : List Run) (r : Row) (are : AreRunsOf rows run
           ]) are.rise upto_before
 
       -- it begins before
-      pub row_after : (last_run.start ≡ start → ⊥) → (k : ℕ) (e : Run) → k < length runs → (get_or runs k e).start < start
+      pub row_after : (last_run.start ≡ new.start → ⊥) → (k : ℕ) (e : Run) → k < length runs → (get_or runs k e).start < new.start
       row_after ne k e lt = elim (cases_lt k (length runs - 1)) [
         | inl under ↦ (let h = front_below run_start (front runs some d) last_run rise_split k e
             (omega (arith, length-take-le (length runs - 1) runs (omega arith), under)) in

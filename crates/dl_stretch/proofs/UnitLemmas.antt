@@ -18,6 +18,7 @@ use Rattle.dl_look.proofs.PlaceOrder.{above-below}
 use Rattle.dl_stretch.specs.declared.told.Told.{Told}
 use Rattle.dl_stretch.specs.declared.run.Run.{Run}
 use Rattle.dl_stretch.specs.declared.run_spans.RunSpans.{RunSpans}
+use Rattle.dl_stretch.specs.Held.{held}
 use Rattle.dl_stretch.specs.Runs.{place_at, told_of, renumbered, run_told_at}
 use Rattle.dl_stretch.specs.Sequences.{Keeps, TellsFirst}
 use Rattle.dl_stretch.specs.Parts.{current}
@@ -121,20 +122,20 @@ told_of_units-push live (v ∷ units) u a =
     ap (option_or (unit_told live v a)) (told_of_units-push live units u a)
     ∙ sym (or-assoc (unit_told live v a) (told_of_units live units a) (unit_told live u a))
 
-renumbered-row : (number : ℕ → ℕ) (o : Option Row)
+renumbered-row : (number : ℕ → ℕ) → ((file : ℕ) → number (held file) ≡ number file) → (o : Option Row)
     → option_map (renumbered number) (option_map row_told o) ≡ option_map (told_of number) o
-renumbered-row number None = refl
-renumbered-row number (Some r) = refl
+renumbered-row number same None = refl
+renumbered-row number same (Some r) = ap (λ n. Some (told_of (λ _. n) r)) (same r.file)
 
 -- a unit more
-pub unit_more : (live : ℕ → Bool) (units : List UnitRows) (rows : List Row) (number : ℕ → ℕ) (a : ℕ)
-    (whole unit : Option Told) → whole ≡ told_of_units live units a
+pub unit_more : (live : ℕ → Bool) (units : List UnitRows) (rows : List Row) (number : ℕ → ℕ)
+    → ((file : ℕ) → number (held file) ≡ number file) → (a : ℕ) (whole unit : Option Told) → whole ≡ told_of_units live units a
     → unit ≡ option_map row_told (answer (live_rows live rows) (place_at a))
     → option_or whole (option_map (renumbered number) unit)
     ≡ told_of_units live (units ++ record { number = number; rows = rows } ∷ []) a
-unit_more live units rows number a whole unit is_whole is_unit =
+unit_more live units rows number same a whole unit is_whole is_unit =
     ap₂ (λ o p. option_or o (option_map (renumbered number) p)) is_whole is_unit
-    ∙ ap (option_or (told_of_units live units a)) (renumbered-row number (answer (live_rows live rows) (place_at a))
+    ∙ ap (option_or (told_of_units live units a)) (renumbered-row number same (answer (live_rows live rows) (place_at a))
     ∙ ap (option_map (told_of number)) (of_live_rows live rows (place_at a)))
     ∙ sym (told_of_units-push live units (record { number = number; rows = rows }) a)
 

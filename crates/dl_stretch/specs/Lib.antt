@@ -1,9 +1,11 @@
 -- What the public contracts say rests on these, in reading order.
 pub mod Stretches
+pub mod Held
 pub mod Runs
 pub mod ToldUnits
 pub mod Laws
 pub mod Hearing
+pub mod Kept
 -- For what a value stands; public contracts name this, and don't rest on how it is said.
 pub mod RowRuns
 pub mod Spans

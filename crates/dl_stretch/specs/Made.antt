@@ -10,6 +10,7 @@ use Rattle.dl_stretch.specs.declared.run.Run.{Run}
 use Rattle.dl_stretch.specs.declared.stretch.Stretch.{Stretch}
 use Rattle.dl_stretch.specs.Stretches.{Neighbours, told_at, Apart, is_gap_first}
 use Rattle.dl_stretch.specs.Runs.{first_address}
+use Rattle.dl_stretch.specs.Held.{packed}
 use Rattle.dl_stretch.specs.Hearing.{HearsMore}
 
 -- what the last stretch tells
@@ -39,12 +40,9 @@ is_same t u =
     (t.file == u.file) && ((t.line == u.line) && ((t.column == u.column)
     && ((t.discriminator == u.discriminator) && beq t.is_stmt u.is_stmt)))
 
-abbrev pub no_told : Told
-no_told = record { file = 0; line = 0; column = 0; discriminator = 0; is_stmt = false }
-
 -- for the numbers past the last one
 abbrev pub no_run : Run
-no_run = record { start = 0; told = no_told }
+no_run = record { start = 0; line = 0; column = 0; discriminator = 0; file_and_statement = packed 0 false }
 
 abbrev pub start_at : List Run → ℕ → ℕ
 start_at runs n = (slice_index_or runs n no_run).start

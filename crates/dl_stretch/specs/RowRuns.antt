@@ -6,7 +6,8 @@ use Rattle.dl_rows.specs.declared.row.Row.{Row}
 use Rattle.dl_look.specs.Answer.{last_place, last_upto}
 use Rattle.dl_stretch.specs.declared.run.Run.{Run}
 use Rattle.dl_stretch.specs.Stretches.{Neighbours}
-use Rattle.dl_stretch.specs.Runs.{place_at, first_address, told_of, as_given, run_told_at}
+use Rattle.dl_stretch.specs.Held.{held}
+use Rattle.dl_stretch.specs.Runs.{place_at, first_address, told_of, run_told_at}
 
 -- each begins above the one before it
 abbrev pub RunsRise : List Run → Type 0
@@ -19,6 +20,6 @@ StartsRise runs = (j k : ℕ) (d : Run) → j < k → k < length runs
 
 -- the last run not above an address tells what the last row does whose place isn't above it
 pub record AreRunsOf (rows : List Row) (runs : List Run) : Type 0 where
-  pub right : (a : ℕ) → a < 2 ^ 64 → run_told_at runs a ≡ option_map (told_of as_given) (last_upto (place_at a) rows)
+  pub right : (a : ℕ) → a < 2 ^ 64 → run_told_at runs a ≡ option_map (told_of held) (last_upto (place_at a) rows)
   pub rise : RunsRise runs
   pub upto : All (λ (x : Run). x.start ≤ first_address (last_place rows)) runs

@@ -6,6 +6,7 @@ use Rattle.dl_rows.specs.declared.row.Row.{Row}
 use Rattle.dl_look.specs.declared.place.Place.{Place}
 use Rattle.dl_stretch.specs.declared.told.Told.{Told}
 use Rattle.dl_stretch.specs.declared.run.Run.{Run}
+use Rattle.dl_stretch.specs.Held.{told_by}
 use Rattle.dl_stretch.specs.Stretches.{last_begun}
 
 -- the place that is looked up for the address a
@@ -26,10 +27,6 @@ told_of number r = record {
   is_stmt = r.is_stmt;
 }
 
--- the number of a file as its row gives it
-abbrev pub as_given : ℕ → ℕ
-as_given file = file
-
 -- the number of a file by a list; other where the list ends before it
 abbrev pub number_in : (numbers : List ℕ) → (other : ℕ) → ℕ → ℕ
 number_in numbers other file = slice_index_or numbers file other
@@ -40,4 +37,4 @@ renumbered number t = record t { file = number t.file }
 
 -- what the last run tells that doesn't begin above a
 abbrev pub run_told_at : List Run → ℕ → Option Told
-run_told_at runs a = option_map (λ (r : Run). r.told) (last_begun (λ (r : Run). r.start) runs a)
+run_told_at runs a = option_map told_by (last_begun (λ (r : Run). r.start) runs a)

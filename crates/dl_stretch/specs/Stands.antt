@@ -8,7 +8,8 @@ use Rattle.dl_look.specs.LiveRows.{live_rows, Tells}
 use Rattle.dl_stretch.specs.declared.told.Told.{Told}
 use Rattle.dl_stretch.specs.declared.runs.Runs.{Runs}
 use Rattle.dl_stretch.specs.declared.run_spans.RunSpans.{RunSpans}
-use Rattle.dl_stretch.specs.Runs.{place_at, told_of, as_given}
+use Rattle.dl_stretch.specs.Held.{held}
+use Rattle.dl_stretch.specs.Runs.{place_at, told_of}
 use Rattle.dl_stretch.specs.Sequences.{Keeps}
 use Rattle.dl_stretch.specs.Parts.{ended, current}
 use Rattle.dl_stretch.specs.Spans.{answer_of}
@@ -24,7 +25,7 @@ unit_answer s a = answer_of (ended s.list) (drop s.whole_spans s.spans.items) a
 
 -- the rows of the current unit
 pub record Holds (s : RunSpans) (rows : List Row) : Type 0 where
-  pub right : (a : ℕ) → a < 2 ^ 64 → unit_answer s a ≡ option_map (told_of as_given) (answer rows (place_at a))
+  pub right : (a : ℕ) → a < 2 ^ 64 → unit_answer s a ≡ option_map (told_of held) (answer rows (place_at a))
   pub kept : Keeps s.list.state (current s.list) (unended rows)
 
 -- the runs were given these units, which ended, and rows of the current unit

@@ -1,6 +1,7 @@
 //! Stretches: runs of addresses with the same answer, as long as can be, for an index of a line table. Section 6.2.2.
 #![tactic(auto)]
 
+mod file_and_statement;
 pub mod laws;
 mod reach;
 mod run;

@@ -7,7 +7,7 @@ use crate::run::Run;
 use crate::sequence::SequenceRuns;
 use crate::stretching::RunStretches;
 use dl_look::{Place, Span};
-use dl_memory::NoMemory;
+use dl_memory::{Memory, NoMemory};
 use dl_rows::Row;
 use std::alloc::Global;
 
@@ -24,20 +24,24 @@ pub struct RunSpans {
 }
 
 impl RunSpans {
-    ghost use Rattle.std.specs.Prelude.{◌≡◌, ℕ, ◌<◌, ◌^◌, IfOk, true, List, [], ◌∷◌, ◌++◌, Bool, None};
+    ghost use Rattle.std.specs.Prelude.{◌≡◌, ℕ, ◌+◌, ◌*◌, ◌<◌, ◌≤◌, ◌^◌, IfOk, OnErr, true, List, [], ◌∷◌, ◌++◌, Bool, None};
     ghost use Rattle.std.specs.Option.{option_or, option_map};
     ghost use Rattle.dl_rows.specs.declared.row.Row as each;
     ghost use Rattle.dl_look.specs.Answer.{place_of};
     ghost use Rattle.dl_look.specs.LiveRows.{live_rows};
     ghost use Rattle.dl_stretch.specs.declared.stretch.Stretch as kept;
+    ghost use Rattle.dl_stretch.specs.Held.{AreHeld};
     ghost use Rattle.dl_stretch.specs.Runs.{number_in, renumbered};
     ghost use Rattle.dl_stretch.specs.StandFor.{StandFor};
     ghost use Rattle.dl_stretch.specs.Stands.{whole_answer, unit_answer, Holds};
     ghost use Rattle.dl_stretch.specs.Stretches.{AreStretches};
     ghost use Rattle.dl_stretch.specs.ToldUnits.{NameFiles};
+    ghost use Rattle.dl_stretch.specs.Kept.{kept_in};
+    ghost use Rattle.dl_memory.specs.Refusals.{IsRefused};
 
     /// No unit yet.
     pub fn new(alloc: Global) -> RunSpans
+        ensures count { kept_in result ≡ 0 }
         ensures whole { (a : ℕ) → whole_answer result a ≡ None }
         ensures unit { Holds result [] }
     {
@@ -51,20 +55,24 @@ impl RunSpans {
 
     /// Takes the next row of the current unit.
     #[inline(always)]
-    pub fn row(&mut self, row: &Row) -> Result<(), NoMemory>
+    pub fn row<M: Memory>(&mut self, memory: &M, row: &Row) -> Result<(), NoMemory>
+        ensures more { kept_in self.new ≤ kept_in self.old + 1 }
+        ensures refused { OnErr result (IsRefused (M.refuses memory.now) (kept_in self.old + 1)) }
         ensures whole { IfOk result (λ _. (a : ℕ) → whole_answer self.new a ≡ whole_answer self.old a) }
         ensures unit { IfOk result (λ _. (rows : List each.Row) → Holds self.old rows
             → Holds self.new (rows ++ row.now ∷ [])) }
     {
         if row.end_sequence {
-            self.end_sequence(Place::of(row))
+            self.end_sequence(memory, Place::of(row))
         } else {
-            self.list.row(row)
+            self.list.row(memory, row)
         }
     }
 
     /// Takes an end row, by its place.
-    fn end_sequence(&mut self, end: Place) -> Result<(), NoMemory>
+    fn end_sequence<M: Memory>(&mut self, memory: &M, end: Place) -> Result<(), NoMemory>
+        ensures more { kept_in self.new ≤ kept_in self.old + 1 }
+        ensures refused { OnErr result (IsRefused (M.refuses memory.now) (kept_in self.old + 1)) }
         ensures whole { IfOk result (λ _. (a : ℕ) → whole_answer self.new a ≡ whole_answer self.old a) }
         ensures unit { IfOk result (λ _. (rows : List each.Row) (row : each.Row) → place_of row ≡ end
             → row.end_sequence ≡ true → Holds self.old rows → Holds self.new (rows ++ row ∷ [])) }
@@ -80,9 +88,7 @@ impl RunSpans {
             last: end,
             rising: true,
         };
-        if self.spans.push(span).is_err() {
-            return Err(NoMemory);
-        }
+        memory.push(&mut self.spans, span)?;
         self.list.keep();
         Ok(())
     }
@@ -98,6 +104,8 @@ impl RunSpans {
     /// The current unit ends, and each of its files gets its number from the list; `other` where the list ends before
     /// it.
     pub fn end_unit(&mut self, numbers: &[u64], other: u64)
+        requires { AreHeld numbers.now other }
+        ensures count { kept_in self.new ≤ kept_in self.old }
         ensures whole { (a : ℕ) → a < 2 ^ 64 → whole_answer self.new a ≡ option_or (whole_answer self.old a)
             (option_map (renumbered (number_in numbers.now other)) (unit_answer self.old a)) }
         ensures unit { Holds self.new [] }
@@ -109,6 +117,7 @@ impl RunSpans {
 
     /// Forgets the rows of the current unit.
     pub fn forget_unit(&mut self)
+        ensures count { kept_in self.new ≤ kept_in self.old }
         ensures whole { (a : ℕ) → whole_answer self.new a ≡ whole_answer self.old a }
         ensures unit { Holds self.new [] }
     {
@@ -117,10 +126,11 @@ impl RunSpans {
     }
 
     /// The stretches of what the units answer that have ended.
-    pub fn stretches(&self, alloc: Global) -> Result<RunStretches<'_>, NoMemory>
-        ensures { IfOk result (λ stretches. (list : List kept.Stretch) → StandFor stretches list
+    pub fn stretches<M: Memory>(&self, memory: &M) -> Result<RunStretches<'_>, NoMemory>
+        ensures refused { OnErr result (IsRefused (M.refuses memory.now) (2 * kept_in self.now + 1)) }
+        ensures made { IfOk result (λ stretches. (list : List kept.Stretch) → StandFor stretches list
             → AreStretches (whole_answer self.now) list) }
     {
-        RunStretches::new(alloc, self.list.ended(), &self.spans[..self.whole_spans])
+        RunStretches::new(memory, self.list.ended(), &self.spans[..self.whole_spans])
     }
 }

@@ -8,7 +8,7 @@ ghost use Rattle.dl_stretch.specs.Sequences.{AreKept};
 
 use crate::run::{Run, push_row};
 use dl_look::Place;
-use dl_memory::NoMemory;
+use dl_memory::{Memory, NoMemory};
 use dl_rows::Row;
 use std::alloc::Global;
 
@@ -40,7 +40,7 @@ enum State {
 }
 
 impl SequenceRuns {
-    ghost use Rattle.std.specs.Prelude.{◌≡◌, ◌-◌, ◌≤◌, IfOk, IfSome, List, [], ◌∷◌, ◌++◌, length, take, drop, map};
+    ghost use Rattle.std.specs.Prelude.{◌≡◌, ◌+◌, ◌-◌, ◌≤◌, IfOk, OnErr, IfSome, List, [], ◌∷◌, ◌++◌, length, take, drop, map};
     ghost use Rattle.dl_rows.specs.declared.row.Row as each;
     ghost use Rattle.dl_look.specs.Answer.{place_of};
     ghost use Rattle.dl_stretch.specs.Renumbered.{renumbered_run};
@@ -63,16 +63,18 @@ impl SequenceRuns {
 
     /// Takes the next row of the sequence.
     #[inline(always)]
-    pub fn row(&mut self, row: &Row) -> Result<(), NoMemory>
+    pub fn row<M: Memory>(&mut self, memory: &M, row: &Row) -> Result<(), NoMemory>
         ensures same { ended self.new ≡ ended self.old }
         ensures begun { self.new.begun ≡ self.old.begun }
+        ensures more { length self.new.runs.items ≤ length self.old.runs.items + 1 }
+        ensures refused { OnErr result (M.refuses memory.now (length self.old.runs.items + 1)) }
         ensures keeps { IfOk result (λ _. (rows : List each.Row) → Keeps self.old.state (current self.old) rows
             → Keeps self.new.state (current self.new) (rows ++ row.now ∷ [])) }
     {
         let place = Place::of(row);
         match self.state {
             State::Between => {
-                push_row(&mut self.runs, self.begun, row)?;
+                push_row(memory, &mut self.runs, self.begun, row)?;
                 self.state = State::Rising {
                     first: place,
                     last: place,
@@ -80,7 +82,7 @@ impl SequenceRuns {
             }
             State::Rising { first, last } => {
                 if is_at_most(last, place) {
-                    push_row(&mut self.runs, self.begun, row)?;
+                    push_row(memory, &mut self.runs, self.begun, row)?;
                     self.state = State::Rising { first, last: place };
                 } else {
                     self.state = State::Passed;
@@ -135,6 +137,7 @@ impl SequenceRuns {
     pub fn keep(&mut self)
         ensures runs { ended self.new ≡ ended self.old ++ current self.old }
         ensures begun { self.new.begun ≡ length (ended self.new) }
+        ensures count { length self.new.runs.items ≡ length self.old.runs.items }
         ensures keeps { Keeps self.new.state (current self.new) [] }
     {
         self.begun = self.runs.len();
@@ -146,6 +149,7 @@ impl SequenceRuns {
         requires { len ≤ self.old.begun }
         ensures runs { ended self.new ≡ take len (ended self.old) }
         ensures begun { self.new.begun ≡ len }
+        ensures count { length self.new.runs.items ≤ length self.old.runs.items }
         ensures keeps { Keeps self.new.state (current self.new) [] }
     {
         self.runs.truncate(len);
@@ -160,6 +164,7 @@ impl SequenceRuns {
         ensures runs { ended self.new ≡ take from (ended self.old)
             ++ map (renumbered_run (number_in numbers.now other)) (drop from (ended self.old)) }
         ensures begun { self.new.begun ≡ self.old.begun }
+        ensures count { length self.new.runs.items ≤ length self.old.runs.items }
         ensures keeps { Keeps self.new.state (current self.new) [] }
     {
         self.cut(self.begun);
@@ -172,7 +177,7 @@ fn renumber_all(runs: &mut [Run], numbers: &[u64], other: u64)
     ensures { runs.new ≡ map (renumbered_run (number_in numbers.now other)) runs.old }
 {
     for run in runs {
-        run.told = run.told.renumbered(numbers, other);
+        *run = run.renumbered(numbers, other);
     }
 }
 

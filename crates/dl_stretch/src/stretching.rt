@@ -16,8 +16,7 @@ use crate::sink::{StretchSink, Stretches};
 use crate::stretch::tell_from;
 use crate::told::Told;
 use dl_look::{Cut, Span, cuts_of};
-use dl_memory::{NoMemory, System};
-use std::alloc::Global;
+use dl_memory::{Memory, NoMemory};
 
 /// The stretches of what the rows of units tell. They aren't held: each time that they are told they are made of runs.
 ///
@@ -32,20 +31,22 @@ pub struct RunStretches<'a> {
 }
 
 impl<'a> RunStretches<'a> {
-    ghost use Rattle.std.specs.Prelude.{◌≡◌, IfOk};
+    ghost use Rattle.std.specs.Prelude.{◌≡◌, ◌+◌, ◌*◌, IfOk, OnErr, length};
+    ghost use Rattle.dl_memory.specs.Refusals.{IsRefused};
     ghost use Rattle.dl_stretch.specs.Spans.{AreSound};
 
     /// The stretches of what the spans answer, each of which has its runs among these.
-    pub(crate) fn new(
-        alloc: Global,
+    pub(crate) fn new<M: Memory>(
+        memory: &M,
         runs: &'a [Run],
         spans: &'a [Span],
     ) -> Result<RunStretches<'a>, NoMemory>
         requires { AreSound runs.now spans.now }
+        ensures refused { OnErr result (IsRefused (M.refuses memory.now) (2 * length spans.now + 1)) }
         ensures runs { IfOk result (λ s. s.runs.now ≡ runs.now) }
         ensures spans { IfOk result (λ s. s.spans.now ≡ spans.now) }
     {
-        let cuts = cuts_of(&System::new(alloc), spans)?;
+        let cuts = cuts_of(memory, spans)?;
         Ok(RunStretches { runs, spans, cuts })
     }
 }
@@ -100,15 +101,16 @@ fn tell_runs<S: StretchSink>(
 {
     let mut next = begun(runs, reach.first);
     let mut told = if next > 0 {
-        Some(runs[next - 1].told)
+        Some(runs[next - 1].told())
     } else {
         None
     };
     tell_from(sink, last, reach.first, told);
     while next < runs.len() && runs[next].start <= reach.last {
         let run = runs[next];
-        tell_from(sink, told, run.start, Some(run.told));
-        told = Some(run.told);
+        let more = Some(run.told());
+        tell_from(sink, told, run.start, more);
+        told = more;
         next += 1;
     }
     told

@@ -1,7 +1,5 @@
 //! What is told of an address. Section 6.2.2.
 
-use dl_rows::Row;
-
 /// What is told of an address: the place in the source that its row says.
 #[derive(Debug, Clone, Copy, PartialEq, Eq)]
 pub struct Told {
@@ -20,21 +18,6 @@ pub struct Told {
 impl Told {
     ghost use Rattle.std.specs.Prelude.{◌≡◌};
     ghost use Rattle.dl_stretch.specs.Made.{is_same};
-    ghost use Rattle.dl_stretch.specs.Runs.{told_of, as_given, renumbered, number_in};
-
-    /// What a row tells, with the number of its file as the row gives it.
-    #[inline(always)]
-    pub(crate) fn of(row: &Row) -> Told
-        ensures { result ≡ told_of as_given row.now }
-    {
-        Told {
-            file: row.file,
-            line: row.line,
-            column: row.column,
-            discriminator: row.discriminator,
-            is_stmt: row.is_stmt,
-        }
-    }
 
     /// Whether both tell the same.
     #[inline(always)]
@@ -46,18 +29,5 @@ impl Told {
             && self.column == other.column
             && self.discriminator == other.discriminator
             && self.is_stmt == other.is_stmt
-    }
-
-    /// The same, with the number that the list has for its file; `other` where the list ends before it.
-    #[inline(always)]
-    pub(crate) fn renumbered(self, numbers: &[u64], other: u64) -> Told
-        ensures { result ≡ renumbered (number_in numbers.now other) self }
-    {
-        let file = if self.file < numbers.len() as u64 {
-            numbers[self.file as usize]
-        } else {
-            other
-        };
-        Told { file, ..self }
     }
 }

@@ -1,6 +1,6 @@
 //! Indices of many stretches.
 
-use dl_memory::NoMemory;
+use dl_memory::{NoMemory, System};
 use dl_pack::{Names, PackFault, index_bytes};
 use dl_stretch::{Stretch, Told};
 use std::alloc::Global;
@@ -20,12 +20,13 @@ const FILES: &[(u64, [u32; 3])] = &[(0x40, [1, 2, 0]), (0x40, [1, 3, 5]), (0x140
 
 /// The names of the files.
 fn names(alloc: Global) -> Result<Names, NoMemory> {
+    let memory = System::new(alloc);
     let mut names = Names::new(alloc);
     for text in TEXTS {
-        names.add_text(text)?;
+        names.add_text(&memory, text)?;
     }
     for (unit, texts) in FILES {
-        names.add_file(*unit, *texts)?;
+        names.add_file(&memory, *unit, *texts)?;
     }
     Ok(names)
 }

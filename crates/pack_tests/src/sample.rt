@@ -1,6 +1,6 @@
 //! Ten stretches with their names, and their index by Python's struct and zlib: base 0x401000, widths 2, 1, 2, 1 and 4.
 
-use dl_memory::NoMemory;
+use dl_memory::{NoMemory, System};
 use dl_pack::Names;
 use dl_stretch::{Stretch, Told};
 use std::alloc::Global;
@@ -158,28 +158,30 @@ const FILES: &[(u64, [u32; 3])] = &[
 
 /// The names of the files.
 pub fn names(alloc: Global) -> Result<Names, NoMemory> {
+    let memory = System::new(alloc);
     let mut names = Names::new(alloc);
-    add_texts(&mut names)?;
+    add_texts(&memory, &mut names)?;
     for (unit, texts) in FILES {
-        names.add_file(*unit, *texts)?;
+        names.add_file(&memory, *unit, *texts)?;
     }
     Ok(names)
 }
 
 /// Adds the texts.
-fn add_texts(names: &mut Names) -> Result<(), NoMemory> {
+fn add_texts(memory: &System, names: &mut Names) -> Result<(), NoMemory> {
     for text in TEXTS {
-        names.add_text(text)?;
+        names.add_text(memory, text)?;
     }
     Ok(())
 }
 
 /// Whether the texts have their numbers.
 pub fn has_numbers(alloc: Global) -> Result<bool, NoMemory> {
+    let memory = System::new(alloc);
     let mut names = Names::new(alloc);
     let mut wanted = 1u32;
     for text in TEXTS {
-        let number = names.add_text(text)?;
+        let number = names.add_text(&memory, text)?;
         if number != wanted {
             return Ok(number == 1 && wanted == 7);
         }
@@ -190,13 +192,14 @@ pub fn has_numbers(alloc: Global) -> Result<bool, NoMemory> {
 
 /// Whether a file that is added again has the number that it has, also where its texts stand at other places.
 pub fn has_file_numbers(alloc: Global) -> Result<bool, NoMemory> {
+    let memory = System::new(alloc);
     let mut names = Names::new(alloc);
-    add_texts(&mut names)?;
-    let first = names.add_file(0x40, [2, 3, 0])?;
-    let of_another_unit = names.add_file(0x41, [2, 3, 0])?;
-    let moved = names.add_file(0x40, [0, 2, 3])?;
-    let apart = names.add_file(0x40, [2, 0, 3])?;
-    let without_texts = names.add_file(0x40, [0, 99, 0])?;
+    add_texts(&memory, &mut names)?;
+    let first = names.add_file(&memory, 0x40, [2, 3, 0])?;
+    let of_another_unit = names.add_file(&memory, 0x41, [2, 3, 0])?;
+    let moved = names.add_file(&memory, 0x40, [0, 2, 3])?;
+    let apart = names.add_file(&memory, 0x40, [2, 0, 3])?;
+    let without_texts = names.add_file(&memory, 0x40, [0, 99, 0])?;
     let others = of_another_unit == 1 && without_texts == 2;
     Ok(first == 0 && moved == 0 && apart == 0 && others)
 }

@@ -1,5 +1,5 @@
 //! Stretches that are told, in a list.
-use dl_memory::NoMemory;
+use dl_memory::{NoMemory, System};
 use dl_stretch::{Runs, Stretch, StretchSink, Stretches};
 use std::alloc::Global;
 
@@ -24,7 +24,7 @@ impl StretchSink for Kept {
 
 /// The stretches of what the units tell.
 pub fn stretches_of(alloc: Global, runs: &Runs) -> Result<Vec<Stretch>, NoMemory> {
-    let told = runs.stretches(alloc)?;
+    let told = runs.stretches(&System::new(alloc))?;
     let mut kept = Kept {
         stretches: Vec::new(alloc),
         is_refused: false,

@@ -1,6 +1,6 @@
 //! Growths that are refused.
 use crate::kept::stretches_of;
-use dl_memory::NoMemory;
+use dl_memory::{NoMemory, System};
 use dl_stretch::{Runs, Stretch};
 use std::alloc::Global;
 use std::test::Fail;
@@ -8,10 +8,11 @@ use test_support::{end, hoard_but, hoard_most, row};
 
 /// The stretches of twenty sequences.
 fn stretches(alloc: Global) -> Result<Vec<Stretch>, NoMemory> {
+    let memory = System::new(alloc);
     let mut runs = Runs::new(alloc);
     for i in 0..20u64 {
-        runs.row(&row(16 * i, 0, i), true)?;
-        runs.row(&end(16 * i + 8, 0, i), true)?;
+        runs.row(&memory, &row(16 * i, 0, i), true)?;
+        runs.row(&memory, &end(16 * i + 8, 0, i), true)?;
     }
     runs.end_unit(&[], 0);
     stretches_of(alloc, &runs)

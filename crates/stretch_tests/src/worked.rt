@@ -1,5 +1,6 @@
 //! Worked rows and their stretches.
 use crate::kept;
+use dl_memory::System;
 use dl_rows::Row;
 use dl_stretch::{Runs, Stretch};
 use std::alloc::Global;
@@ -153,10 +154,13 @@ fn row_of(step: Step) -> Row {
 
 /// The stretches of the rows of one unit.
 fn stretches_of(alloc: Global, steps: &[Step]) -> Result<Vec<Stretch>, Fail> {
+    let memory = System::new(alloc);
     let mut runs = Runs::new(alloc);
     for step in steps {
         let row = row_of(*step);
-        runs.row(&row, row.address > DEAD).ok().ok_or("memory")?;
+        runs.row(&memory, &row, row.address > DEAD)
+            .ok()
+            .ok_or("memory")?;
     }
     runs.end_unit(&[], 1);
     Ok(kept::stretches_of(alloc, &runs).ok().ok_or("memory")?)

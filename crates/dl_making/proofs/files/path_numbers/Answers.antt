@@ -6,7 +6,7 @@ use Rattle.dl_making.proofs.TextNumbers.{more_texts, numbered_text, three_texts}
 use Rattle.dl_making.proofs.files.path_numbers.Goals as goal
 
 pub returns-clause-texts : goal.returns-clause-texts
-returns-clause-texts c =
+returns-clause-texts g c =
     let p = c.args.path in
     let one = texts_of c.folders_number.new.names in
     let two = texts_of c.folders_number-2.new.names in

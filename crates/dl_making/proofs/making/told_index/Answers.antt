@@ -1,13 +1,11 @@
-use Rattle.std.proofs.Common.{◌<◌, arith, ◌∙◌, ap, sym, subst, ℕ, List, [], length, map}
+use Rattle.std.proofs.Common.{◌<◌, arith, ◌∙◌, ap, sym, subst, ℕ, [], length}
 use Rattle.std.specs.List.{All}
 use Rattle.std.proofs.lemmas.List.{length-map, length-take}
 use Rattle.dl_run.specs.RowsTold.{rows_after}
-use Rattle.dl_stretch.specs.declared.stretch.Stretch.{Stretch}
 use Rattle.dl_stretch.specs.ToldUnits.{told_of_units}
 use Rattle.dl_pack.specs.IndexOf.{files_told, index_of}
 use Rattle.dl_pack.specs.Named.{named}
 use Rattle.dl_pack.specs.Shown.{files_of, named_files, texts_of}
-use Rattle.dl_pack.specs.Telling.{StretchesRise}
 use Rattle.dl_making.specs.Makes.{id_kept}
 use Rattle.dl_making.specs.Making.{code_of, told_after}
 use Rattle.dl_pack.specs.Faults.{TellsUnnamed}
@@ -22,7 +20,7 @@ returns-in-Ok c first start held visits m =
     let made = c.in-Ok.ensures in
     let stretches = made.some.0 in
     let stands = made.some.1 in
-    let are = c.in_ok-stretches.ensures (code_of first) t.units (rows_after [] visits) t.stands stretches stands in
+    let are = c.in_ok-stretches.ensures.made (code_of first) t.units (rows_after [] visits) t.stands stretches stands in
     is_index_of c.args.table.now.all (id_kept c.args.table.now) (told_after first visits) (told_of_units (code_of first) t.units)
     c.in-Ok.index.items stretches (files_of names) (texts_of names) (named_files names) are t.once
     (subst (λ (n : ℕ). All (λ file. file < n) (files_told stretches))
@@ -41,7 +39,7 @@ unreachable-requires c =
     let fails = rw c.in-Err-File.field-0-is at c.in-Err-File.ensures.fails in
     let stretches = fails.1.0 in
     let stands = fails.1.1 in
-    let are = c.in_ok-stretches.ensures (code_of first) t.units (rows_after [] visits) t.stands stretches stands in
+    let are = c.in_ok-stretches.ensures.made (code_of first) t.units (rows_after [] visits) t.stands stretches stands in
     none_unnamed (named_files names) (told_of_units (code_of first) t.units) (told_after first visits) stretches are
     stands.1 t.tells
     (subst (λ n. TellsUnnamed n stretches) (sym (length-map (files_of names) (named (texts_of names)))) fails.1.2)

@@ -1,21 +1,24 @@
-use Rattle.std.proofs.Common.{ap, ◌∙◌, map, ℕ}
+use Rattle.std.proofs.Common.{◌≡◌, ap, ◌∙◌, ◌++◌, map, ℕ, List, Result, Ok, Err}
+use Rattle.std.specs.Prelude.{IfOk, OnErr, is_ok, if◌then◌else◌}
 use Rattle.std.specs.Global.{Vec}
+use Rattle.std.proofs.lemmas.Result.{IfOk-weaker}
 use Rattle.dl_pack.proofs.NameLemmas.{placed, texts_put}
 use Rattle.dl_pack.proofs.names.put.Goals as goal
-use Rattle.dl_pack.proofs.names.put.Goals.{in-Ok-insert_full, in-Err}
+
+-- what there is, by whether it was put
+by_result : {A E : Type 0} (r : Result A E) (x y z : List (List ℕ)) (K U : Type 0) → (K → x ≡ y) → (U → x ≡ z)
+    → IfOk r (λ _. K) → OnErr r U → x ≡ (if is_ok r then y else z)
+by_result (Ok a) x y z K U put same k u = put k
+by_result (Err e) x y z K U put same k u = same u
 
 pub returns-clause-index : goal.returns-clause-index
-returns-clause-index c =
-    elim c.match-insert_full.branch [
-      | in-Ok-insert_full w ↦ let s = w.in-Ok-insert_full.ensures.stored in
-          rw w.result-is (placed c.insert_full.new.self c.in-Ok.copy _ _ s.0 c.in-Ok.ensures.items s.1 s.2)
-      | in-Err w ↦ rw w.result-is tt
-    ]
+returns-clause-index g c =
+    IfOk-weaker c.insert.result _ _ (λ i s. placed c.insert.new.set c.extend_from_slice.new.list _ _ s.0 (c.in_ok-extend_from_slice.ensures.items ∙ ap (λ l. l ++ c.args.text.now) c.in_ok-copy.ensures.items) s.1 s.2)
+    c.insert.ensures.stored
 
 pub returns-clause-texts : goal.returns-clause-texts
-returns-clause-texts c =
-    elim c.match-insert_full.branch [
-      | in-Ok-insert_full w ↦ rw w.result-is (ap (map (λ (v : Vec ℕ). v.items)) w.in-Ok-insert_full.ensures.keys
-          ∙ texts_put c.args.texts.now.keys c.in-Ok.copy c.args.text.now c.in-Ok.ensures.items)
-      | in-Err w ↦ rw w.result-is (ap (map (λ (v : Vec ℕ). v.items)) w.in-Err.ensures.err)
-    ]
+returns-clause-texts g c =
+    by_result c.insert.result _ _ _ _ _
+    (λ keys. ap (map (λ (v : Vec ℕ). v.items)) keys ∙ texts_put c.args.texts.now.keys c.extend_from_slice.new.list c.args.text.now
+    (c.in_ok-extend_from_slice.ensures.items ∙ ap (λ l. l ++ c.args.text.now) c.in_ok-copy.ensures.items))
+    (λ kept. ap (map (λ (v : Vec ℕ). v.items)) kept) c.insert.ensures.keys c.insert.ensures.kept

@@ -9,8 +9,8 @@ loop-run-preserved c =
     let l = c.loop-run in
     let number = number_in c.args.numbers.now c.args.other in
     record {
-      done = one_done number l.run-items c.args.runs.now l.run-index (omega arith) (omega arith) no_run c.renumbered-run.result
-          c.renumbered-run.ensures l.invariant.done l.invariant.left;
-      left = one_left number l.run-items c.args.runs.now l.run-index (omega arith) (omega arith) no_run c.renumbered-run.result
-          c.renumbered-run.ensures l.invariant.done l.invariant.left;
+      done = one_done number l.run-items c.args.runs.now l.run-index (omega arith) (omega arith) no_run c.renumbered.result
+          c.renumbered.ensures l.invariant.done l.invariant.left;
+      left = one_left number l.run-items c.args.runs.now l.run-index (omega arith) (omega arith) no_run c.renumbered.result
+          c.renumbered.ensures l.invariant.done l.invariant.left;
     }

@@ -1,4 +1,4 @@
-use Rattle.std.proofs.Common.{◌≡◌, suc, ◌+◌, ◌-◌, ◌<◌, ◌≤◌, ◌++◌, length, arith, sym, ap, ◌∙◌}
+use Rattle.std.proofs.Common.{◌≡◌, suc, ◌+◌, ◌-◌, ◌<◌, ◌≤◌, ◌++◌, length, Some, arith, sym, ap, ◌∙◌}
 use Rattle.dl_stretch.specs.Made.{no_run, next_start, start_at}
 use Rattle.dl_stretch.proofs.NextRuns.{told_before, told_next, next_above, next_upto, next_within}
 use Rattle.dl_stretch.proofs.NextRuns.{next_past, starts_upto}
@@ -17,7 +17,7 @@ loop-next-init g c =
     let n = c.begun-next.result in
     let at = c.begun-next.ensures in
     let told : told_before runs n ≡ c.if-next-gt0.told = elim c.if-next-gt0.branch [
-      | then-next-gt0 w ↦ (let e : n ≡ suc (n - 1) = omega arith in ap (told_before runs) e ∙ sym w.told-is)
+      | then-next-gt0 w ↦ (let e : n ≡ suc (n - 1) = omega arith in ap (told_before runs) e ∙ ap (λ t. Some t) (sym w.told.ensures) ∙ sym w.told-is)
       | else-next-gt0 w ↦ (let e : n ≡ 0 = omega arith in ap (told_before runs) e ∙ sym w.told-is)
     ] in
     record {
@@ -53,7 +53,7 @@ loop-next-preserved g c =
           (λ a le lt. is a (omega (arith, from, le)) (let h = next_upto runs end (n + 1) in omega (arith, h, lt))
           ∙ told_next runs (start_at runs n) end (n + 1) c.requires.rise (omega arith)
           (starts_upto runs n (start_at runs n) c.requires.rise some (omega arith)) a le lt
-          ∙ ap (told_before runs) more)));
+          ∙ ap (told_before runs) more ∙ ap (λ t. Some t) (sym c.told-in-loop-next.ensures))));
     }
 
 pub returns-after-loop-next : goal.returns-after-loop-next

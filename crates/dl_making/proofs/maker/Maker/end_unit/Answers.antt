@@ -6,6 +6,9 @@ use Rattle.dl_making.specs.declared.files.UnitFiles.{UnitFiles}
 use Rattle.dl_making.proofs.MakerLemmas.{ended, file_is}
 use Rattle.dl_making.proofs.maker.Maker.end_unit.Goals as goal
 
+pub end_unit-requires : goal.end_unit-requires
+end_unit-requires c = rw c.as_slice.ensures.value c.in_ok-numbers.ensures.held
+
 pub returns-clause-ended : goal.returns-clause-ended
 returns-clause-ended c =
     let unit : UnitFiles = record {
@@ -20,4 +23,4 @@ returns-clause-ended c =
     (c.beside_table.ensures ∙ ap₂ beside_table c.has_directory_0.ensures c.of.ensures) refl refl)
     (λ live units rows st. subst (λ ns. Stands live c.end_unit.new.self
     (units ++ record { number = number_in ns c.in_ok-numbers.other; rows = rows } ∷ []) [])
-    c.as_slice.ensures.value (c.end_unit.ensures live units rows st))
+    c.as_slice.ensures.value (c.end_unit.ensures.ended live units rows st))

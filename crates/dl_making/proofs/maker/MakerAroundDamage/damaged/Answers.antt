@@ -5,4 +5,4 @@ use Rattle.dl_making.proofs.maker.MakerAroundDamage.damaged.Goals as goal
 pub returns : goal.returns
 returns g c =
     forgets c.args.self.now (record c.args.self.now { runs = c.forget_unit.new.self }) c.args._damage
-    (record { code = refl; directories = refl; strings = refl }) refl refl refl c.forget_unit.ensures
+    (record { code = refl; directories = refl; strings = refl }) refl refl refl c.forget_unit.ensures.forgotten

@@ -19,7 +19,7 @@ returns-in-Ok g c first start visits s =
     (g.W.Write.contents c.args._output.now) visits more s
     (λ rows n x. refl) (record { code = refl; directories = refl; strings = refl }) refl refl refl
     (λ units e stands. subst (Stands live c.row.new.self units) (sym (rows_after-append [] visits more))
-    (c.in-Ok.ensures live units rows stands (λ none. c.begins_live-is_live.ensures live units rows stands none
+    (c.in-Ok.ensures.taken live units rows stands (λ none. c.begins_live-is_live.ensures live units rows stands none
     ∙ ap (λ code. is_code (option_copied code) r.address) s.same.code)))
 
 pub returns-in-Err : goal.returns-in-Err

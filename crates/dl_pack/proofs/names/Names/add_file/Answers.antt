@@ -1,11 +1,12 @@
-use Rattle.std.proofs.Common.{rules, ◌≡◌, ◌∙◌, ◌++◌, ap, ap₂, sym, subst, ℕ, List, length, Some, Decides}
+use Rattle.std.specs.Prelude.{slice_get}
+use Rattle.std.proofs.Common.{rules, map, ◌≡◌, ◌∙◌, ◌++◌, ap, ap₂, sym, subst, ℕ, length, Some, Decides}
 use Rattle.std.specs.Global.{Vec}
 use Rattle.std.specs.List.{All}
 use Rattle.std.proofs.lemmas.List.{length-map}
 use Rattle.std.proofs.lemmas.Slice.Eq.{bytes_eq-Decides}
 use Rattle.dl_pack.specs.declared.names.FileTexts.{FileTexts}
 use Rattle.dl_pack.specs.contracts.names.FileTextsPartialEq.TheImpl.{eq-value}
-use Rattle.dl_pack.specs.Named.{Once, named}
+use Rattle.dl_pack.specs.Named.{named}
 use Rattle.dl_pack.specs.Within.{HasTexts, Packed, texts_in}
 use Rattle.dl_pack.proofs.NameLemmas.{same_items}
 use Rattle.dl_pack.proofs.OnceLemmas.{once_mapped, once_named, keys_after, all_after, grows_mapped, number_mapped, three_within}
@@ -14,53 +15,45 @@ use Rattle.dl_pack.proofs.names.Names.add_file.Goals as goal
 decides : (f g : FileTexts) → Decides (eq-value.it f g) (f ≡ g)
 decides f g = search rules
 
-module _ (c : goal.After-insert_full) where
-  texts_once : Once (texts_in c.args.self.now.texts)
-  texts_once = once_mapped (λ (v : Vec ℕ). v.items) same_items
-      (λ a b is. (bytes_eq-Decides a.items b.items).1 is) c.args.self.now.texts.keys c.len-count.ensures.unique
-
-  abbrev file : FileTexts
-  file = record { unit = c.args.unit; texts = c.packed-texts.result }
-
-  after : (more : List FileTexts) × (c.insert_full.new.self.keys ≡ c.args.self.now.files.keys ++ more) × All (λ x. x ≡ file) more
-  after = keys_after eq-value.it c.args.self.now.files.keys c.insert_full.new.self.keys file c.insert_full.result
-      c.insert_full.ensures.keys c.insert_full.ensures.err
-
-  within : HasTexts (length c.args.self.now.texts.keys) file
-  within = c.packed-texts.ensures.within (length c.args.self.now.texts.keys)
-      (three_within c.len-count.result _ _ _ _ c.len-count.ensures.len c.known.ensures.within c.known-2.ensures.within
-      c.known-3.ensures.within)
-
 pub invariant_of-self-clause-packed : goal.invariant_of-self-clause-packed
-invariant_of-self-clause-packed c =
-    all_after (λ (f : FileTexts). Packed f.texts) c.args.self.now.files.keys c.insert_full.new.self.keys (file c) (after c)
+invariant_of-self-clause-packed g c =
+    let file : FileTexts = record { unit = c.args.unit; texts = c.packed-texts.result } in
+    all_after (λ (f : FileTexts). Packed f.texts) c.args.self.now.files.keys c.insert.new.set.keys file
+    (keys_after eq-value.it c.args.self.now.files.keys c.insert.new.set.keys file c.insert.result c.insert.ensures.keys c.insert.ensures.kept)
     c.args.self.now.packed c.packed-texts.ensures.packed
 
 pub invariant_of-self-clause-within : goal.invariant_of-self-clause-within
-invariant_of-self-clause-within c =
-    all_after (HasTexts (length c.args.self.now.texts.keys)) c.args.self.now.files.keys c.insert_full.new.self.keys (file c) (after c)
-    c.args.self.now.within (within c)
+invariant_of-self-clause-within g c =
+    let file : FileTexts = record { unit = c.args.unit; texts = c.packed-texts.result } in
+    let count = length c.args.self.now.texts.keys in
+    all_after (HasTexts count) c.args.self.now.files.keys c.insert.new.set.keys file
+    (keys_after eq-value.it c.args.self.now.files.keys c.insert.new.set.keys file c.insert.result c.insert.ensures.keys c.insert.ensures.kept)
+    c.args.self.now.within (c.packed-texts.ensures.within count (three_within c.len-count.result _ _ _ _ c.len-count.ensures.len
+    c.known.ensures.within c.known-2.ensures.within c.known-3.ensures.within))
 
 pub invariant_of-self-clause-once : goal.invariant_of-self-clause-once
-invariant_of-self-clause-once c =
-    once_named (texts_in c.args.self.now.texts) (texts_once c) eq-value.it decides c.insert_full.new.self.keys c.insert_full.ensures.unique
-    (invariant_of-self-clause-packed c)
-    (subst (λ (n : ℕ). All (HasTexts n) c.insert_full.new.self.keys)
-    (sym (length-map c.args.self.now.texts.keys (λ (v : Vec ℕ). v.items))) (invariant_of-self-clause-within c))
+invariant_of-self-clause-once g c =
+    let texts = c.args.self.now.texts in
+    once_named (texts_in texts) (once_mapped (λ (v : Vec ℕ). v.items) same_items (λ a b is. (bytes_eq-Decides a.items b.items).1 is)
+    texts.keys c.len-count.ensures.unique) eq-value.it decides c.insert.new.set.keys c.insert.ensures.unique
+    (invariant_of-self-clause-packed g c)
+    (subst (λ (n : ℕ). All (HasTexts n) c.insert.new.set.keys) (sym (length-map texts.keys (λ (v : Vec ℕ). v.items)))
+    (invariant_of-self-clause-within g c))
 
 pub returns-in-Ok-clause-number : goal.returns-in-Ok-clause-number
-returns-in-Ok-clause-number c =
+returns-in-Ok-clause-number g c =
     let texts = texts_in c.args.self.now.texts in
     let few = c.len-count.ensures.len ∙ sym (length-map c.args.self.now.texts.keys (λ (v : Vec ℕ). v.items)) in
-    number_mapped (named texts) eq-value.it decides c.insert_full.new.self.keys (record { unit = c.args.unit; texts = c.packed-texts.result })
-    c.in-Ok.placed.0 c.in-Ok.ensures.stored
+    ap (slice_get (map (named texts) c.insert.new.set.keys)) c.number_at.ensures.same
+    ∙ number_mapped (named texts) eq-value.it decides c.insert.new.set.keys (record { unit = c.args.unit; texts = c.packed-texts.result })
+    c.in-Ok.place c.in-Ok.ensures.stored
     ∙ ap (λ parts. Some (record { unit = c.args.unit; parts = parts })) (c.packed-texts.ensures.same texts
     ∙ ap₂ (λ x y. x ++ y) (c.known.ensures.same texts few)
     (ap₂ (λ x y. x ++ y) (c.known-2.ensures.same texts few) (c.known-3.ensures.same texts few)))
 
 pub returns-in-Ok-clause-grows : goal.returns-in-Ok-clause-grows
-returns-in-Ok-clause-grows c =
-    grows_mapped (named (texts_in c.args.self.now.texts)) c.args.self.now.files.keys c.insert_full.new.self.keys
+returns-in-Ok-clause-grows g c =
+    grows_mapped (named (texts_in c.args.self.now.texts)) c.args.self.now.files.keys c.insert.new.set.keys
     (record { unit = c.args.unit; texts = c.packed-texts.result })
-    (keys_after eq-value.it c.args.self.now.files.keys c.insert_full.new.self.keys (record { unit = c.args.unit; texts = c.packed-texts.result })
-    c.insert_full.result c.insert_full.ensures.keys c.insert_full.ensures.err)
+    (keys_after eq-value.it c.args.self.now.files.keys c.insert.new.set.keys (record { unit = c.args.unit; texts = c.packed-texts.result })
+    c.insert.result c.insert.ensures.keys c.insert.ensures.kept)

@@ -1,5 +1,4 @@
-use Rattle.std.proofs.Common.{true, Bool, [], ◌∷◌, ◌++◌, take, drop, ap, ap₂, sym, subst, ◌∙◌, refl, arith}
-use Rattle.std.specs.Prelude.{if◌then◌else◌}
+use Rattle.std.proofs.Common.{true, [], take, drop, ap, ap₂, sym, subst, ◌∙◌, refl, arith}
 use Rattle.std.proofs.lemmas.List.{take_all}
 use Rattle.dl_look.specs.FinderRows.{unended}
 use Rattle.dl_look.specs.declared.probed.Span.{Span}
@@ -12,7 +11,7 @@ use Rattle.dl_stretch.proofs.UnitLemmas.{none_more, some_more, or_when}
 use Rattle.dl_stretch.proofs.run_spans.RunSpans.end_sequence.Goals as goal
 
 pub returns-in_default-clause-unit : goal.returns-in_default-clause-unit
-returns-in_default-clause-unit c = λ rows r at ends holds. (
+returns-in_default-clause-unit g c = λ rows r at ends holds. (
     let s = c.args.self.now in
     record {
       right = λ a lt. ap (λ l. answer_of l (drop s.whole_spans s.spans.items) a)
@@ -23,7 +22,7 @@ returns-in_default-clause-unit c = λ rows r at ends holds. (
     })
 
 pub invariant_of-self-2 : goal.invariant_of-self-2
-invariant_of-self-2 c =
+invariant_of-self-2 g c =
     let s = c.args.self.now in
     let spans = s.spans.items in
     let span : Span = record {
@@ -33,8 +32,7 @@ invariant_of-self-2 c =
       last = c.args.end;
       rising = true;
     } in
-    let pushed = c.push.ensures.items
-    ∙ ap (λ (b : Bool). if b then spans ++ span ∷ [] else spans) c.if-is_err.ensures.negation in
+    let pushed = c.in_ok-push.ensures.items in
     record {
       parted = rw (c.keep.ensures.runs, pushed)
           (parted_added (ended s.list) spans s.whole_runs s.whole_spans s.parted (current s.list) c.in-Some.first
@@ -43,7 +41,7 @@ invariant_of-self-2 c =
     }
 
 pub returns-clause-whole : goal.returns-clause-whole
-returns-clause-whole c = λ a. (
+returns-clause-whole g c = λ a. (
     let s = c.args.self.now in
     let spans = s.spans.items in
     let span : Span = record {
@@ -53,15 +51,14 @@ returns-clause-whole c = λ a. (
       last = c.args.end;
       rising = true;
     } in
-    let pushed = c.push.ensures.items
-    ∙ ap (λ (b : Bool). if b then spans ++ span ∷ [] else spans) c.if-is_err.ensures.negation in
+    let pushed = c.in_ok-push.ensures.items in
     ap₂ (λ r l. answer_of r (take s.whole_spans l) a) c.keep.ensures.runs pushed
     ∙ whole_added (ended s.list) spans s.whole_runs s.whole_spans s.parted (current s.list) c.in-Some.first
     c.args.end c.in-Some.ensures.found c.begun-2.result c.count.result (c.begun-2.ensures ∙ sym (ended_len s.list))
     c.count.ensures a)
 
 pub returns-clause-unit : goal.returns-clause-unit
-returns-clause-unit c = λ rows r here ends holds. (
+returns-clause-unit g c = λ rows r here ends holds. (
     let s = c.args.self.now in
     let spans = s.spans.items in
     let span : Span = record {
@@ -71,8 +68,7 @@ returns-clause-unit c = λ rows r here ends holds. (
       last = c.args.end;
       rising = true;
     } in
-    let pushed = c.push.ensures.items
-    ∙ ap (λ (b : Bool). if b then spans ++ span ∷ [] else spans) c.if-is_err.ensures.negation in
+    let pushed = c.in_ok-push.ensures.items in
     record {
       right = λ a lt. ap₂ (λ r l. answer_of r (drop s.whole_spans l) a) c.keep.ensures.runs pushed
           ∙ unit_added (ended s.list) spans s.whole_runs s.whole_spans s.parted (current s.list) c.in-Some.first

@@ -11,7 +11,7 @@ use Rattle.dl_stretch.proofs.UnitLemmas.{goes_on}
 use Rattle.dl_stretch.proofs.run_spans.RunSpans.row.Goals as goal
 
 pub returns-else-row-clause-unit : goal.returns-else-row-clause-unit
-returns-else-row-clause-unit c =
+returns-else-row-clause-unit g c =
     let old = c.args.self.now in
     let r = c.args.row.now in
     let new : RunSpans = record old { list = c.row.new.self; parted = _ } in

@@ -9,8 +9,8 @@ use Rattle.dl_stretch.specs.ToldUnits.{UnitRows}
 use Rattle.dl_stretch.proofs.UnitLemmas.{both_ok}
 use Rattle.dl_stretch.proofs.runs.Runs.row.Goals as goal
 
-pub returns-then-takes : goal.returns-then-takes
-returns-then-takes c =
+pub returns-then-takes-clause-taken : goal.returns-then-takes-clause-taken
+returns-then-takes-clause-taken g c =
     let old = c.args.self.now in
     let r = c.args.row.now in
     let new : Runs = record { spans = c.row.new.self; live = c.takes.new.self } in

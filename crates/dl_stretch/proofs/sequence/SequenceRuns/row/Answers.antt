@@ -14,7 +14,7 @@ now : (state known : State) (runs : List Run) (rows : List Row) → state ≡ kn
 now state known runs rows is k = subst (λ s. Keeps s runs rows) is k
 
 pub invariant_of-self-in-Between : goal.invariant_of-self-in-Between
-invariant_of-self-in-Between c =
+invariant_of-self-in-Between g c =
     let s = c.args.self.now in
     let r = c.args.row.now in
     record {
@@ -28,7 +28,7 @@ invariant_of-self-in-Between c =
     }
 
 pub invariant_of-self-in-Break-branch-2 : goal.invariant_of-self-in-Break-branch-2
-invariant_of-self-in-Break-branch-2 c =
+invariant_of-self-in-Break-branch-2 g c =
     let s = c.args.self.now in
     record {
       within = c.push_row-then-is_at_most.ensures.within;
@@ -36,7 +36,7 @@ invariant_of-self-in-Break-branch-2 c =
     }
 
 pub invariant_of-self-then-is_at_most : goal.invariant_of-self-then-is_at_most
-invariant_of-self-then-is_at_most c =
+invariant_of-self-then-is_at_most g c =
     let s = c.args.self.now in
     let r = c.args.row.now in
     record {
@@ -51,7 +51,7 @@ invariant_of-self-then-is_at_most c =
     }
 
 pub invariant_of-self-else-is_at_most : goal.invariant_of-self-else-is_at_most
-invariant_of-self-else-is_at_most c =
+invariant_of-self-else-is_at_most g c =
     let s = c.args.self.now in
     let r = c.args.row.now in
     record {
@@ -65,14 +65,14 @@ invariant_of-self-else-is_at_most c =
     }
 
 pub returns-in_ok-push_row-in-Between-clause-keeps : goal.returns-in_ok-push_row-in-Between-clause-keeps
-returns-in_ok-push_row-in-Between-clause-keeps c = λ rows k. (
+returns-in_ok-push_row-in-Between-clause-keeps g c = λ rows k. (
     let s = c.args.self.now in
     keeps_first (current s) (drop s.begun c.push_row.new.runs.items) rows c.args.row.now
     c.in_ok-push_row-in-Between.ensures.pushed c.of-place.result c.of-place.ensures
     (now s.state Between (current s) rows c.in-Between.is k))
 
 pub returns-in_ok-push_row-in-Rising-clause-keeps : goal.returns-in_ok-push_row-in-Rising-clause-keeps
-returns-in_ok-push_row-in-Rising-clause-keeps c = λ rows k. (
+returns-in_ok-push_row-in-Rising-clause-keeps g c = λ rows k. (
     let s = c.args.self.now in
     keeps_next (current s) (drop s.begun c.push_row-then-is_at_most.new.runs.items) rows c.args.row.now
     c.in_ok-push_row-in-Rising.ensures.pushed c.of-place.result c.of-place.ensures c.in-Rising.first c.in-Rising.last
@@ -80,20 +80,20 @@ returns-in_ok-push_row-in-Rising-clause-keeps c = λ rows k. (
     (sym c.is_at_most.ensures ∙ c.if-is_at_most.true))
 
 pub returns-else-is_at_most-clause-keeps : goal.returns-else-is_at_most-clause-keeps
-returns-else-is_at_most-clause-keeps c = λ rows k. (
+returns-else-is_at_most-clause-keeps g c = λ rows k. (
     let s = c.args.self.now in
     keeps_falls (current s) rows c.args.row.now c.of-place.result c.of-place.ensures c.in-Rising.first
     c.in-Rising.last (now s.state (Rising c.in-Rising.first c.in-Rising.last) (current s) rows c.in-Rising.is k)
     (sym c.is_at_most.ensures ∙ c.if-is_at_most.false))
 
 pub returns-in-Passed-clause-keeps : goal.returns-in-Passed-clause-keeps
-returns-in-Passed-clause-keeps c = λ rows k. (
+returns-in-Passed-clause-keeps g c = λ rows k. (
     let s = c.args.self.now in
     subst (λ t. Keeps t (current s) (rows ++ c.args.row.now ∷ [])) (sym c.in-Passed.is)
     (keeps_passed (current s) rows c.args.row.now (now s.state Passed (current s) rows c.in-Passed.is k)))
 
 pub invariant_of-self : goal.invariant_of-self
-invariant_of-self c =
+invariant_of-self g c =
     let s = c.args.self.now in
     record {
       within = c.push_row.ensures.within;

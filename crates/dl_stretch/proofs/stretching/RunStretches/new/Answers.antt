@@ -2,4 +2,4 @@ use Rattle.dl_stretch.proofs.CutPlaceLemmas.{cuts_stand}
 use Rattle.dl_stretch.proofs.stretching.RunStretches.new.Goals as goal
 
 pub invariant_of-result : goal.invariant_of-result
-invariant_of-result c = record { sound = c.requires; stand = cuts_stand c.args.spans.now c.in_ok-cuts.cuts.items c.in_ok-cuts.ensures.cuts }
+invariant_of-result g c = record { sound = c.requires; stand = cuts_stand c.args.spans.now c.in_ok-cuts.cuts.items c.in_ok-cuts.ensures.cuts }
