@@ -9,7 +9,7 @@ returns-in-Ok g c first start visits s told =
     let keeps = subst (λ h. Keeps c.args.self.now c.keep.new.self h c.keep.result) c.as_ref.ensures.value
     c.keep.ensures.keeps in
     tail first c.args.self.now c.keep.new.self start (g.W.Write.contents c.args._output.now) visits c.args.header
-    c.keep.result s keeps c.in-Ok.is c.end_unit.new.self c.new-self.result c.end_unit.ensures c.new-self.ensures
+    c.keep.result s keeps c.in-Ok.is c.end_unit.new.self c.new-self.result c.end_unit.ensures.stand c.new-self.ensures
 
 pub returns : goal.returns
 returns g c first start visits s told =

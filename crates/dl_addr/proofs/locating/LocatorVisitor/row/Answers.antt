@@ -30,7 +30,7 @@ returns-then-takes g c first start visits s =
     }) start (g.W.Write.contents c.args._output.now) visits (of_row r ∷ []) s
     (λ x n. refl) refl refl refl refl refl refl refl (c.takes.ensures.goes_on live rows s.live is) refl refl
     (λ places units st. subst (λ (l : List Row). Stand c.row.new.self places units l) (sym told)
-    (c.row.ensures places units (live_rows live rows) st))
+    (c.row.ensures.stand places units (live_rows live rows) st))
 
 pub returns-else-takes : goal.returns-else-takes
 returns-else-takes g c first start visits s =
