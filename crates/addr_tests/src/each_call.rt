@@ -1,6 +1,7 @@
 //! A fault at each read, each write and each growth in turn.
 use crate::sections::{DEAD, PATHS, assert_answer, at, options, plain, section};
 use dl_addr::{Asked, Found, addr};
+use dl_memory::System;
 use dl_run::RunFault;
 use std::alloc::Global;
 use std::process::Abort;
@@ -79,7 +80,13 @@ fn each_read(rt: HostRuntime) -> Result<(), Fail> {
 fn assert_write(rt: &impl Abort, alloc: Global, section: &[u8], before: usize) {
     let mut input = Source::new(section, 4096);
     let mut output = Sink::with_fault(alloc, WRITTEN, before, Fault::Fails);
-    let answered = addr(alloc, &mut input, &mut output, &plain(&asked()), &options());
+    let answered = addr(
+        &System::new(alloc),
+        &mut input,
+        &mut output,
+        &plain(&asked()),
+        &options(),
+    );
     let out = WRITTEN.saturating_mul(before);
     assert_eq!(rt; answered, Err(RunFault::Write { out: out as u128 }));
     assert!(rt;
@@ -105,7 +112,13 @@ fn is_refused(rt: &impl Abort, alloc: Global, section: &[u8], place: usize) -> b
     let mut output = Sink::new(alloc, 1 << 12, 1 << 12);
     output.held = Vec::with_capacity(alloc, BOTH.len()).expect(rt, "memory");
     let mut input = Hoarding::new(alloc, section, place);
-    let answered = addr(alloc, &mut input, &mut output, &plain(&asked()), &options());
+    let answered = addr(
+        &System::new(alloc),
+        &mut input,
+        &mut output,
+        &plain(&asked()),
+        &options(),
+    );
     let is_refused = answered == Err(RunFault::NoMemory);
     let wanted = match place {
         _ if !is_refused => BOTH,

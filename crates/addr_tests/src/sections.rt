@@ -4,6 +4,7 @@ ghost use Rattle.std.specs.Prelude.{◌≤◌};
 use crate::indices::index_lines;
 use dl_addr::{Asked, CompilationDirectories, Form, Found, Question, Style, addr};
 use dl_head::Dialect;
+use dl_memory::System;
 use dl_num::Order;
 use dl_run::{Options, RunFault, SECTION_LIMIT};
 use std::alloc::Global;
@@ -127,7 +128,7 @@ pub fn assert_answer(
 {
     let (text, answer) = wanted;
     let mut output = Sink::new(alloc, 1 << 20, 1 << 20);
-    let answered = addr(alloc, input, &mut output, question, options);
+    let answered = addr(&System::new(alloc), input, &mut output, question, options);
     assert_eq!(rt; answered, answer);
     assert!(rt; output.held.as_slice() == text.as_bytes(), "{text}");
 }

@@ -1,6 +1,6 @@
 //! A row: the bytes of `.debug_info` and of what it points to, and the directories that it says.
 use dl_dirs::{Places, Texts, Walk};
-use dl_memory::NoMemory;
+use dl_memory::{NoMemory, System};
 use dl_num::Order;
 use std::alloc::Global;
 
@@ -35,11 +35,12 @@ pub struct Row<'a> {
 
 /// The places of the row's directories, where its bytes come in pieces of this length.
 fn places(alloc: Global, row: &Row<'_>, len: usize) -> Result<Places, NoMemory> {
+    let memory = System::new(alloc);
     let mut walk = Walk::new(alloc, row.order, row.abbreviations);
     for piece in row.info.chunks(len.max(1)) {
-        walk = walk.feed(piece)?;
+        walk = walk.feed(&memory, piece)?;
     }
-    walk.end()
+    walk.end(&memory)
 }
 
 /// Whether they stand where the row says.

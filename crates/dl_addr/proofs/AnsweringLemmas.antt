@@ -9,6 +9,7 @@ use Rattle.std.specs.Option.{option_and_then, option_copied, option_map_or}
 use Rattle.std.proofs.KnownBytes.{Appends-trans}
 use Rattle.std.proofs.lemmas.Option.{slice_get-map}
 use Rattle.dl_head.specs.declared.dialect.Dialect.{Dialect}
+use Rattle.dl_memory.specs.Refusals.{WasRefused}
 use Rattle.dl_rows.specs.declared.row.Row.{Row}
 use Rattle.dl_look.specs.declared.place.Place.{Place}
 use Rattle.dl_print.specs.declared.fault.WriteFault.{WriteFault}
@@ -108,7 +109,7 @@ path_text_is : (style : Style) (path : Option (List ℕ))
 path_text_is style None = refl
 path_text_is style (Some path) = refl
 
-module _ (dialect : Dialect) (q : Question) (s : Strings) (first : Locator) (knows : Knows first q s) where
+module _ {M : Type 0} (dialect : Dialect) (q : Question) (s : Strings) (first : Locator M) (knows : Knows first q s) where
   abbrev pub live : ℕ → Bool
   live = is_code (option_copied q.code)
 
@@ -178,15 +179,16 @@ module _ (dialect : Dialect) (q : Question) (s : Strings) (first : Locator) (kno
 
   -- ---- the reading
 
-  module _ (limit : ℕ) (bytes : List ℕ) (left : Option (List ℕ)) (new : Locator) (start mid : Option (List ℕ))
-      (made : IsMadeFor first (map (looked_up q.base) q.asked.now)) where
+  module _ (limit : ℕ) (bytes : List ℕ) (left : Option (List ℕ)) (new : Locator M) (start mid : Option (List ℕ))
+      (made : IsMadeFor first (map (looked_up q.base) q.asked.now)) (refuses : ℕ → Type 0) (Refused : M → Type 0)
+      (was : Refused first.memory.now → WasRefused refuses) where
     -- where it ended, the locator stands for the visits that the units are told
     pub record Reads (ending : Result Summary RunFault) : Type 0 where
       pub units : List (List ℕ)
       pub b : List ℕ
       pub back : List ℕ
       pub visits : List Visit
-      pub ends : Ends dialect limit bytes left q units b back ending
+      pub ends : Ends refuses dialect limit bytes left q units b back ending
       pub stands : Locating first new start mid visits
       pub same : (x : Place) → located_by first x visits ≡ located dialect live units x
       pub out : Appends start mid []
@@ -197,7 +199,7 @@ module _ (dialect : Dialect) (q : Question) (s : Strings) (first : Locator) (kno
         live_is x (section_visits dialect units b) (λ l. located dialect l units x)
         (λ l. located_of_section l x dialect first.unit units b)
 
-    pub reads_all : (summary : Summary) → Ran locate_story dialect limit bytes left first new start mid (Ok summary)
+    pub reads_all : (summary : Summary) → Ran (locate_story Refused) dialect limit bytes left first new start mid (Ok summary)
         → (units : List (List ℕ)) × EndsAs dialect limit bytes left units [] [] (Ok summary)
         × Locating first new start mid (section_visits dialect units [])
         × ((x : Place) → located_by first x (section_visits dialect units []) ≡ located dialect live units x)
@@ -208,7 +210,7 @@ module _ (dialect : Dialect) (q : Question) (s : Strings) (first : Locator) (kno
     -- it stopped at the end of a unit
     stopped : (f : RunFault) (units : List (List ℕ)) (b back : List ℕ)
         → HasBegun dialect (take limit bytes) units b back
-        → VisitorStops locate_story first new start mid (section_visits dialect units b) f
+        → VisitorStops (locate_story Refused) first new start mid (section_visits dialect units b) f
         → (f ≡ fault.NoMemory) × Reads (Err fault.NoMemory)
     stopped f units b back has stops =
         let r = stops.reason in
@@ -247,6 +249,7 @@ module _ (dialect : Dialect) (q : Question) (s : Strings) (first : Locator) (kno
                     ap is_some (ap (located dialect live (split.front ++ split.u ∷ [])) asked.2 ∙ sym (after_is a.1)
                     ∙ ap (λ (v : Visit). located_by first a.1 (stops.before ++ v ∷ [])) (sym last.1)) ∙ a.4;
               },
+              was r.refused,
             );
             stands = stops.tells;
             same = before_is;
@@ -255,7 +258,7 @@ module _ (dialect : Dialect) (q : Question) (s : Strings) (first : Locator) (kno
         )
 
     -- where it ends with a fault
-    pub reads_some : (f : RunFault) → Ran locate_story dialect limit bytes left first new start mid (Err f)
+    pub reads_some : (f : RunFault) → Ran (locate_story Refused) dialect limit bytes left first new start mid (Err f)
         → Reads (Err f)
     reads_some (fault.Write out) (units, b, back, has, writes) = absurd (let below = writes.3.0 in omega arith)
     reads_some fault.NoMemory (units, b, back, inl (ends, settled)) =
@@ -325,7 +328,7 @@ module _ (dialect : Dialect) (q : Question) (s : Strings) (first : Locator) (kno
         absurd (let e = (stopped _ units b back has stops).0 in cc)
 
     pub reads : (ending : Result Summary RunFault)
-        → Ran locate_story dialect limit bytes left first new start mid ending → Reads ending
+        → Ran (locate_story Refused) dialect limit bytes left first new start mid ending → Reads ending
     reads (Ok summary) ran =
         let r = reads_all summary ran in
         record {
@@ -354,10 +357,10 @@ module _ (dialect : Dialect) (q : Question) (s : Strings) (first : Locator) (kno
           (subst (Appends mid now) (lines_same visits (located dialect live units) same) out)
 
       pub all_told : (summary : Summary) (all_found : Found)
-          → Ran locate_story dialect limit bytes left first new start mid (Ok summary)
+          → Ran (locate_story Refused) dialect limit bytes left first new start mid (Ok summary)
           → ((visits : List Visit) → Locating first new start mid visits
           → PrintsAll mid now q (answer_for first visits q.base) (Ok all_found))
-          → Locates dialect s q limit bytes left start now (Ok all_found)
+          → Locates refuses dialect s q limit bytes left start now (Ok all_found)
       all_told summary all_found ran prints =
           let r = reads_all summary ran in
           let p = prints (section_visits dialect r.0 []) r.2 in (
@@ -371,14 +374,14 @@ module _ (dialect : Dialect) (q : Question) (s : Strings) (first : Locator) (kno
       told_of : (f : RunFault) (all_found : Found) → (r : Reads (Err f))
           → PrintsAll mid now q (answer_for first r.visits q.base) (Ok all_found)
           → (units : List (List ℕ)) × (b : List ℕ) × (back : List ℕ)
-          × Ends dialect limit bytes left q units b back (Err f) × Appends start now (answer_lines dialect s q units)
+          × Ends refuses dialect limit bytes left q units b back (Err f) × Appends start now (answer_lines dialect s q units)
       told_of f all_found r p = (r.units, r.b, r.back, r.ends, lines_out r.units r.visits r.same r.out p.1)
 
       pub fault_told : (f : RunFault) (all_found : Found)
-          → Ran locate_story dialect limit bytes left first new start mid (Err f)
+          → Ran (locate_story Refused) dialect limit bytes left first new start mid (Err f)
           → ((visits : List Visit) → Locating first new start mid visits
           → PrintsAll mid now q (answer_for first visits q.base) (Ok all_found))
-          → Locates dialect s q limit bytes left start now (Err f)
+          → Locates refuses dialect s q limit bytes left start now (Err f)
       fault_told (fault.Write out) all_found (units, b, back, has, writes) prints =
           absurd (let below = writes.3.0 in omega arith)
       fault_told fault.NoMemory all_found ran prints =
@@ -402,10 +405,10 @@ module _ (dialect : Dialect) (q : Question) (s : Strings) (first : Locator) (kno
 
       -- a write failed
       pub lines_lost : (ending : Result Summary RunFault) (lost : WriteFault)
-          → Ran locate_story dialect limit bytes left first new start mid ending
+          → Ran (locate_story Refused) dialect limit bytes left first new start mid ending
           → ((visits : List Visit) → Locating first new start mid visits
           → PrintsAll mid now q (answer_for first visits q.base) (Err lost))
-          → Locates dialect s q limit bytes left start now (Err (fault.Write lost.out))
+          → Locates refuses dialect s q limit bytes left start now (Err (fault.Write lost.out))
       lines_lost ending lost ran prints =
           let r = reads ending ran in
           let t = subst (λ (l : List ℕ). TellsOut mid now l lost)
@@ -427,10 +430,10 @@ module _ (dialect : Dialect) (q : Question) (s : Strings) (first : Locator) (kno
           )
 
       pub is_told : (ending : Result Summary RunFault) (printed : Result Found WriteFault)
-          → Ran locate_story dialect limit bytes left first new start mid ending
+          → Ran (locate_story Refused) dialect limit bytes left first new start mid ending
           → ((visits : List Visit) → Locating first new start mid visits
           → PrintsAll mid now q (answer_for first visits q.base) printed)
-          → Locates dialect s q limit bytes left start now (told ending printed)
+          → Locates refuses dialect s q limit bytes left start now (told ending printed)
       is_told ending (Err lost) ran prints = lines_lost ending lost ran prints
       is_told (Ok summary) (Ok all_found) ran prints = all_told summary all_found ran prints
       is_told (Err f) (Ok all_found) ran prints = fault_told f all_found ran prints

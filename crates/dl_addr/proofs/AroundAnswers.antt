@@ -8,6 +8,7 @@ use Rattle.std.specs.Option.{option_and_then}
 use Rattle.std.proofs.KnownBytes.{Appends-trans}
 use Rattle.std.proofs.lemmas.Grind.{flat_map-append}
 use Rattle.dl_head.specs.declared.dialect.Dialect.{Dialect}
+use Rattle.dl_memory.specs.Refusals.{WasRefused}
 use Rattle.dl_look.specs.declared.asked.Asked.{Asked}
 use Rattle.dl_look.specs.declared.place.Place.{Place}
 use Rattle.dl_look.specs.Asked.{looked_up, place_of}
@@ -49,7 +50,7 @@ cut_after dialect s blocks front after rest others all cut = record {
   front = λ n e. omega arith;
 }
 
-module _ (dialect : Dialect) (q : Question) (s : Strings) (first : Locator) (knows : Knows first q s) where
+module _ {M : Type 0} (dialect : Dialect) (q : Question) (s : Strings) (first : Locator M) (knows : Knows first q s) where
   abbrev code : ℕ → Bool
   code = live dialect q s first knows
 
@@ -67,22 +68,23 @@ module _ (dialect : Dialect) (q : Question) (s : Strings) (first : Locator) (kno
       ap (λ (b : Bool). if b then found.All else found.NotAll)
       (all_same _ _ (λ (a : Asked). ap (is_answered a) (some_asked blocks (place_of q.base a))) q.asked.now)
 
-  module _ (limit : ℕ) (bytes : List ℕ) (left : Option (List ℕ)) (new : Locator) (start mid : Option (List ℕ))
-      (made : IsMadeFor first (map (looked_up q.base) q.asked.now)) where
+  module _ (limit : ℕ) (bytes : List ℕ) (left : Option (List ℕ)) (new : Locator M) (start mid : Option (List ℕ))
+      (made : IsMadeFor first (map (looked_up q.base) q.asked.now)) (refuses : ℕ → Type 0) (Refused : M → Type 0)
+      (was : Refused first.memory.now → WasRefused refuses) where
     -- where it ended, the locator stands for visits in which the blocks answer
     record Reads (ending : Result Survey RunFault) : Type 0 where
       pub blocks : List Block
       pub rest : Rest
       pub visits : List Visit
-      pub ends : EndsAsked dialect limit bytes left q blocks rest ending
+      pub ends : EndsAsked refuses dialect limit bytes left q blocks rest ending
       pub stands : Locating first new start mid visits
       pub same : (x : Place) → located_by first x visits ≡ located_around dialect code blocks x
       pub out : Appends start mid []
 
     -- it was told all of them
     read_all : (ending : Result Survey RunFault) (blocks : List Block) (rest : Rest)
-        → EndsAsked dialect limit bytes left q blocks rest ending
-        → Settled locate_story first start mid (visits_around dialect blocks rest) (Locating first new start mid)
+        → EndsAsked refuses dialect limit bytes left q blocks rest ending
+        → Settled (locate_story Refused) first start mid (visits_around dialect blocks rest) (Locating first new start mid)
         → Reads ending
     read_all ending blocks rest ends settled = record {
       blocks = blocks;
@@ -100,7 +102,7 @@ module _ (dialect : Dialect) (q : Question) (s : Strings) (first : Locator) (kno
     -- it stopped at the end of a unit
     stopped : (f : RunFault) (blocks : List Block) (rest : Rest) (others : List ℕ)
         → IsCutTo dialect (take limit bytes) blocks rest others
-        → VisitorStops locate_story first new start mid (visits_around dialect blocks rest) f
+        → VisitorStops (locate_story Refused) first new start mid (visits_around dialect blocks rest) f
         → (f ≡ fault.NoMemory) × Reads (Err fault.NoMemory)
     stopped f blocks rest others is_cut stops =
         let r = stops.reason in
@@ -141,6 +143,7 @@ module _ (dialect : Dialect) (q : Question) (s : Strings) (first : Locator) (kno
                     ap is_some (ap (located_around dialect code with_u) asked.2 ∙ sym (after_is a.1)
                     ∙ ap (λ (v : Visit). located_by first a.1 (stops.before ++ v ∷ [])) (sym last.1)) ∙ a.4;
               },
+              was r.refused,
             );
             stands = stops.tells;
             same = before_is;
@@ -149,7 +152,7 @@ module _ (dialect : Dialect) (q : Question) (s : Strings) (first : Locator) (kno
         )
 
     reads : (ending : Result Survey RunFault)
-        → RanAround locate_story dialect limit bytes left first new start mid ending → Reads ending
+        → RanAround (locate_story Refused) dialect limit bytes left first new start mid ending → Reads ending
     reads (Ok survey) (inl (blocks, rest, ends, settled)) = read_all (Ok survey) blocks rest ends settled
     reads (Ok survey) (inr done) = absurd done.4.tells
     reads (Err (fault.Write out)) (blocks, rest, others, is_cut, writes) =
@@ -195,10 +198,10 @@ module _ (dialect : Dialect) (q : Question) (s : Strings) (first : Locator) (kno
           (subst (Appends mid now) (lines_are ending r) (prints r.visits r.stands).1)
 
       fault_told : (f : RunFault) (all_found : Found)
-          → RanAround locate_story dialect limit bytes left first new start mid (Err f) → Prints (Ok all_found)
-          → LocatesAround dialect s q limit bytes left start now (Err f)
+          → RanAround (locate_story Refused) dialect limit bytes left first new start mid (Err f) → Prints (Ok all_found)
+          → LocatesAround refuses dialect s q limit bytes left start now (Err f)
       fault_told f all_found ran prints = by f (reads (Err f) ran) where
-        by : (f : RunFault) → Reads (Err f) → LocatesAround dialect s q limit bytes left start now (Err f)
+        by : (f : RunFault) → Reads (Err f) → LocatesAround refuses dialect s q limit bytes left start now (Err f)
         by (fault.Write out) r = absurd r.ends
         by fault.NoMemory r = inr (r.blocks, r.rest, r.ends, lines_out _ r all_found prints)
         by fault.Read r = (r.blocks, r.rest, r.ends, lines_out _ r all_found prints)
@@ -209,8 +212,8 @@ module _ (dialect : Dialect) (q : Question) (s : Strings) (first : Locator) (kno
         by (fault.Emit unit e) r = absurd r.ends
 
       pub is_told_around : (ending : Result Survey RunFault) (printed : Result Found WriteFault)
-          → RanAround locate_story dialect limit bytes left first new start mid ending → Prints printed
-          → LocatesAround dialect s q limit bytes left start now (told_around ending printed)
+          → RanAround (locate_story Refused) dialect limit bytes left first new start mid ending → Prints printed
+          → LocatesAround refuses dialect s q limit bytes left start now (told_around ending printed)
       is_told_around ending (Err lost) ran prints =
           let r = reads ending ran in
           let t = subst (λ (l : List ℕ). TellsOut mid now l lost) (lines_are ending r) (prints r.visits r.stands) in (

@@ -16,7 +16,7 @@ pub on_ok : {A B : Type 0} (r : Result ⊤ NoMemory) → OnOk r A → (A → B) 
 on_ok (Ok u) a f = f a
 on_ok (Err e) a f = tt
 
-pub on_err : {B : Type 0} (r : Result ⊤ NoMemory) → B → OnErr r B
+pub on_err : {A E B : Type 0} (r : Result A E) → B → OnErr r B
 on_err (Ok u) b = tt
 on_err (Err e) b = b
 

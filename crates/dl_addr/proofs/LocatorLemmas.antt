@@ -50,7 +50,7 @@ stand_same f places units units' rows rows' e e' st =
     subst (λ (l : List Row). Stand f places units' l) e' (subst (λ (l : List (List Row)). Stand f places l rows) e st)
 
 -- visits more, which locate nothing
-module _ (first old new : Locator) (start held : Option (List ℕ)) (visits more : List Visit)
+module _ {M : Type 0} (first old new : Locator M) (start held : Option (List ℕ)) (visits more : List Visit)
     (s : Locating first old start held visits) where
   abbrev live : ℕ → Bool
   live = code_of first
@@ -61,16 +61,17 @@ module _ (first old new : Locator) (start held : Option (List ℕ)) (visits more
   -- it goes on with visits that end no unit
   pub goes_on : (none : (x : Place) (n : ℕ) → located_after live x rows n more ≡ None) → ended_rows live rows more ≡ []
       → new.code ≡ old.code → new.directories ≡ old.directories → new.style ≡ old.style → new.strings.now ≡ old.strings.now
-      → new.unit ≡ offset_after old.unit more → Tells new.live live (rows_after rows more)
+      → new.memory.now ≡ old.memory.now → new.unit ≡ offset_after old.unit more → Tells new.live live (rows_after rows more)
       → new.kept.items ≡ old.kept.items → new.paths ≡ old.paths
       → ((places : List Place) (units : List (List Row)) → Stand old.finders places units (live_rows live rows)
       → Stand new.finders places units (live_rows live (rows_after rows more)))
       → Locating first new start held (visits ++ more)
-  goes_on none no_end code directories style strings unit tells kept paths stands = record {
+  goes_on none no_end code directories style strings memory unit tells kept paths stands = record {
     code = code ∙ s.code;
     directories = directories ∙ s.directories;
     style = style ∙ s.style;
     strings = strings ∙ s.strings;
+    memory = memory ∙ s.memory;
     unit = unit ∙ ap (λ (n : ℕ). offset_after n more) s.unit ∙ sym (offset_after-append first.unit visits more);
     live = subst (Tells new.live live) (sym (rows_after-append [] visits more)) tells;
     looks = λ places made. (
@@ -101,16 +102,16 @@ module _ (first old new : Locator) (start held : Option (List ℕ)) (visits more
   }
 
 -- the current unit is damaged
-pub forgets : (old : Locator) (finders : Finders) (told : LiveRows) (damage : Damage)
+pub forgets : {M : Type 0} (Refused : M → Type 0) (old : Locator M) (finders : Finders) (told : LiveRows) (damage : Damage)
     → ((places : List Place) (units : List (List Row)) (rows : List Row) → Stand old.finders places units rows
     → Stand finders places units [])
     → ((live : ℕ → Bool) → Tells told live [])
-    → IsTold locate_story old (record old { finders = finders; live = told }) damage
-forgets old finders told damage forgot tells = record {
+    → IsTold (locate_story Refused) old (record old { finders = finders; live = told }) damage
+forgets Refused old finders told damage forgot tells = record {
   tells = λ first start now visits s. (
       let live = code_of first in
       goes_on first old (record old { finders = finders; live = told }) start now visits
-      (of_damage damage.offset damage.kind ∷ []) s (λ x n. refl) refl refl refl refl refl refl (tells live) refl refl
+      (of_damage damage.offset damage.kind ∷ []) s (λ x n. refl) refl refl refl refl refl refl refl (tells live) refl refl
       (λ places units st. stand_same finders places units units [] (live_rows live []) refl (sym (no_live_rows live))
       (forgot places units (live_rows live (rows_after [] visits)) st)));
   quiet = λ first visits. refl;
@@ -118,7 +119,7 @@ forgets old finders told damage forgot tells = record {
 }
 
 -- the current unit ends
-module _ (first old mid : Locator) (start held : Option (List ℕ)) (visits : List Visit) (h : Option HeaderData)
+module _ {M : Type 0} (first old mid : Locator M) (start held : Option (List ℕ)) (visits : List Visit) (h : Option HeaderData)
     (result : Result ⊤ NoMemory) (s : Locating first old start held visits) (keeps : Keeps old mid h result) where
   abbrev lives : ℕ → Bool
   lives = code_of first
@@ -168,6 +169,7 @@ module _ (first old mid : Locator) (start held : Option (List ℕ)) (visits : Li
     directories = keeps.directories ∙ s.directories;
     style = keeps.style ∙ s.style;
     strings = keeps.strings ∙ s.strings;
+    memory = keeps.memory ∙ s.memory;
     unit = keeps.unit ∙ s.unit;
     live = subst (λ (l : LiveRows). Tells l lives (rows_after [] visits)) (sym keeps.live) s.live;
     looks = λ places made. (
@@ -185,9 +187,9 @@ module _ (first old mid : Locator) (start held : Option (List ℕ)) (visits : Li
       map_none (λ (l : Located). l.row) (located_by first x visits) (sym (rows_located lives x [] first.unit visits)
       ∙ none)
 
-  pub stops : (e : NoMemory) (is : result ≡ Err e)
-      → StopsIn locate_story first mid start held visits (of_end h ∷ []) fault.NoMemory
-  stops e is = (
+  pub stops : (Refused : M → Type 0) (e : NoMemory) (is : result ≡ Err e) → Refused old.memory.now
+      → StopsIn (locate_story Refused) first mid start held visits (of_end h ∷ []) fault.NoMemory
+  stops Refused e is refused = (
     of_end h ∷ [],
     [],
     refl,
@@ -205,6 +207,7 @@ module _ (first old mid : Locator) (start held : Option (List ℕ)) (visits : Li
             subst (λ (r : Result ⊤ NoMemory). OnErr r ((places : List Place) (units : List (List Row)) (rows : List Row)
             → Stand old.finders places units rows → (i : ℕ) × (r : Row) × FirstAnswer places units rows i r)) is
             keeps.some places units here (s.looks places made).stand);
+        refused = subst Refused s.memory refused;
       },
     ),
   ) where
@@ -248,6 +251,7 @@ module _ (first old mid : Locator) (start held : Option (List ℕ)) (visits : Li
     directories = keeps.directories ∙ s.directories;
     style = keeps.style ∙ s.style;
     strings = keeps.strings ∙ s.strings;
+    memory = keeps.memory ∙ s.memory;
     unit = keeps.unit ∙ s.unit ∙ sym (offset_after-append first.unit visits (of_end h ∷ []));
     live = subst (Tells told lives) (sym (rows_after-append [] visits (of_end h ∷ []))) (tells lives);
     looks = λ places made. (
@@ -296,13 +300,14 @@ module _ (first old mid : Locator) (start held : Option (List ℕ)) (visits : Li
     by places l right i x d at (Some d') is e = stays places l i x d at (is ∙ e)
 
 -- no visit was told yet
-pub begins : (first : Locator) (start : Option (List ℕ)) → first.unit ≡ 0
+pub begins : {M : Type 0} (first : Locator M) (start : Option (List ℕ)) → first.unit ≡ 0
     → ((live : ℕ → Bool) → Tells first.live live []) → Appends start start [] → Locating first first start start []
 begins first start unit tells nothing = record {
   code = refl;
   directories = refl;
   style = refl;
   strings = refl;
+  memory = refl;
   unit = refl;
   live = tells (code_of first);
   looks = λ places made. record {
@@ -315,17 +320,17 @@ begins first start unit tells nothing = record {
 }
 
 -- it has printed nothing
-pub settles : (first now : Locator) (start held : Option (List ℕ)) (visits : List Visit) (flow : Flow)
-    → GoesOn locate_story first now start held visits flow → GoesOn locate_story first now start held visits flow
+pub settles : {M : Type 0} (Refused : M → Type 0) (first now : Locator M) (start held : Option (List ℕ)) (visits : List Visit) (flow : Flow)
+    → GoesOn (locate_story Refused) first now start held visits flow → GoesOn (locate_story Refused) first now start held visits flow
     × Appends start held []
-settles first now start held visits flow.On s = (s, s.nothing)
-settles first now start held visits flow.Stop s = absurd s
+settles Refused first now start held visits flow.On s = (s, s.nothing)
+settles Refused first now start held visits flow.Stop s = absurd s
 
-abbrev row_with : Locator → Row → Option (List ℕ) × PathUnit → Option Location
+abbrev row_with : {M : Type 0} → Locator M → Row → Option (List ℕ) × PathUnit → Option Location
 row_with l r path = Some (location_at r path.1.offset (printed_by l path.1 path.0))
 
 -- what a place is answered
-module _ (first now : Locator) (start held : Option (List ℕ)) (visits : List Visit) (places : List Place)
+module _ {M : Type 0} (first now : Locator M) (start held : Option (List ℕ)) (visits : List Visit) (places : List Place)
     (s : Locating first now start held visits) (made : IsMadeFor first places)
     (n : ℕ) (answered : Option Row)
     (given : answered ≡ option_and_then (answer_of_units (ended_rows (code_of first) [] visits)) (slice_get places

@@ -1,6 +1,6 @@
 -- Sections of which no unit is damaged.
 use Rattle.std.proofs.Common.{◌≡◌, ℕ, ◌+◌, List, [], ◌∷◌, ◌++◌, length, map, take, Option, Some, None, refl, sym}
-use Rattle.std.proofs.Common.{ap, ap₂, ◌∙◌, subst, append-nil, Bool, Ok}
+use Rattle.std.proofs.Common.{ap, ap₂, ◌∙◌, subst, append-nil, Bool, true, Ok}
 use Rattle.std.proofs.lemmas.List.{take_all}
 use Rattle.std.specs.Io.KnownBytes.{Appends}
 use Rattle.std.specs.Option.{option_and_then, option_copied, option_or}
@@ -71,12 +71,12 @@ module _ (dialect : Dialect) (s : Strings) (q : Question) (units : List (List �
 
 -- ---- sections
 
-module _ (dialect : Dialect) (s : Strings) (q : Question) (limit : ℕ) (bytes : List ℕ)
+module _ (refuses : ℕ → Type 0) (dialect : Dialect) (s : Strings) (q : Question) (limit : ℕ) (bytes : List ℕ)
     (left start now : Option (List ℕ)) (all_found : Found) where
   abbrev Around : Type 0
-  Around = LocatesAround dialect s q limit bytes left start now (Ok (record { found = all_found; damaged = None }))
+  Around = LocatesAround refuses dialect s q limit bytes left start now (Ok (record { found = all_found; damaged = None }))
 
-  around : Locates dialect s q limit bytes left start now (Ok all_found) → Around
+  around : Locates refuses dialect s q limit bytes left start now (Ok all_found) → Around
   around (units, summary, (has, b, back, within, at_end, is), found_is, out) = (
     map whole units,
     begun [],
@@ -101,7 +101,7 @@ module _ (dialect : Dialect) (s : Strings) (q : Question) (limit : ℕ) (bytes :
       → IsCut dialect (take limit bytes) blocks rest → IsLast dialect limit bytes left rest
       → faults_in 0 blocks ≡ [] → (b : List ℕ) → rest ≡ begun b
       → all_found ≡ found_in dialect q (units_around blocks) → Appends start now (lines_around dialect s q blocks)
-      → Locates dialect s q limit bytes left start now (Ok all_found)
+      → Locates refuses dialect s q limit bytes left start now (Ok all_found)
   ended blocks rest survey cut last none b is found_is out =
       let units = units_around blocks in
       let all = all_are_whole 0 blocks none in
@@ -127,7 +127,7 @@ module _ (dialect : Dialect) (s : Strings) (q : Question) (limit : ℕ) (bytes :
         subst (Appends start now) (ap (lines_around dialect s q) all ∙ lines_are dialect s q units) out,
       )
 
-  plain : Around → Locates dialect s q limit bytes left start now (Ok all_found)
+  plain : Around → Locates refuses dialect s q limit bytes left start now (Ok all_found)
   plain (blocks, rest, survey, (cut, last, survey_is), damaged_is, found_is, out) =
       let none = no_damage (faults_of blocks rest) (sym (damaged_is ∙ ap (λ (x : Survey). x.damaged) survey_is)) in
       let both = empty_both (faults_in 0 blocks) (rest_faults (length (bytes_of blocks)) rest) none in
@@ -135,7 +135,7 @@ module _ (dialect : Dialect) (s : Strings) (q : Question) (limit : ℕ) (bytes :
       ended blocks rest survey cut last both.0 begins.0 begins.1 found_is out
 
 pub same_without_damage : SameWithoutDamage
-same_without_damage dialect s q limit bytes left start now all_found = (
-  around dialect s q limit bytes left start now all_found,
-  plain dialect s q limit bytes left start now all_found,
+same_without_damage refused dialect s q limit bytes left start now all_found = (
+  around (λ n. refused n ≡ true) dialect s q limit bytes left start now all_found,
+  plain (λ n. refused n ≡ true) dialect s q limit bytes left start now all_found,
 )

@@ -17,6 +17,6 @@ answer_seen a = record {
   is_stmt = a.position.is_stmt;
 }
 
-abbrev pub located_seen : Locator → Located → Location
+abbrev pub located_seen : {M : Type 0} → Locator M → Located → Location
 located_seen first l =
     location_at l.row l.unit (printed_by first (path_of_located first l).1 (path_of_located first l).0)

@@ -4,6 +4,7 @@ use Rattle.std.specs.Prelude.{Bool, Option, Some, None, Result, Ok, Err}
 use Rattle.std.specs.Option.{option_and_then, option_copied, option_or}
 use Rattle.std.specs.Io.KnownBytes.{Appends, Keeps}
 use Rattle.dl_head.specs.declared.dialect.Dialect.{Dialect}
+use Rattle.dl_memory.specs.Refusals.{IsRefused, WasRefused}
 use Rattle.dl_print.specs.Output.{TellsOut}
 use Rattle.dl_print.specs.ValueText.{Strings}
 use Rattle.dl_run.specs.declared.around.Survey.{Survey}
@@ -55,34 +56,34 @@ pub record AnswersFirstAfter (dialect : Dialect) (q : Question) (blocks : List B
   pub answers : is_some (located_around dialect (is_code (option_copied q.code)) (blocks ++ whole u ∷ [])
       (looked_up q.base a)) ≡ true
 
--- how the reading ends: as that of `check_around`, or memory is refused for the answers of u, a whole unit after these
+-- how the reading ends: as that of `check_around`, or memory was refused for the answers of u, a whole unit after these
 -- blocks
-abbrev pub EndsAsked : Dialect → (limit : ℕ) (bytes : List ℕ) (left : Option (List ℕ)) → Question
+abbrev pub EndsAsked : (refuses : ℕ → Type 0) → Dialect → (limit : ℕ) (bytes : List ℕ) (left : Option (List ℕ)) → Question
     → (blocks : List Block) (rest : Rest) → Result Survey RunFault → Type 0
-EndsAsked dialect limit bytes left q blocks rest (Err fault.NoMemory) =
+EndsAsked refuses dialect limit bytes left q blocks rest (Err fault.NoMemory) =
     EndsAround dialect limit bytes left blocks rest (Err fault.NoMemory)
     ⊎ ((u : List ℕ) × (others : List ℕ) × (rest ≡ begun u)
     × IsCutTo dialect (take limit bytes) (blocks ++ whole u ∷ []) (begun []) others
-    × AnswersFirstAfter dialect q blocks u)
-EndsAsked dialect limit bytes left q blocks rest result = EndsAround dialect limit bytes left blocks rest result
+    × AnswersFirstAfter dialect q blocks u × WasRefused refuses)
+EndsAsked refuses dialect limit bytes left q blocks rest result = EndsAround dialect limit bytes left blocks rest result
 
--- `addr_around`: the lines of what is asked, answered by the whole units before the end or the fault. Where memory is
+-- `addr_around`: the lines of what is asked, answered by the whole units before the end or the fault. Where memory was
 -- refused for the places, nothing is read or written.
-abbrev pub LocatesAround : Dialect → Strings → Question
+abbrev pub LocatesAround : (refuses : ℕ → Type 0) → Dialect → Strings → Question
     → (limit : ℕ) (bytes : List ℕ) (left start now : Option (List ℕ)) → Result FoundAround RunFault → Type 0
-LocatesAround dialect s q limit bytes left start now (Ok answered) =
+LocatesAround refuses dialect s q limit bytes left start now (Ok answered) =
     (blocks : List Block) × (rest : Rest) × (survey : Survey)
     × EndsAround dialect limit bytes left blocks rest (Ok survey) × (answered.damaged ≡ survey.damaged)
     × (answered.found ≡ found_in dialect q (units_around blocks))
     × Appends start now (lines_around dialect s q blocks)
-LocatesAround dialect s q limit bytes left start now (Err (fault.Write out)) =
+LocatesAround refuses dialect s q limit bytes left start now (Err (fault.Write out)) =
     (blocks : List Block) × (rest : Rest) × (ending : Result Survey RunFault)
-    × EndsAsked dialect limit bytes left q blocks rest ending
+    × EndsAsked refuses dialect limit bytes left q blocks rest ending
     × TellsOut start now (lines_around dialect s q blocks) (record { out = out })
-LocatesAround dialect s q limit bytes left start now (Err fault.NoMemory) =
-    ((bytes ≡ []) × Keeps start now)
-    ⊎ ((blocks : List Block) × (rest : Rest) × EndsAsked dialect limit bytes left q blocks rest (Err fault.NoMemory)
+LocatesAround refuses dialect s q limit bytes left start now (Err fault.NoMemory) =
+    ((bytes ≡ []) × IsRefused refuses (length q.asked.now + 1) × Keeps start now)
+    ⊎ ((blocks : List Block) × (rest : Rest) × EndsAsked refuses dialect limit bytes left q blocks rest (Err fault.NoMemory)
     × Appends start now (lines_around dialect s q blocks))
-LocatesAround dialect s q limit bytes left start now (Err f) =
-    (blocks : List Block) × (rest : Rest) × EndsAsked dialect limit bytes left q blocks rest (Err f)
+LocatesAround refuses dialect s q limit bytes left start now (Err f) =
+    (blocks : List Block) × (rest : Rest) × EndsAsked refuses dialect limit bytes left q blocks rest (Err f)
     × Appends start now (lines_around dialect s q blocks)

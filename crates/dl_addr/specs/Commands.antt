@@ -1,6 +1,6 @@
 -- What `addr` answers and writes. bytes: what was read from a reader, which has `left` left. start, now: what the
--- writer held at first, and holds now. None: it isn't known.
-use Rattle.std.specs.Prelude.{◌≡◌, ◌⊎◌, ℕ, Bool, true, ◌||◌, if◌then◌else◌, List, [], ◌∷◌, ◌++◌, take, flat_map}
+-- writer held at first, and holds now. None: it isn't known. refuses: for how many items memory is refused.
+use Rattle.std.specs.Prelude.{◌≡◌, ◌⊎◌, ℕ, ◌+◌, Bool, true, ◌||◌, if◌then◌else◌, List, [], ◌∷◌, ◌++◌, length, take, flat_map}
 use Rattle.std.specs.Prelude.{is_none}
 use Rattle.std.specs.Prelude.{is_some, slice_get}
 use Rattle.std.specs.Prelude.{Option, Some, None, Result, Ok, Err}
@@ -8,6 +8,7 @@ use Rattle.std.specs.List.{list_all}
 use Rattle.std.specs.Option.{option_and_then, option_copied}
 use Rattle.std.specs.Io.KnownBytes.{Appends, Keeps}
 use Rattle.dl_head.specs.declared.dialect.Dialect.{Dialect}
+use Rattle.dl_memory.specs.Refusals.{IsRefused, WasRefused}
 use Rattle.dl_print.specs.Output.{TellsOut}
 use Rattle.dl_print.specs.ValueText.{Strings}
 use Rattle.dl_run.specs.declared.fault.RunFault.{RunFault}
@@ -51,30 +52,30 @@ pub record AnswersFirst (dialect : Dialect) (q : Question) (units : List (List �
   pub not_before : located dialect (is_code (option_copied q.code)) units (looked_up q.base a) ≡ None
   pub answers : is_some (located dialect (is_code (option_copied q.code)) (units ++ u ∷ []) (looked_up q.base a)) ≡ true
 
--- how the reading ends: as that of `check`, or memory is refused for the answers of u, the unit after these units
-abbrev pub Ends : Dialect → (limit : ℕ) (bytes : List ℕ) (left : Option (List ℕ)) → Question
+-- how the reading ends: as that of `check`, or memory was refused for the answers of b, the unit after these units
+abbrev pub Ends : (refuses : ℕ → Type 0) → Dialect → (limit : ℕ) (bytes : List ℕ) (left : Option (List ℕ)) → Question
     → (units : List (List ℕ)) (b back : List ℕ) → Result Summary RunFault → Type 0
-Ends dialect limit bytes left q units b back (Err fault.NoMemory) =
+Ends refuses dialect limit bytes left q units b back (Err fault.NoMemory) =
     EndsAs dialect limit bytes left units b back (Err fault.NoMemory)
-    ⊎ (HasUnits dialect (take limit bytes) (units ++ b ∷ []) back × AnswersFirst dialect q units b)
-Ends dialect limit bytes left q units b back result = EndsAs dialect limit bytes left units b back result
+    ⊎ (HasUnits dialect (take limit bytes) (units ++ b ∷ []) back × AnswersFirst dialect q units b × WasRefused refuses)
+Ends refuses dialect limit bytes left q units b back result = EndsAs dialect limit bytes left units b back result
 
--- `addr`: the lines of what is asked, answered by the units before the end or the fault. Where memory is refused for
+-- `addr`: the lines of what is asked, answered by the units before the end or the fault. Where memory was refused for
 -- the places, nothing is read or written.
-abbrev pub Locates : Dialect → Strings → Question → (limit : ℕ) (bytes : List ℕ) (left start now : Option (List ℕ))
+abbrev pub Locates : (refuses : ℕ → Type 0) → Dialect → Strings → Question → (limit : ℕ) (bytes : List ℕ) (left start now : Option (List ℕ))
     → Result Found RunFault → Type 0
-Locates dialect s q limit bytes left start now (Ok all_found) =
+Locates refuses dialect s q limit bytes left start now (Ok all_found) =
     (units : List (List ℕ)) × (summary : Summary) × EndsAs dialect limit bytes left units [] [] (Ok summary)
     × (all_found ≡ found_in dialect q units) × Appends start now (answer_lines dialect s q units)
-Locates dialect s q limit bytes left start now (Err (fault.Write out)) =
+Locates refuses dialect s q limit bytes left start now (Err (fault.Write out)) =
     (units : List (List ℕ)) × (b : List ℕ) × (back : List ℕ) × (ending : Result Summary RunFault)
-    × Ends dialect limit bytes left q units b back ending
+    × Ends refuses dialect limit bytes left q units b back ending
     × TellsOut start now (answer_lines dialect s q units) (record { out = out })
-Locates dialect s q limit bytes left start now (Err fault.NoMemory) =
-    ((bytes ≡ []) × Keeps start now)
+Locates refuses dialect s q limit bytes left start now (Err fault.NoMemory) =
+    ((bytes ≡ []) × IsRefused refuses (length q.asked.now + 1) × Keeps start now)
     ⊎ ((units : List (List ℕ)) × (b : List ℕ) × (back : List ℕ)
-    × Ends dialect limit bytes left q units b back (Err fault.NoMemory)
+    × Ends refuses dialect limit bytes left q units b back (Err fault.NoMemory)
     × Appends start now (answer_lines dialect s q units))
-Locates dialect s q limit bytes left start now (Err f) =
-    (units : List (List ℕ)) × (b : List ℕ) × (back : List ℕ) × Ends dialect limit bytes left q units b back (Err f)
+Locates refuses dialect s q limit bytes left start now (Err f) =
+    (units : List (List ℕ)) × (b : List ℕ) × (back : List ℕ) × Ends refuses dialect limit bytes left q units b back (Err f)
     × Appends start now (answer_lines dialect s q units)

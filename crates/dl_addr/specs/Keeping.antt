@@ -14,19 +14,20 @@ use Rattle.dl_path.specs.Paths.{beside_table, has_directory_0, path_of}
 use Rattle.dl_addr.specs.Texts.{Grows, IsKept, named, unit_place}
 
 -- the compilation directory that counts for the current unit, whose header this is
-abbrev pub directory_under : Locator → Option HeaderData → Option (List ℕ)
+abbrev pub directory_under : {M : Type 0} → Locator M → Option HeaderData → Option (List ℕ)
 directory_under l h = beside_table (has_directory_0 h) (directory_by l.directories l.unit)
 
-abbrev pub path_under : Locator → Option HeaderData → Row → Option (List ℕ) × PathUnit
+abbrev pub path_under : {M : Type 0} → Locator M → Option HeaderData → Row → Option (List ℕ) × PathUnit
 path_under l h r =
     (named l.style (directory_under l h) (path_of (strings_of l.strings.now) h r.file), unit_place h l.unit)
 
 -- of the places that the current unit is the first to answer the paths are kept, and of the others what was
-pub record Keeps (old new : Locator) (h : Option HeaderData) (result : Result ⊤ NoMemory) : Type 0 where
+pub record Keeps {M : Type 0} (old new : Locator M) (h : Option HeaderData) (result : Result ⊤ NoMemory) : Type 0 where
   pub code : new.code ≡ old.code
   pub directories : new.directories ≡ old.directories
   pub style : new.style ≡ old.style
   pub strings : new.strings.now ≡ old.strings.now
+  pub memory : new.memory.now ≡ old.memory.now
   pub unit : new.unit ≡ old.unit
   pub live : new.live ≡ old.live
   pub finders : new.finders ≡ old.finders

@@ -51,14 +51,14 @@ located_after live x rows offset (visit ∷ visits) = located_after live x rows 
 
 -- ---- the locator
 
-abbrev pub code_of : Locator → ℕ → Bool
+abbrev pub code_of : {M : Type 0} → Locator M → ℕ → Bool
 code_of l = is_code (option_copied l.code)
 
-abbrev pub located_by : Locator → Place → List Visit → Option Located
+abbrev pub located_by : {M : Type 0} → Locator M → Place → List Visit → Option Located
 located_by first x visits = located_after (code_of first) x [] first.unit visits
 
 -- the path as far as it is kept, with its unit
-abbrev pub path_of_located : Locator → Located → Option (List ℕ) × PathUnit
+abbrev pub path_of_located : {M : Type 0} → Locator M → Located → Option (List ℕ) × PathUnit
 path_of_located first l = (
   named first.style (compilation_directory (directory_by first.directories) l)
       (path_of (strings_of first.strings.now) l.header l.row.file),
@@ -66,12 +66,12 @@ path_of_located first l = (
 )
 
 -- it as it is printed
-abbrev pub printed_by : Locator → PathUnit → Option (List ℕ) → Option (List ℕ)
+abbrev pub printed_by : {M : Type 0} → Locator M → PathUnit → Option (List ℕ) → Option (List ℕ)
 printed_by l unit path =
     printed l.style (beside_table unit.has_directory_0 (directory_by l.directories unit.offset)) path
 
 -- it looks for these places
-pub record LooksFor (first now : Locator) (places : List Place) (visits : List Visit) : Type 0 where
+pub record LooksFor {M : Type 0} (first now : Locator M) (places : List Place) (visits : List Visit) : Type 0 where
   pub stand : Stand now.finders places (ended_rows (code_of first) [] visits)
       (live_rows (code_of first) (rows_after [] visits))
   pub count : length now.kept.items ≡ length places
@@ -79,22 +79,23 @@ pub record LooksFor (first now : Locator) (places : List Place) (visits : List V
       → IsKept now.paths now.kept.items i (path_of_located first l)
 
 -- it was made for these places
-pub record IsMadeFor (first : Locator) (places : List Place) : Type 0 where
+pub record IsMadeFor {M : Type 0} (first : Locator M) (places : List Place) : Type 0 where
   pub stand : Stand first.finders places [] []
   pub count : length first.kept.items ≡ length places
 
-pub record Locating (first now : Locator) (start held : Option (List ℕ)) (visits : List Visit) : Type 0 where
+pub record Locating {M : Type 0} (first now : Locator M) (start held : Option (List ℕ)) (visits : List Visit) : Type 0 where
   pub code : now.code ≡ first.code
   pub directories : now.directories ≡ first.directories
   pub style : now.style ≡ first.style
   pub strings : now.strings.now ≡ first.strings.now
+  pub memory : now.memory.now ≡ first.memory.now
   pub unit : now.unit ≡ offset_after first.unit visits
   pub live : Tells now.live (code_of first) (rows_after [] visits)
   pub looks : (places : List Place) → IsMadeFor first places → LooksFor first now places visits
   pub nothing : Appends start held []
 
--- the last visit ends a unit that is the first to answer for a place
-pub record StopsAt (first : Locator) (visits : List Visit) (fault : RunFault) : Type 0 where
+-- the last visit ends a unit that is the first to answer for a place, and memory was refused
+pub record StopsAt {M : Type 0} (Refused : M → Type 0) (first : Locator M) (visits : List Visit) (fault : RunFault) : Type 0 where
   pub is : fault ≡ NoMemory
   pub before : List Visit
   pub h : Option HeaderData
@@ -102,12 +103,13 @@ pub record StopsAt (first : Locator) (visits : List Visit) (fault : RunFault) : 
   pub answers : (places : List Place) → IsMadeFor first places
       → (i : ℕ) × (x : Place) × (slice_get places i ≡ Some x) × (located_by first x before ≡ None)
       × (is_some (located_by first x visits) ≡ true)
+  pub refused : Refused first.memory.now
 
 -- nothing is printed while it reads
-abbrev pub locate_story : Story Locator
-locate_story = record {
+abbrev pub locate_story : {M : Type 0} → (Refused : M → Type 0) → Story (Locator M)
+locate_story Refused = record {
   text = λ first visits. [];
   tells = Locating;
   is_done = λ first new start now visits. ⊥;
-  refuses = StopsAt;
+  refuses = StopsAt Refused;
 }

@@ -58,7 +58,7 @@ abbrev pub found_by : (f : Asked → Option Location) → List Asked → Found
 found_by f asked = if list_all (λ a. is_answered a (is_some (f a))) asked then found.All else found.NotAll
 
 -- what a locator that was told these visits is asked
-abbrev pub answer_for : Locator → List Visit → (base : ℕ) → Asked → Option Location
+abbrev pub answer_for : {M : Type 0} → Locator M → List Visit → (base : ℕ) → Asked → Option Location
 answer_for first visits base a =
     option_map (located_seen first) (option_and_then (λ x. located_by first x visits) (place_of base a))
 

@@ -1,7 +1,8 @@
 //! The command that answers addresses with locations.
 
-ghost use Rattle.std.specs.Prelude.{◌≡◌, ◌≤◌, ℕ, List, [], Option, Some, IfOk, if◌then◌else◌, map, option_map};
-ghost use Rattle.std.specs.Prelude.{slice_get};
+ghost use Rattle.std.specs.Prelude.{◌≡◌, ◌≤◌, ◌+◌, ℕ, List, [], Option, Some, IfOk, OnErr, if◌then◌else◌, map, option_map};
+ghost use Rattle.std.specs.Prelude.{length, slice_get};
+ghost use Rattle.dl_memory.specs.Refusals.{IsRefused};
 ghost use Rattle.std.specs.Io.KnownBytes.{Consumes};
 ghost use Rattle.dl_look.specs.declared.place.Place as place;
 ghost use Rattle.dl_print.specs.ValueText.{strings_of};
@@ -21,10 +22,9 @@ use crate::locating::{Answer, Locator};
 use crate::printing::print_line;
 use crate::question::{Found, FoundAround, Question};
 use dl_look::{Asked, Place};
-use dl_memory::NoMemory;
+use dl_memory::{Memory, NoMemory};
 use dl_print::{Printer, StringSections, Summary, WriteFault};
 use dl_run::{Options, RunFault, SECTION_LIMIT, Survey, read_units, read_units_around};
-use std::alloc::Global;
 use std::io::{Read, Write};
 
 /// Answers each address with a line, in the order in which they are asked: its location, by the first
@@ -34,8 +34,8 @@ use std::io::{Read, Write};
 /// the fault is answered. Where memory is refused before anything is read, nothing is printed. The places
 /// are held in memory, the tables of one header, and of the paths that answer what their headers have of their texts,
 /// a directory and a name once for each unit.
-pub fn addr<R: Read, W: Write>(
-    alloc: Global,
+pub fn addr<M: Memory, R: Read, W: Write>(
+    memory: &M,
     input: &mut R,
     output: &mut W,
     question: &Question<'_>,
@@ -43,14 +43,14 @@ pub fn addr<R: Read, W: Write>(
 ) -> Result<Found, RunFault>
     requires { options.now.limit ≤ SECTION_LIMIT }
     ensures { (bs : List ℕ) × Consumes (R.remaining input.old) (R.remaining input.new) bs
-        × Locates options.now.dialect (strings_in options.now) question.now options.now.limit bs
+        × Locates (M.refuses memory.now) options.now.dialect (strings_in options.now) question.now options.now.limit bs
         (R.remaining input.new) (W.contents output.old) (W.contents output.new) result }
 {
     let strings = StringSections::new(options.debug_line_str, options.debug_str);
-    let Ok(mut locator) = locator_of(alloc, &strings, question) else {
+    let Ok(mut locator) = locator_of(memory, &strings, question) else {
         return Err(RunFault::NoMemory);
     };
-    let ended = read_units(alloc, input, output, options, &mut locator);
+    let ended = read_units(memory.alloc(), input, output, options, &mut locator);
     let printed = print_all(&locator, output, question);
     told(ended, printed)
 }
@@ -72,8 +72,8 @@ fn told(
 /// The section is read as `read_units_around` reads it. Then the lines are printed that the whole units before its end,
 /// or before the fault, answer. The faults are those of `addr` but for `Damage`: of damaged units the answer says what
 /// is wrong with the first, and how many others there are.
-pub fn addr_around<R: Read, W: Write>(
-    alloc: Global,
+pub fn addr_around<M: Memory, R: Read, W: Write>(
+    memory: &M,
     input: &mut R,
     output: &mut W,
     question: &Question<'_>,
@@ -81,14 +81,14 @@ pub fn addr_around<R: Read, W: Write>(
 ) -> Result<FoundAround, RunFault>
     requires { options.now.limit ≤ SECTION_LIMIT }
     ensures { (bs : List ℕ) × Consumes (R.remaining input.old) (R.remaining input.new) bs
-        × LocatesAround options.now.dialect (strings_in options.now) question.now options.now.limit bs
-        (R.remaining input.new) (W.contents output.old) (W.contents output.new) result }
+        × LocatesAround (M.refuses memory.now) options.now.dialect (strings_in options.now) question.now
+        options.now.limit bs (R.remaining input.new) (W.contents output.old) (W.contents output.new) result }
 {
     let strings = StringSections::new(options.debug_line_str, options.debug_str);
-    let Ok(mut locator) = locator_of(alloc, &strings, question) else {
+    let Ok(mut locator) = locator_of(memory, &strings, question) else {
         return Err(RunFault::NoMemory);
     };
-    let ended = read_units_around(alloc, input, output, options, &mut locator);
+    let ended = read_units_around(memory.alloc(), input, output, options, &mut locator);
     let printed = print_all(&locator, output, question);
     told_around(ended, printed)
 }
@@ -109,18 +109,20 @@ fn told_around(
 }
 
 /// A locator for the places of what is asked.
-fn locator_of<'s, 'o, 'q>(
-    alloc: Global,
+fn locator_of<'s, 'o, 'q, M: Memory>(
+    memory: &'q M,
     strings: &'s StringSections<'o>,
     question: &Question<'q>,
-) -> Result<Locator<'s, 'o, 'q>, NoMemory>
+) -> Result<Locator<'s, 'o, 'q, M>, NoMemory>
     ensures made { IfOk result (λ l. IsMadeFor l (map (looked_up question.now.base) question.now.asked.now)) }
     ensures begins { IfOk result (λ l. (start : Option (List ℕ)) → Locating l l start start []) }
     ensures knows { IfOk result (λ l. Knows l question.now (strings_of strings.now)) }
+    ensures memory { IfOk result (λ l. l.memory.now ≡ memory.now) }
+    ensures refused { OnErr result (IsRefused (M.refuses memory.now) (length question.now.asked.now + 1)) }
 {
-    let places = places_of(alloc, question.asked, question.base)?;
+    let places = places_of(memory, question.asked, question.base)?;
     Locator::build(
-        alloc,
+        memory,
         strings,
         question.code,
         question.directories,
@@ -130,12 +132,11 @@ fn locator_of<'s, 'o, 'q>(
 }
 
 /// The places that are looked up.
-fn places_of(alloc: Global, asked: &[Asked], base: u64) -> Result<Vec<Place>, NoMemory>
-    ensures { IfOk result (λ places. places.items ≡ map (looked_up base) asked.now) }
+fn places_of<M: Memory>(memory: &M, asked: &[Asked], base: u64) -> Result<Vec<Place>, NoMemory>
+    ensures places { IfOk result (λ places. places.items ≡ map (looked_up base) asked.now) }
+    ensures refused { OnErr result (IsRefused (M.refuses memory.now) (length asked.now)) }
 {
-    let Ok(mut places) = Vec::with_capacity(alloc, asked.len()) else {
-        return Err(NoMemory);
-    };
+    let mut places = memory.with_capacity(asked.len())?;
     for each in asked {
         places.push_reserved(each.looked_up(base));
     }
@@ -143,12 +144,12 @@ fn places_of(alloc: Global, asked: &[Asked], base: u64) -> Result<Vec<Place>, No
 }
 
 /// Prints the line of each address that is asked for.
-fn print_all<W: Write>(
-    locator: &Locator<'_, '_, '_>,
+fn print_all<M: Memory, W: Write>(
+    locator: &Locator<'_, '_, '_, M>,
     output: &mut W,
     question: &Question<'_>,
 ) -> Result<Found, WriteFault>
-    ensures { (first : locators.Locator) (start held : Option (List ℕ)) (visits : List Visit)
+    ensures { (first : locators.Locator M) (start held : Option (List ℕ)) (visits : List Visit)
         → Locating first locator.now start held visits
         → IsMadeFor first (map (looked_up question.now.base) question.now.asked.now)
         → PrintsAll (W.contents output.old) (W.contents output.new) question.now
@@ -169,13 +170,13 @@ fn print_all<W: Write>(
 }
 
 /// The answer to the address of this number among those that are asked for.
-fn answer_to<'a, 's>(
-    locator: &'a Locator<'s, '_, '_>,
+fn answer_to<'a, 's, M: Memory>(
+    locator: &'a Locator<'s, '_, '_, M>,
     asked: Asked,
     base: u64,
     number: usize,
 ) -> Option<Answer<'a, 's>>
-    ensures { (first : locators.Locator) (start held : Option (List ℕ)) (visits : List Visit)
+    ensures { (first : locators.Locator M) (start held : Option (List ℕ)) (visits : List Visit)
         (places : List place.Place)
         → Locating first locator.now start held visits → IsMadeFor first places
         → slice_get places number ≡ Some (looked_up base asked)

@@ -1,6 +1,7 @@
 //! The look-up of many places in the units of a section, with their paths.
 
-ghost use Rattle.std.specs.Prelude.{◌≡◌, IfOk, length};
+ghost use Rattle.std.specs.Prelude.{◌≡◌, IfOk, OnErr, length};
+ghost use Rattle.dl_memory.specs.Refusals.{IsRefused};
 ghost use Rattle.std.specs.Option.{option_copied};
 ghost use Rattle.dl_addr.specs.Code.{is_code};
 
@@ -10,18 +11,17 @@ use crate::texts::{UnitFiles, keep_all};
 use dl_dirs::CompilationDirectories;
 use dl_head::Header;
 use dl_look::{CodeRanges, Finders, LiveRows, Place};
-use dl_memory::NoMemory;
+use dl_memory::{Memory, NoMemory};
 use dl_path::{beside_table, has_directory_0, is_whole_path};
 use dl_print::StringSections;
 use dl_rows::{Flow, Row};
 use dl_run::{AroundDamage, Damage, RunFault, Visitor};
-use std::alloc::Global;
 use std::io::Write;
 
 /// Looks places up in the rows of live sequences, unit by unit, and keeps the paths of those that it finds.
 #[derive(Drop)]
-pub struct Locator<'s, 'o, 'q> {
-    alloc: Global,
+pub struct Locator<'s, 'o, 'q, M> {
+    memory: &'q M,
     strings: &'s StringSections<'o>,
     code: Option<&'q CodeRanges>,
     directories: CompilationDirectories<'q>,
@@ -37,10 +37,11 @@ pub struct Locator<'s, 'o, 'q> {
     kept: Vec<usize>,
 }
 
-impl<W: Write> Visitor<W> for Locator<'_, '_, '_> {
+impl<W: Write, M: Memory> Visitor<W> for Locator<'_, '_, '_, M> {
     ghost use Rattle.dl_addr.specs.Locating.{locate_story};
+    ghost use Rattle.dl_memory.specs.Refusals.{WasRefused};
 
-    ghost story = { locate_story };
+    ghost story = { locate_story (λ memory. WasRefused (M.refuses memory)) };
 
     fn header(&mut self, _output: &mut W, offset: u64, _header: &Header) -> Result<(), RunFault> {
         self.unit = offset;
@@ -80,7 +81,7 @@ impl<W: Write> Visitor<W> for Locator<'_, '_, '_> {
     }
 }
 
-impl<W: Write> AroundDamage<W> for Locator<'_, '_, '_> {
+impl<W: Write, M: Memory> AroundDamage<W> for Locator<'_, '_, '_, M> {
     fn damaged(&mut self, _damage: Damage) {
         self.finders.forget_unit();
         self.live = LiveRows::new();
@@ -117,8 +118,9 @@ fn is_code(code: Option<&CodeRanges>, address: u64) -> bool
     }
 }
 
-impl<'s, 'o, 'q> Locator<'s, 'o, 'q> {
-    ghost use Rattle.std.specs.Prelude.{◌≡◌, ℕ, List, IfOk, slice_get};
+impl<'s, 'o, 'q, M: Memory> Locator<'s, 'o, 'q, M> {
+    ghost use Rattle.std.specs.Prelude.{◌≡◌, ◌+◌, ℕ, List, IfOk, OnErr, length, slice_get};
+    ghost use Rattle.dl_memory.specs.Refusals.{IsRefused, WasRefused};
     ghost use Rattle.std.specs.Prelude.{Bool, Option, option_map, []};
     ghost use Rattle.std.specs.Option.{option_and_then, option_copied};
     ghost use Rattle.dl_addr.specs.declared.locating.Locator as locator;
@@ -139,13 +141,13 @@ impl<'s, 'o, 'q> Locator<'s, 'o, 'q> {
 
     /// A locator of these places.
     pub fn build(
-        alloc: Global,
+        memory: &'q M,
         strings: &'s StringSections<'o>,
         code: Option<&'q CodeRanges>,
         directories: CompilationDirectories<'q>,
         style: Style<'q>,
         places: &[Place],
-    ) -> Result<Locator<'s, 'o, 'q>, NoMemory>
+    ) -> Result<Locator<'s, 'o, 'q, M>, NoMemory>
         ensures made { IfOk result (λ l. IsMadeFor l places.now) }
         ensures live { IfOk result (λ l. (is_live : ℕ → Bool) → Tells l.live is_live []) }
         ensures unit { IfOk result (λ l. l.unit ≡ 0) }
@@ -153,10 +155,12 @@ impl<'s, 'o, 'q> Locator<'s, 'o, 'q> {
         ensures code { IfOk result (λ l. l.code ≡ code.entry) }
         ensures directories { IfOk result (λ l. l.directories ≡ directories.entry) }
         ensures style { IfOk result (λ l. l.style ≡ style.entry) }
+        ensures memory { IfOk result (λ l. l.memory.now ≡ memory.now) }
+        ensures refused { OnErr result (IsRefused (M.refuses memory.now) (length places.now + 1)) }
     {
-        let finders = Finders::build(alloc, places)?;
+        let finders = Finders::build_in(memory, places)?;
         Ok(Locator {
-            alloc,
+            memory,
             strings,
             code,
             directories,
@@ -165,10 +169,10 @@ impl<'s, 'o, 'q> Locator<'s, 'o, 'q> {
             live: LiveRows::new(),
             unit: 0,
             paths: Paths {
-                files: Vec::new(alloc),
-                texts: Vec::new(alloc),
+                files: Vec::new(memory.alloc()),
+                texts: Vec::new(memory.alloc()),
             },
-            kept: no_numbers(alloc, places.len())?,
+            kept: no_numbers(memory, places.len())?,
         })
     }
 
@@ -187,7 +191,7 @@ impl<'s, 'o, 'q> Locator<'s, 'o, 'q> {
 
     /// What the place of this number is answered, by the units that have ended.
     pub fn answer(&self, number: usize) -> Option<Answer<'_, 's>>
-        ensures { (first : locator.Locator) (start held : Option (List ℕ)) (visits : List Visit) (places : List Place)
+        ensures { (first : locator.Locator M) (start held : Option (List ℕ)) (visits : List Visit) (places : List Place)
             → Locating first self.now start held visits → IsMadeFor first places
             → option_map answer_seen result ≡ option_map (located_seen first)
             (option_and_then (λ x. located_by first x visits) (slice_get places number)) }
@@ -252,7 +256,8 @@ impl<'s, 'o, 'q> Locator<'s, 'o, 'q> {
 
     /// Keeps the paths of the places that the current unit is the first to answer.
     fn keep(&mut self, header: Option<&Header>) -> Result<(), NoMemory>
-        ensures { Keeps self.old self.new (option_copied header.entry) result }
+        ensures keeps { Keeps self.old self.new (option_copied header.entry) result }
+        ensures refused { OnErr result (WasRefused (M.refuses self.old.memory.now)) }
     {
         let answered = self.finders.answered_so_far();
         if answered.is_empty() {
@@ -265,17 +270,22 @@ impl<'s, 'o, 'q> Locator<'s, 'o, 'q> {
             directory: beside_table(has_directory_0(header), self.directories.of(self.unit)),
             offset: self.unit,
         };
-        keep_all(self.alloc, &mut self.paths, &mut self.kept, &unit, answered)
+        keep_all(
+            self.memory,
+            &mut self.paths,
+            &mut self.kept,
+            &unit,
+            answered,
+        )
     }
 }
 
 /// So many zeros.
-fn no_numbers(alloc: Global, count: usize) -> Result<Vec<usize>, NoMemory>
-    ensures { IfOk result (λ numbers. length numbers.items ≡ count) }
+fn no_numbers<M: Memory>(memory: &M, count: usize) -> Result<Vec<usize>, NoMemory>
+    ensures len { IfOk result (λ numbers. length numbers.items ≡ count) }
+    ensures refused { OnErr result (IsRefused (M.refuses memory.now) count) }
 {
-    let Ok(mut numbers) = Vec::with_capacity(alloc, count) else {
-        return Err(NoMemory);
-    };
+    let mut numbers = memory.with_capacity(count)?;
     while numbers.len() < count {
         numbers.push_reserved(0);
     }

@@ -1,7 +1,8 @@
 //! The texts of the paths of files that answer.
 
 ghost use Rattle.std.specs.Prelude.{◌≡◌, ◌≢◌, ◌<◌, ◌≤◌, ◌+◌, ℕ, List, Option, length, slice_get, slice_index_or};
-ghost use Rattle.std.specs.Prelude.{IfOk, IfSome, OnOk, None, Some};
+ghost use Rattle.std.specs.Prelude.{IfOk, IfSome, OnErr, OnOk, None, Some};
+ghost use Rattle.dl_memory.specs.Refusals.{WasRefused};
 ghost use Rattle.std.specs.Option.{option_copied, option_map, option_map_or};
 ghost use Rattle.dl_look.specs.Ledgers.{no_answer};
 ghost use Rattle.dl_path.specs.PathParts.{FromDirectories, IsDirectory, directory_seen, parts_seen, text_seen};
@@ -14,10 +15,9 @@ use crate::kept::{FilePath, KeptBytes, KeptText, PathUnit, Paths};
 use crate::style::Style;
 use dl_head::Header;
 use dl_look::Answered;
-use dl_memory::NoMemory;
+use dl_memory::{Memory, NoMemory};
 use dl_path::{Directory, Parts, Text, basename_under, has_directory_0, parts_of};
 use dl_print::StringSections;
-use std::alloc::Global;
 use std::collections::BTreeMap;
 
 /// The files of a unit, and how their paths are printed.
@@ -60,8 +60,8 @@ pub struct UnitNumbers {
 
 /// Keeps the path of the file of each place that a unit answers: a file's path once, and for each place
 /// the number of its path.
-pub fn keep_all<'s>(
-    alloc: Global,
+pub fn keep_all<'s, M: Memory>(
+    memory: &M,
     paths: &mut Paths<'s>,
     kept: &mut Vec<usize>,
     unit: &UnitFiles<'s, '_, '_>,
@@ -74,21 +74,22 @@ pub fn keep_all<'s>(
     ensures right { OnOk result (AreNumbers answered.now kept.old.items → (j : ℕ) → j < length answered.now
         → IsKept paths.new kept.new.items (slice_index_or answered.now j no_answer).number
         (path_of_file unit.now (slice_index_or answered.now j no_answer).row.file)) }
+    ensures refused { OnErr result (WasRefused (M.refuses memory.now)) }
 {
     let mut numbers = UnitNumbers {
-        files: BTreeMap::new(alloc),
-        directories: BTreeMap::new(alloc),
+        files: BTreeMap::new(memory.alloc()),
+        directories: BTreeMap::new(memory.alloc()),
         last: None,
     };
     for answer in answered {
-        keep(alloc, paths, &mut numbers, kept, unit, answer)?;
+        keep(memory, paths, &mut numbers, kept, unit, answer)?;
     }
     Ok(())
 }
 
 /// Keeps the path of the file of a place.
-fn keep<'s>(
-    alloc: Global,
+fn keep<'s, M: Memory>(
+    memory: &M,
     paths: &mut Paths<'s>,
     numbers: &mut UnitNumbers,
     kept: &mut Vec<usize>,
@@ -102,8 +103,9 @@ fn keep<'s>(
     ensures right { OnOk result (AreSeen unit.now numbers.old paths.old
         → answer.now.number < length kept.old.items
         → IsKept paths.new kept.new.items answer.now.number (path_of_file unit.now answer.now.row.file)) }
+    ensures refused { OnErr result (WasRefused (M.refuses memory.now)) }
 {
-    let number = number_of(alloc, paths, numbers, unit, answer.row.file)?;
+    let number = number_of(memory, paths, numbers, unit, answer.row.file)?;
     numbers.last = Some((answer.row.file, number));
     if answer.number < kept.len() {
         kept[answer.number] = number;
@@ -124,8 +126,8 @@ fn files_end(unit: &UnitFiles<'_, '_, '_>) -> u64
 }
 
 /// The number of the path of a file, which is added where the file wasn't seen.
-fn number_of<'s>(
-    alloc: Global,
+fn number_of<'s, M: Memory>(
+    memory: &M,
     paths: &mut Paths<'s>,
     numbers: &mut UnitNumbers,
     unit: &UnitFiles<'s, '_, '_>,
@@ -135,6 +137,7 @@ fn number_of<'s>(
     ensures seen { OnOk result (AreSeen unit.now numbers.old paths.old → AreSeen unit.now numbers.new paths.new) }
     ensures right { IfOk result (λ k. AreSeen unit.now numbers.old paths.old
         → HasPath paths.new k (path_of_file unit.now file)) }
+    ensures refused { OnErr result (WasRefused (M.refuses memory.now)) }
 {
     if let Some(number) = last_number(numbers, file) {
         return Ok(number);
@@ -144,11 +147,9 @@ fn number_of<'s>(
     if let Some(number) = numbers.files.get(&entry) {
         return Ok(*number);
     }
-    let number = add_file(alloc, paths, &mut numbers.directories, unit, entry)?;
-    match numbers.files.insert(entry, number) {
-        Ok(_) => Ok(number),
-        Err(_) => Err(NoMemory),
-    }
+    let number = add_file(memory, paths, &mut numbers.directories, unit, entry)?;
+    memory.insert(&mut numbers.files, entry, number)?;
+    Ok(number)
 }
 
 /// The number of the path of a file that was looked up last.
@@ -160,8 +161,8 @@ fn last_number(numbers: &UnitNumbers, file: u64) -> Option<usize>
 }
 
 /// Adds the path of a file, and answers its number.
-fn add_file<'s>(
-    alloc: Global,
+fn add_file<'s, M: Memory>(
+    memory: &M,
     paths: &mut Paths<'s>,
     directories: &mut BTreeMap<u64, usize>,
     unit: &UnitFiles<'s, '_, '_>,
@@ -172,14 +173,13 @@ fn add_file<'s>(
         → AreTexts (directory_text unit.now) directories.new paths.new.texts.items) }
     ensures right { IfOk result (λ k. AreTexts (directory_text unit.now) directories.old paths.old.texts.items
         → HasPath paths.new k (path_of_file unit.now file)) }
+    ensures refused { OnErr result (WasRefused (M.refuses memory.now)) }
 {
     let parts = file_parts(unit, file);
-    let path = keep_parts(alloc, &mut paths.texts, directories, unit.place(), parts)?;
+    let path = keep_parts(memory, &mut paths.texts, directories, unit.place(), parts)?;
     let number = paths.files.len();
-    match paths.files.push(path) {
-        Ok(()) => Ok(number),
-        Err(_) => Err(NoMemory),
-    }
+    memory.push(&mut paths.files, path)?;
+    Ok(number)
 }
 
 /// The parts of the path of a file, as far as they are printed.
@@ -196,8 +196,8 @@ fn file_parts<'s, 'h>(unit: &UnitFiles<'s, '_, 'h>, file: u64) -> Option<Parts<'
 }
 
 /// Keeps the texts of a path of this unit.
-fn keep_parts<'s>(
-    alloc: Global,
+fn keep_parts<'s, M: Memory>(
+    memory: &M,
     texts: &mut Vec<KeptText<'s>>,
     directories: &mut BTreeMap<u64, usize>,
     unit: PathUnit,
@@ -209,6 +209,7 @@ fn keep_parts<'s>(
     ensures right { IfOk result (λ p. (f : ℕ → Option (List ℕ)) → AreTexts f directories.old texts.old.items
         → IfSome parts.entry (FromDirectories f) → IsPath texts.new.items p (option_map parts_seen parts.entry)) }
     ensures unit { IfOk result (λ p. p.unit ≡ unit) }
+    ensures refused { OnErr result (WasRefused (M.refuses memory.now)) }
 {
     let Some(parts) = parts else {
         return Ok(FilePath {
@@ -218,9 +219,9 @@ fn keep_parts<'s>(
             name: None,
         });
     };
-    let base = keep_directory(alloc, texts, directories, parts.base)?;
-    let directory = keep_directory(alloc, texts, directories, parts.directory)?;
-    let name = add_text(alloc, texts, parts.name)?;
+    let base = keep_directory(memory, texts, directories, parts.base)?;
+    let directory = keep_directory(memory, texts, directories, parts.directory)?;
+    let name = add_text(memory, texts, parts.name)?;
     Ok(FilePath {
         unit,
         base,
@@ -230,8 +231,8 @@ fn keep_parts<'s>(
 }
 
 /// Keeps the text of a directory, where there is one, and answers its number.
-fn keep_directory<'s>(
-    alloc: Global,
+fn keep_directory<'s, M: Memory>(
+    memory: &M,
     texts: &mut Vec<KeptText<'s>>,
     directories: &mut BTreeMap<u64, usize>,
     directory: Option<Directory<'s, '_>>,
@@ -241,16 +242,17 @@ fn keep_directory<'s>(
         → IsDirectory f directory.entry → AreTexts f directories.new texts.new.items) }
     ensures right { IfOk result (λ n. (f : ℕ → Option (List ℕ)) → AreTexts f directories.old texts.old.items
         → IsDirectory f directory.entry → part_at texts.new.items n ≡ Some (directory_seen directory.entry)) }
+    ensures refused { OnErr result (WasRefused (M.refuses memory.now)) }
 {
     let Some(directory) = directory else {
         return Ok(None);
     };
-    Ok(Some(directory_number(alloc, texts, directories, directory)?))
+    Ok(Some(directory_number(memory, texts, directories, directory)?))
 }
 
 /// The number of the text of a directory, which is added where the directory wasn't seen.
-fn directory_number<'s>(
-    alloc: Global,
+fn directory_number<'s, M: Memory>(
+    memory: &M,
     texts: &mut Vec<KeptText<'s>>,
     directories: &mut BTreeMap<u64, usize>,
     directory: Directory<'s, '_>,
@@ -262,43 +264,43 @@ fn directory_number<'s>(
     ensures right { IfOk result (λ k. (f : ℕ → Option (List ℕ)) → AreTexts f directories.old texts.old.items
         → f directory.entry.number ≡ Some (text_seen directory.entry.text)
         → text_at texts.new.items k ≡ Some (text_seen directory.entry.text)) }
+    ensures refused { OnErr result (WasRefused (M.refuses memory.now)) }
 {
     if let Some(number) = directories.get(&directory.number) {
         return Ok(*number);
     }
-    let number = add_text(alloc, texts, directory.text)?;
-    match directories.insert(directory.number, number) {
-        Ok(_) => Ok(number),
-        Err(_) => Err(NoMemory),
-    }
+    let number = add_text(memory, texts, directory.text)?;
+    memory.insert(directories, directory.number, number)?;
+    Ok(number)
 }
 
 /// Adds a text, and answers its number.
-fn add_text<'s>(
-    alloc: Global,
+fn add_text<'s, M: Memory>(
+    memory: &M,
     texts: &mut Vec<KeptText<'s>>,
     text: Text<'s, '_>,
 ) -> Result<usize, NoMemory>
     ensures grows { TextsGrow texts.old.items texts.new.items }
     ensures right { IfOk result (λ k. text_at texts.new.items k ≡ Some (text_seen text.entry)) }
+    ensures refused { OnErr result (WasRefused (M.refuses memory.now)) }
 {
-    let kept = kept_text(alloc, text)?;
+    let kept = kept_text(memory, text)?;
     let number = texts.len();
-    match texts.push(kept) {
-        Ok(()) => Ok(number),
-        Err(_) => Err(NoMemory),
-    }
+    memory.push(texts, kept)?;
+    Ok(number)
 }
 
 /// A text as it is kept.
-fn kept_text<'s>(alloc: Global, text: Text<'s, '_>) -> Result<KeptText<'s>, NoMemory>
-    ensures { IfOk result (λ kept. kept ≡ text_seen text.entry) }
+fn kept_text<'s, M: Memory>(memory: &M, text: Text<'s, '_>) -> Result<KeptText<'s>, NoMemory>
+    ensures kept { IfOk result (λ kept. kept ≡ text_seen text.entry) }
+    ensures refused { OnErr result (WasRefused (M.refuses memory.now)) }
 {
     match text {
         Text::Section(bytes) => Ok(KeptText::new(KeptBytes::Lent(bytes))),
-        Text::Header(bytes) => match bytes.to_vec(alloc) {
-            Ok(copy) => Ok(KeptText::new(KeptBytes::Copied(copy))),
-            Err(_) => Err(NoMemory),
-        },
+        Text::Header(bytes) => {
+            let mut copy = memory.with_capacity(bytes.len())?;
+            memory.extend_from_slice(&mut copy, bytes)?;
+            Ok(KeptText::new(KeptBytes::Copied(copy)))
+        }
     }
 }

@@ -26,6 +26,7 @@ ghost use Rattle.dl_index_calls.specs.StretchCalls.{ListsStretch};
 use dl_building::CodeRange;
 use dl_calls::{Counts, FaultRecord, Place, RowRecord, UnitRecord};
 use dl_index_calls::{IndexFaultRecord, IndexRecord, Layout, LocationRecord};
+use dl_memory::System;
 use std::alloc::Global;
 
 /// As `dl_calls::check`.
@@ -109,10 +110,19 @@ pub extern "C" fn boxantrel_find_all(
     fault: &mut FaultRecord,
 ) -> u32
     ensures { (status : Status) × (result ≡ status_code status)
-        × FindsAllBy (goes_on how) (dialect_of how) section.now addresses.now rows.old rows.new units.old units.new
+        × FindsAllBy (λ n. Unit {0}) (goes_on how) (dialect_of how) section.now addresses.now rows.old rows.new units.old units.new
         fault.old fault.new status }
 {
-    dl_calls::find_all(alloc, section, how, addresses, rows, units, fault).code()
+    dl_calls::find_all(
+        &System::new(alloc),
+        section,
+        how,
+        addresses,
+        rows,
+        units,
+        fault,
+    )
+    .code()
 }
 
 /// As `dl_calls::copy`.

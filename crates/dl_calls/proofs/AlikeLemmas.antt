@@ -87,7 +87,7 @@ none_first [] b e = refl
 none_first (d ∷ a) b e = absurd cc
 
 pub finds_alike : FindsAlike
-finds_alike dialect s addresses p q m n f g = (
+finds_alike refused dialect s addresses p q m n f g = (
   λ (fit, (units, has, answers), same). (
     fit,
     (

@@ -341,23 +341,23 @@ begins first = record {
 }
 
 -- what is told of a stop
-pub finds_all_stopped : (dialect : Dialect) (s addresses : List ℕ) (p q : List RowRecord) (m n : List ℕ)
+pub finds_all_stopped : (refuses : ℕ → Type 0) (dialect : Dialect) (s addresses : List ℕ) (p q : List RowRecord) (m n : List ℕ)
     (f : FaultRecord) → length s < 2 ^ 64 → Fit addresses p m → (stop : SectionStop)
     → EndsWith dialect s (λ units. Answers (found_in dialect units) addresses p q n) (Err stop)
-    → FindsAll dialect s addresses p q m n f (fault_told stop 0 f) (status_of stop)
-finds_all_stopped dialect s addresses p q m n f few fit (stop.Damaged at kind) ends = (
+    → FindsAll refuses dialect s addresses p q m n f (fault_told stop 0 f) (status_of stop)
+finds_all_stopped refuses dialect s addresses p q m n f few fit (stop.Damaged at kind) ends = (
   at,
   kind,
   fit,
   ends,
   ap (λ (n : ℕ). record_of n kind) (offset_of_fault dialect s ends.0 ends.1 ends.2 at kind ends.3 few),
 )
-finds_all_stopped dialect s addresses p q m n f few fit stop.NoMemory ends = (fit, inr ends, refl)
+finds_all_stopped refuses dialect s addresses p q m n f few fit stop.NoMemory ends = (fit, inr ends, refl)
 
 -- what is told of damaged units
-pub finds_all_around : (dialect : Dialect) (s addresses : List ℕ) (p q : List RowRecord) (m n : List ℕ)
+pub finds_all_around : (refuses : ℕ → Type 0) (dialect : Dialect) (s addresses : List ℕ) (p q : List RowRecord) (m n : List ℕ)
     (f : FaultRecord) → Fit addresses p m → (units : Option DamagedUnits)
     → IsReadWith dialect s (λ blocks. Answers (found_around dialect blocks) addresses p q n) units
-    → FindsAllAround dialect s addresses p q m n f (damage_told units f) (status_around units)
-finds_all_around dialect s addresses p q m n f fit None read = (fit, read, refl)
-finds_all_around dialect s addresses p q m n f fit (Some units) read = (units, fit, read, refl)
+    → FindsAllAround refuses dialect s addresses p q m n f (damage_told units f) (status_around units)
+finds_all_around refuses dialect s addresses p q m n f fit None read = (fit, read, refl)
+finds_all_around refuses dialect s addresses p q m n f fit (Some units) read = (units, fit, read, refl)

@@ -4,6 +4,7 @@ use Rattle.std.specs.Prelude.{option_map, unwrap_or, Result, Ok, Err}
 use Rattle.std.specs.Option.{option_map_or, option_or}
 use Rattle.dl_head.specs.declared.dialect.Dialect.{Dialect}
 use Rattle.dl_table.specs.declared.fault.FaultKind.{FaultKind}
+use Rattle.dl_memory.specs.Refusals.{IsRefused}
 use Rattle.dl_rows.specs.LineUnit.{unit_rows}
 use Rattle.dl_look.specs.declared.place.Place.{Place}
 use Rattle.dl_look.specs.Answer.{answer}
@@ -61,17 +62,17 @@ abbrev pub Fit : (addresses : List ℕ) → List RowRecord → (m : List ℕ) �
 Fit addresses p m = (length p ≡ length addresses) × (length m ≡ length addresses)
 
 -- `find_all`: of rows, offsets of units and a fault, p, m and f before it, and q, n and g after it, only what the
--- status says is written
-abbrev pub FindsAll : Dialect → (s addresses : List ℕ) → (p q : List RowRecord) (m n : List ℕ) (f g : FaultRecord)
+-- status says is written. refuses: for how many items memory is refused
+abbrev pub FindsAll : (refuses : ℕ → Type 0) → Dialect → (s addresses : List ℕ) → (p q : List RowRecord) (m n : List ℕ) (f g : FaultRecord)
     → Status → Type 0
-FindsAll dialect s addresses p q m n f g status.Done =
+FindsAll refuses dialect s addresses p q m n f g status.Done =
     Fit addresses p m × EndsWith dialect s (λ units. Answers (found_in dialect units) addresses p q n) (Ok tt) × (g ≡ f)
-FindsAll dialect s addresses p q m n f g status.Fault =
+FindsAll refuses dialect s addresses p q m n f g status.Fault =
     (offset : ℕ) × (kind : FaultKind) × Fit addresses p m
     × EndsWith dialect s (λ units. Answers (found_in dialect units) addresses p q n) (Err (stop.Damaged offset kind))
     × (g ≡ record_of offset kind)
-FindsAll dialect s addresses p q m n f g status.NoMemory =
-    Fit addresses p m × (((q ≡ p) × (n ≡ m))
+FindsAll refuses dialect s addresses p q m n f g status.NoMemory =
+    Fit addresses p m × ((IsRefused refuses (length addresses + 1) × (q ≡ p) × (n ≡ m))
     ⊎ EndsWith dialect s (λ units. Answers (found_in dialect units) addresses p q n) (Err stop.NoMemory)) × (g ≡ f)
-FindsAll dialect s addresses p q m n f g status.NoRoom = (Fit addresses p m → ⊥) × (q ≡ p) × (n ≡ m) × (g ≡ f)
-FindsAll dialect s addresses p q m n f g other = ⊥
+FindsAll refuses dialect s addresses p q m n f g status.NoRoom = (Fit addresses p m → ⊥) × (q ≡ p) × (n ≡ m) × (g ≡ f)
+FindsAll refuses dialect s addresses p q m n f g other = ⊥

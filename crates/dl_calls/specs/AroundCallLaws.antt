@@ -1,6 +1,6 @@
 -- Laws of the calls that go on after damaged units, over the bytes s of a section. Each holds in every dialect. DWARF 5,
 -- section 6.2.4.
-use Rattle.std.specs.Prelude.{◌≡◌, ℕ, List}
+use Rattle.std.specs.Prelude.{◌≡◌, ℕ, Bool, true, List}
 use Rattle.dl_head.specs.declared.dialect.Dialect.{Dialect}
 use Rattle.dl_calls.specs.declared.record.Counts.{Counts}
 use Rattle.dl_calls.specs.declared.record.FaultRecord.{FaultRecord}
@@ -23,9 +23,12 @@ TellsFirst =
     (dialect : Dialect) (s : List ℕ) (c d d2 : Counts) (f g g2 : FaultRecord)
     → Checks dialect s c d f g status.Fault → ChecksAround dialect s c d2 f g2 status.Fault → g ≡ g2
 
--- where nothing is damaged, `find_all` answers and writes the same
+-- where nothing is damaged, `find_all` answers and writes the same, whatever memory is refused
 abbrev pub FindsAlike : Type 0
 FindsAlike =
-    (dialect : Dialect) (s addresses : List ℕ) (p q : List RowRecord) (m n : List ℕ) (f g : FaultRecord)
-    → (FindsAll dialect s addresses p q m n f g status.Done → FindsAllAround dialect s addresses p q m n f g status.Done)
-    × (FindsAllAround dialect s addresses p q m n f g status.Done → FindsAll dialect s addresses p q m n f g status.Done)
+    (refused : ℕ → Bool) (dialect : Dialect) (s addresses : List ℕ) (p q : List RowRecord) (m n : List ℕ)
+    (f g : FaultRecord)
+    → (FindsAll (λ k. refused k ≡ true) dialect s addresses p q m n f g status.Done
+    → FindsAllAround (λ k. refused k ≡ true) dialect s addresses p q m n f g status.Done)
+    × (FindsAllAround (λ k. refused k ≡ true) dialect s addresses p q m n f g status.Done
+    → FindsAll (λ k. refused k ≡ true) dialect s addresses p q m n f g status.Done)

@@ -3,6 +3,7 @@ use Rattle.std.specs.Prelude.{◌≡◌, ◌⊎◌, ℕ, ◌+◌, Bool, true, fa
 use Rattle.std.specs.Prelude.{option_map, Result, Ok, Err}
 use Rattle.std.specs.Option.{option_or}
 use Rattle.dl_head.specs.declared.dialect.Dialect.{Dialect}
+use Rattle.dl_memory.specs.Refusals.{IsRefused}
 use Rattle.dl_rows.specs.LineUnit.{unit_rows}
 use Rattle.dl_look.specs.declared.place.Place.{Place}
 use Rattle.dl_look.specs.Answer.{answer}
@@ -79,25 +80,25 @@ abbrev pub found_around : Dialect → List Block → (address : ℕ) → Option 
 found_around dialect blocks address = found_after dialect 0 blocks (place_of_address address)
 
 -- `find_all`, where it goes on after damaged units: of rows, offsets of units and a fault, p, m and f before it, and q, n
--- and g after it, only what the status says is written
-abbrev pub FindsAllAround : Dialect → (s addresses : List ℕ) → (p q : List RowRecord) (m n : List ℕ)
+-- and g after it, only what the status says is written. refuses: for how many items memory is refused
+abbrev pub FindsAllAround : (refuses : ℕ → Type 0) → Dialect → (s addresses : List ℕ) → (p q : List RowRecord) (m n : List ℕ)
     (f g : FaultRecord) → Status → Type 0
-FindsAllAround dialect s addresses p q m n f g status.Done =
+FindsAllAround refuses dialect s addresses p q m n f g status.Done =
     Fit addresses p m × IsReadWith dialect s (λ blocks. Answers (found_around dialect blocks) addresses p q n) None
     × (g ≡ f)
-FindsAllAround dialect s addresses p q m n f g status.Fault =
+FindsAllAround refuses dialect s addresses p q m n f g status.Fault =
     (units : DamagedUnits) × Fit addresses p m
     × IsReadWith dialect s (λ blocks. Answers (found_around dialect blocks) addresses p q n) (Some units)
     × (g ≡ record_of units.first.offset units.first.kind)
-FindsAllAround dialect s addresses p q m n f g status.NoMemory =
-    Fit addresses p m × (((q ≡ p) × (n ≡ m))
+FindsAllAround refuses dialect s addresses p q m n f g status.NoMemory =
+    Fit addresses p m × ((IsRefused refuses (length addresses + 1) × (q ≡ p) × (n ≡ m))
     ⊎ IsRefusedWith dialect s (λ blocks. Answers (found_around dialect blocks) addresses p q n)) × (g ≡ f)
-FindsAllAround dialect s addresses p q m n f g status.NoRoom =
+FindsAllAround refuses dialect s addresses p q m n f g status.NoRoom =
     (Fit addresses p m → ⊥) × (q ≡ p) × (n ≡ m) × (g ≡ f)
-FindsAllAround dialect s addresses p q m n f g other = ⊥
+FindsAllAround refuses dialect s addresses p q m n f g other = ⊥
 
 -- `find_all`, by whether it goes on after damaged units
-abbrev pub FindsAllBy : Bool → Dialect → (s addresses : List ℕ) → (p q : List RowRecord) (m n : List ℕ)
+abbrev pub FindsAllBy : (refuses : ℕ → Type 0) → Bool → Dialect → (s addresses : List ℕ) → (p q : List RowRecord) (m n : List ℕ)
     (f g : FaultRecord) → Status → Type 0
-FindsAllBy true = FindsAllAround
-FindsAllBy false = FindsAll
+FindsAllBy refuses true = FindsAllAround refuses
+FindsAllBy refuses false = FindsAll refuses

@@ -1,6 +1,7 @@
 //! The call that looks many addresses up.
 
-ghost use Rattle.std.specs.Prelude.{◌≡◌, ◌==◌, ◌<◌, ◌-◌, ◌^◌, ℕ, List, IfOk, [], length, map, slice_get};
+ghost use Rattle.std.specs.Prelude.{◌≡◌, ◌==◌, ◌<◌, ◌+◌, ◌-◌, ◌^◌, ℕ, List, IfOk, OnErr, [], length, map, slice_get};
+ghost use Rattle.dl_memory.specs.Refusals.{IsRefused};
 ghost use Rattle.std.specs.Prelude.{Some, None, if◌then◌else◌};
 ghost use Rattle.dl_look.specs.FindersRows.{Stand};
 ghost use Rattle.dl_calls.specs.AllCalls.{Answers, EndsWith, Fit, found_in, place_of_address, placed};
@@ -14,7 +15,7 @@ use crate::status::Status;
 use crate::stop::{tell_damage, tell_stop};
 use dl_head::Dialect;
 use dl_look::{Answered, Finders, Place};
-use dl_memory::NoMemory;
+use dl_memory::{Memory, NoMemory};
 use dl_rows::{Flow, Row};
 use dl_run::{
     Damage, DamagedUnits, SectionStop, UnitSink, UnitSinkAround, WholeUnit, read_section,
@@ -64,10 +65,10 @@ impl UnitSinkAround for Gatherer<'_> {
 /// Done: for each address its row and the offset of its unit are told; where no unit answers, the offset 2^64 - 1
 /// alone. Fault, and NoMemory once the section is read: the same by the units before it, and the fault; but where `how`
 /// says that it goes on after damaged units, Fault tells the first fault, and what all whole units answer. NoMemory where
-/// it is refused for the addresses, and NoRoom where there aren't as many rows and offsets as addresses: nothing is
+/// it was refused for the addresses, and NoRoom where there aren't as many rows and offsets as addresses: nothing is
 /// told. What isn't told stays as it was. Section 6.2.2.
-pub fn find_all(
-    alloc: Global,
+pub fn find_all<M: Memory>(
+    memory: &M,
     section: &[u8],
     how: u8,
     addresses: &[u64],
@@ -75,21 +76,21 @@ pub fn find_all(
     units: &mut [u64],
     fault: &mut FaultRecord,
 ) -> Status
-    ensures { FindsAllBy (goes_on how) (dialect_of how) section.now addresses.now rows.old rows.new units.old units.new
-        fault.old fault.new result }
+    ensures { FindsAllBy (M.refuses memory.now) (goes_on how) (dialect_of how) section.now addresses.now rows.old rows.new
+        units.old units.new fault.old fault.new result }
 {
     if rows.len() != addresses.len() || units.len() != addresses.len() {
         return Status::NoRoom;
     }
-    let Ok(mut finders) = finders_of(alloc, addresses) else {
+    let Ok(mut finders) = finders_of(memory, addresses) else {
         return Status::NoMemory;
     };
-    answer_all(alloc, section, how, &mut finders, rows, units, fault)
+    answer_all(memory, section, how, &mut finders, rows, units, fault)
 }
 
 /// Looks up the rows that answer for the addresses of finders, which were given no row yet.
-fn answer_all(
-    alloc: Global,
+fn answer_all<M: Memory>(
+    memory: &M,
     section: &[u8],
     how: u8,
     finders: &mut Finders,
@@ -99,17 +100,31 @@ fn answer_all(
 ) -> Status
     ensures { (addresses : List ℕ) → Stand finders.old (map place_of_address addresses) [] []
         → Fit addresses rows.old units.old
-        → FindsAllBy (goes_on how) (dialect_of how) section.now addresses rows.old rows.new units.old units.new fault.old
-        fault.new result }
+        → FindsAllBy (M.refuses memory.now) (goes_on how) (dialect_of how) section.now addresses rows.old rows.new
+        units.old units.new fault.old fault.new result }
 {
     forget(units);
     if goes_on(how) {
-        match gather_around(alloc, dialect_of(how), section, finders, rows, units) {
+        match gather_around(
+            memory.alloc(),
+            dialect_of(how),
+            section,
+            finders,
+            rows,
+            units,
+        ) {
             Ok(damaged) => tell_damage(damaged, fault),
             Err(AllocError) => Status::NoMemory,
         }
     } else {
-        match gather(alloc, dialect_of(how), section, finders, rows, units) {
+        match gather(
+            memory.alloc(),
+            dialect_of(how),
+            section,
+            finders,
+            rows,
+            units,
+        ) {
             Ok(()) => Status::Done,
             Err(stop) => tell_stop(stop, 0, fault),
         }
@@ -117,19 +132,18 @@ fn answer_all(
 }
 
 /// Finders of the addresses, each at the first operation of its instruction.
-fn finders_of(alloc: Global, addresses: &[u64]) -> Result<Finders, NoMemory>
-    ensures { IfOk result (λ finders. Stand finders (map place_of_address addresses.now) [] []) }
+fn finders_of<M: Memory>(memory: &M, addresses: &[u64]) -> Result<Finders, NoMemory>
+    ensures stand { IfOk result (λ finders. Stand finders (map place_of_address addresses.now) [] []) }
+    ensures refused { OnErr result (IsRefused (M.refuses memory.now) (length addresses.now + 1)) }
 {
-    let Ok(mut places) = Vec::with_capacity(alloc, addresses.len()) else {
-        return Err(NoMemory);
-    };
+    let mut places = memory.with_capacity(addresses.len())?;
     for address in addresses {
         places.push_reserved(Place {
             address: *address,
             op_index: 0,
         });
     }
-    Finders::build(alloc, places.as_slice())
+    Finders::build_in(memory, places.as_slice())
 }
 
 /// Tells what the units of a section answer, unit by unit.

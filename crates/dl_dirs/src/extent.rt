@@ -1,8 +1,8 @@
 //! Texts one after the other in a list of bytes.
-ghost use Rattle.std.specs.Prelude.{◌≡◌, IfOk};
+ghost use Rattle.std.specs.Prelude.{◌≡◌, ◌+◌, IfOk, OnErr, length};
 ghost use Rattle.dl_dirs.specs.Holding.{Grows, IsExtent, bytes_of};
 
-use dl_memory::NoMemory;
+use dl_memory::{Memory, NoMemory};
 
 /// Where a text stands in other bytes.
 #[derive(Clone, Copy)]
@@ -22,9 +22,14 @@ pub(crate) fn bytes_of(bytes: &[u8], extent: Extent) -> &[u8]
 }
 
 /// Puts a text behind others, where they don't end with it: where it stands.
-pub(crate) fn put(bytes: &mut Vec<u8>, text: &[u8]) -> Result<Extent, NoMemory>
+pub(crate) fn put<M: Memory>(
+    memory: &M,
+    bytes: &mut Vec<u8>,
+    text: &[u8],
+) -> Result<Extent, NoMemory>
     ensures grows { Grows bytes.old.items bytes.new.items }
     ensures extent { IfOk result (λ e. IsExtent bytes.new.items e text.now) }
+    ensures refused { OnErr result (M.refuses memory.now (length bytes.old.items + length text.now)) }
 {
     if bytes.ends_with(text) {
         let start = bytes.len() - text.len();
@@ -34,11 +39,9 @@ pub(crate) fn put(bytes: &mut Vec<u8>, text: &[u8]) -> Result<Extent, NoMemory>
         });
     }
     let start = bytes.len();
-    match bytes.extend_from_slice(text) {
-        Ok(()) => Ok(Extent {
-            start,
-            len: text.len(),
-        }),
-        Err(_) => Err(NoMemory),
-    }
+    memory.extend_from_slice(bytes, text)?;
+    Ok(Extent {
+        start,
+        len: text.len(),
+    })
 }

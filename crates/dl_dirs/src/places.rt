@@ -1,5 +1,6 @@
 //! Where the texts of compilation directories stand, by the offsets of line tables. DWARF 2, 3, 4 and 5, section 3.1.1.
-ghost use Rattle.std.specs.Prelude.{◌≡◌, ◌≤◌, ◌↔◌, ◌++◌, ◌∷◌, [], ℕ, List, IsTrue, IfErr, IfOk, OnOk, length};
+ghost use Rattle.std.specs.Prelude.{◌≡◌, ◌≤◌, ◌↔◌, ◌++◌, ◌∷◌, [], ℕ, List, IsTrue, IfErr, IfOk, OnErr, OnOk, length};
+ghost use Rattle.dl_memory.specs.Refusals.{WasRefused};
 ghost use Rattle.std.specs.Option.{option_copied};
 ghost use Rattle.std.specs.BTreeMap.{get};
 ghost use Rattle.std.specs.List.{list_any};
@@ -16,7 +17,7 @@ use crate::directories::Directories;
 use crate::extent::{Extent, bytes_of, put};
 use crate::texts::{Texts, index_text, section_text};
 use dl_info::{Entry, Text};
-use dl_memory::NoMemory;
+use dl_memory::{Memory, NoMemory};
 use dl_num::Order;
 use dl_table::Format;
 use std::alloc::Global;
@@ -72,12 +73,13 @@ pub struct Places {
 }
 
 /// Keeps where a text stands, and its bytes where they are in the entry.
-fn place_of(bytes: &mut Vec<u8>, said: Text<'_>) -> Result<Place, NoMemory>
+fn place_of<M: Memory>(memory: &M, bytes: &mut Vec<u8>, said: Text<'_>) -> Result<Place, NoMemory>
     ensures grows { Grows bytes.old.items bytes.new.items }
     ensures placed { IfOk result (λ p. IsPlaced bytes.new.items p (text said.entry)) }
+    ensures refused { OnErr result (WasRefused (M.refuses memory.now)) }
 {
     match said {
-        Text::Here(text) => Ok(Place::Here(put(bytes, text)?)),
+        Text::Here(text) => Ok(Place::Here(put(memory, bytes, text)?)),
         Text::Str(offset) => Ok(Place::Str(offset)),
         Text::LineStr(offset) => Ok(Place::LineStr(offset)),
         Text::Index(index) => Ok(Place::Index(index)),
@@ -132,11 +134,12 @@ impl Places {
     }
 
     /// Takes the first entry of the next unit: keeps it where it says the directory of a line table, and none did before.
-    pub(crate) fn add(&mut self, unit: &Entry<'_>) -> Result<(), NoMemory>
+    pub(crate) fn add<M: Memory>(&mut self, memory: &M, unit: &Entry<'_>) -> Result<(), NoMemory>
         ensures order { self.new.order ≡ self.old.order }
         ensures holds { OnOk result ((es : List EntryData) → Holds self.old es
             → Holds self.new (es ++ entry unit.now ∷ [])) }
         ensures memory { IfErr result (λ error. HasDirectory (entry unit.now ∷ [])) }
+        ensures refused { OnErr result (WasRefused (M.refuses memory.now)) }
     {
         let (Some(offset), Some(text)) = (unit.stmt_list, unit.comp_dir) else {
             return Ok(());
@@ -144,30 +147,27 @@ impl Places {
         if self.numbers.contains_key(&offset) {
             return Ok(());
         }
-        let place = place_of(&mut self.bytes, text)?;
-        self.keep(Kept {
+        let place = place_of(memory, &mut self.bytes, text)?;
+        let kept = Kept {
             offset,
             format: unit.format,
             place,
             base: unit.str_offsets_base,
-        })
+        };
+        self.keep(memory, kept)
     }
 
     /// Keeps an entry of a line table of which none is kept.
-    fn keep(&mut self, kept: Kept) -> Result<(), NoMemory>
+    fn keep<M: Memory>(&mut self, memory: &M, kept: Kept) -> Result<(), NoMemory>
         ensures order { self.new.order ≡ self.old.order }
         ensures holds { OnOk result ((es : List EntryData) → Holds self.old es
             → HasPlace self.old.bytes.items kept.place → get nat_cmp self.old.numbers kept.offset ≡ None
             → Holds self.new (es ++ kept_entry self.old.bytes.items kept ∷ [])) }
+        ensures refused { OnErr result (WasRefused (M.refuses memory.now)) }
     {
         let number = self.entries.len();
-        let Ok(()) = self.entries.push(kept) else {
-            return Err(NoMemory);
-        };
-        let Ok(_) = self.numbers.insert(kept.offset, number) else {
-            return Err(NoMemory);
-        };
-        Ok(())
+        memory.push(&mut self.entries, kept)?;
+        memory.insert(&mut self.numbers, kept.offset, number)
     }
 
     /// Whether a directory stands in `.debug_str`.

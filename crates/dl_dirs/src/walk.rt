@@ -1,5 +1,6 @@
 //! A walk over the units of `.debug_info`, whose bytes come in pieces. DWARF 2, 3, 4 and 5, section 7.5.
-ghost use Rattle.std.specs.Prelude.{◌≡◌, ◌+◌, ◌≤◌, ◌<◌, ◌++◌, [], ℕ, List, IfErr, IfOk, OnOk, length, take};
+ghost use Rattle.std.specs.Prelude.{◌≡◌, ◌+◌, ◌≤◌, ◌<◌, ◌++◌, [], ℕ, List, IfErr, IfOk, OnErr, OnOk, length, take};
+ghost use Rattle.dl_memory.specs.Refusals.{WasRefused};
 ghost use Rattle.dl_num.specs.declared.fixed.Order.{Order};
 ghost use Rattle.dl_info.specs.declared.head.UnitLength.{UnitLength};
 ghost use Rattle.dl_info.specs.declared.unit.Answer.TheVariants.{Found};
@@ -13,7 +14,7 @@ ghost use Rattle.dl_dirs.specs.declared.walk.State.TheVariants as state;
 
 use crate::places::Places;
 use dl_info::{Abbreviations, Answer, UnitLength, first_entry, unit_length};
-use dl_memory::NoMemory;
+use dl_memory::{Memory, NoMemory};
 use dl_num::Order;
 use std::alloc::Global;
 
@@ -45,7 +46,8 @@ pub struct Walk<'a> {
 }
 
 /// Reads a unit from its first bytes, and takes its entry: its length, More where they don't tell the entry.
-fn read(
+fn read<M: Memory>(
+    memory: &M,
     places: &mut Places,
     abbreviations: &mut Abbreviations<'_>,
     front: &[u8],
@@ -58,9 +60,10 @@ fn read(
         → Holds places.new (es ++ found_in (first_entry places.old.order (section_of abbreviations.old) front.now))) }
     ensures memory { IfErr result (λ error.
         HasDirectory (found_in (first_entry places.old.order (section_of abbreviations.old) front.now))) }
+    ensures refused { OnErr result (WasRefused (M.refuses memory.now)) }
 {
     match first_entry(places.order, front, abbreviations) {
-        Answer::Found(entry) => places.add(&entry)?,
+        Answer::Found(entry) => places.add(memory, &entry)?,
         Answer::More => return Ok(Answer::More),
         Answer::Unreadable => {}
     }
@@ -95,12 +98,13 @@ impl<'a> Walk<'a> {
         }
     }
 
-    /// Takes the next bytes of the section. Where memory is refused, for a directory or for the first bytes of a unit, the
+    /// Takes the next bytes of the section. Where memory was refused, for a directory or for the first bytes of a unit, the
     /// walk is used up.
-    pub fn feed(self, piece: &[u8]) -> Result<Walk<'a>, NoMemory>
+    pub fn feed<M: Memory>(self, memory: &M, piece: &[u8]) -> Result<Walk<'a>, NoMemory>
         ensures stands { (order : Order) (abbreviations b : List ℕ) → StandsFor self.entry order abbreviations b
             → IfOk result (λ walk. StandsFor walk order abbreviations (b ++ piece.now)) }
         ensures memory { IfErr result (λ error. 1 ≤ length piece.now) }
+        ensures refused { IfErr result (λ error. WasRefused (M.refuses memory.now)) }
     {
         let mut walk = self;
         let mut at = 0;
@@ -108,54 +112,65 @@ impl<'a> Walk<'a> {
             if at == piece.len() {
                 break;
             }
-            at += walk.advance(&piece[at..])?;
+            at += walk.advance(memory, &piece[at..])?;
         }
         Ok(walk)
     }
 
     /// Takes bytes of the section, of which there are some: how many.
-    fn advance(&mut self, piece: &[u8]) -> Result<usize, NoMemory>
+    fn advance<M: Memory>(&mut self, memory: &M, piece: &[u8]) -> Result<usize, NoMemory>
         requires { 1 ≤ length piece.now }
         ensures within { IfOk result (λ used. used ≤ length piece.now) }
         ensures stands { (order : Order) (abbreviations b : List ℕ) → StandsFor self.old order abbreviations b
             → IfOk result (Took self.new order abbreviations b piece.now) }
+        ensures refused { OnErr result (WasRefused (M.refuses memory.now)) }
     {
         match self.state {
-            State::Begun(awaited) => self.grow(awaited, piece),
-            State::Body(left) => self.pass(left, piece),
+            State::Begun(awaited) => self.grow(memory, awaited, piece),
+            State::Body(left) => self.pass(memory, left, piece),
             State::Ended => Ok(piece.len()),
         }
     }
 
     /// The same in a unit of which the first bytes are kept.
-    fn grow(&mut self, awaited: usize, piece: &[u8]) -> Result<usize, NoMemory>
+    fn grow<M: Memory>(
+        &mut self,
+        memory: &M,
+        awaited: usize,
+        piece: &[u8],
+    ) -> Result<usize, NoMemory>
         requires { 1 ≤ length piece.now }
         ensures within { IfOk result (λ used. used ≤ length piece.now) }
         ensures stands { (order : Order) (abbreviations b : List ℕ) → self.old.state ≡ state.Begun awaited
             → StandsFor self.old order abbreviations b
             → IfOk result (Took self.new order abbreviations b piece.now) }
+        ensures refused { OnErr result (WasRefused (M.refuses memory.now)) }
     {
         let used = awaited.min(piece.len());
-        let Ok(()) = self.front.extend_from_slice(&piece[..used]) else {
-            return Err(NoMemory);
-        };
+        memory.extend_from_slice(&mut self.front, &piece[..used])?;
         if used < awaited {
             self.state = State::Begun(awaited - used);
         } else {
-            self.read_front()?;
+            self.read_front(memory)?;
         }
         Ok(used)
     }
 
     /// Reads a unit from its first bytes, which are kept.
-    fn read_front(&mut self) -> Result<(), NoMemory>
-        ensures { (order : Order) (abbreviations b : List ℕ)
+    fn read_front<M: Memory>(&mut self, memory: &M) -> Result<(), NoMemory>
+        ensures stands { (order : Order) (abbreviations b : List ℕ)
             → GoesOn self.old order abbreviations b self.old.front.items
             → ((l : UnitLength) → unit_length order self.old.front.items ≡ Found l
             → length self.old.front.items ≤ l.size)
             → OnOk result (StandsFor self.new order abbreviations b) }
+        ensures refused { OnErr result (WasRefused (M.refuses memory.now)) }
     {
-        self.state = match read(&mut self.places, &mut self.abbreviations, &self.front)? {
+        self.state = match read(
+            memory,
+            &mut self.places,
+            &mut self.abbreviations,
+            &self.front,
+        )? {
             Answer::Found(unit) => State::Body(unit.size.saturating_sub(self.front.len() as u64)),
             Answer::More => State::Begun(awaited(self.places.order, &self.front)),
             Answer::Unreadable => State::Ended,
@@ -164,61 +179,63 @@ impl<'a> Walk<'a> {
     }
 
     /// The same so many bytes before the end of a unit.
-    fn pass(&mut self, left: u64, piece: &[u8]) -> Result<usize, NoMemory>
+    fn pass<M: Memory>(&mut self, memory: &M, left: u64, piece: &[u8]) -> Result<usize, NoMemory>
         requires { 1 ≤ length piece.now }
         ensures within { IfOk result (λ used. used ≤ length piece.now) }
         ensures stands { (order : Order) (abbreviations b : List ℕ) → self.old.state ≡ state.Body left
             → StandsFor self.old order abbreviations b
             → IfOk result (Took self.new order abbreviations b piece.now) }
+        ensures refused { OnErr result (WasRefused (M.refuses memory.now)) }
     {
         if left >= piece.len() as u64 {
             self.state = State::Body(left - piece.len() as u64);
             return Ok(piece.len());
         }
         let left = left as usize;
-        Ok(left + self.begin(&piece[left..])?)
+        Ok(left + self.begin(memory, &piece[left..])?)
     }
 
     /// The same where a unit begins.
-    fn begin(&mut self, piece: &[u8]) -> Result<usize, NoMemory>
+    fn begin<M: Memory>(&mut self, memory: &M, piece: &[u8]) -> Result<usize, NoMemory>
         requires { 1 ≤ length piece.now }
         ensures within { IfOk result (λ used. used ≤ length piece.now) }
         ensures stands { (order : Order) (abbreviations b : List ℕ) → GoesOn self.old order abbreviations b []
             → IfOk result (Took self.new order abbreviations b piece.now) }
+        ensures refused { OnErr result (WasRefused (M.refuses memory.now)) }
     {
-        match read(&mut self.places, &mut self.abbreviations, piece)? {
+        match read(memory, &mut self.places, &mut self.abbreviations, piece)? {
             Answer::Found(unit) => {
                 let used = unit.size.min(piece.len() as u64);
                 self.state = State::Body(unit.size - used);
                 return Ok(used as usize);
             }
-            Answer::More => self.keep(piece)?,
+            Answer::More => self.keep(memory, piece)?,
             Answer::Unreadable => self.state = State::Ended,
         }
         Ok(piece.len())
     }
 
     /// Keeps the first bytes of a unit, which don't tell its entry.
-    fn keep(&mut self, front: &[u8]) -> Result<(), NoMemory>
+    fn keep<M: Memory>(&mut self, memory: &M, front: &[u8]) -> Result<(), NoMemory>
         requires { (l : UnitLength) → unit_length self.old.places.order front.now ≡ Found l
             → length front.now < l.size }
-        ensures { (order : Order) (abbreviations b : List ℕ) → GoesOn self.old order abbreviations b front.now
+        ensures stands { (order : Order) (abbreviations b : List ℕ) → GoesOn self.old order abbreviations b front.now
             → OnOk result (StandsFor self.new order abbreviations b) }
+        ensures refused { OnErr result (WasRefused (M.refuses memory.now)) }
     {
         self.front.clear();
-        let Ok(()) = self.front.extend_from_slice(front) else {
-            return Err(NoMemory);
-        };
+        memory.extend_from_slice(&mut self.front, front)?;
         self.state = State::Begun(awaited(self.places.order, front));
         Ok(())
     }
 
     /// Ends the walk where the section ends: the places of the directories that its units say.
-    pub fn end(self) -> Result<Places, NoMemory>
+    pub fn end<M: Memory>(self, memory: &M) -> Result<Places, NoMemory>
         ensures places { (order : Order) (abbreviations b : List ℕ) → StandsFor self.entry order abbreviations b
             → IfOk result (λ places. AreOf places order abbreviations b) }
         ensures memory { (order : Order) (abbreviations b : List ℕ) → StandsFor self.entry order abbreviations b
             → IfErr result (λ error. HasDirectory (entries order abbreviations b)) }
+        ensures refused { IfErr result (λ error. WasRefused (M.refuses memory.now)) }
     {
         let Walk {
             mut abbreviations,
@@ -227,7 +244,7 @@ impl<'a> Walk<'a> {
             mut places,
         } = self;
         if let State::Begun(_) = state {
-            let _ = read(&mut places, &mut abbreviations, &front)?;
+            let _ = read(memory, &mut places, &mut abbreviations, &front)?;
         }
         Ok(places)
     }

@@ -1,6 +1,6 @@
 -- What finders keep of the places and of the rows that they were given. No promise rests on how this is said.
 use Rattle.std.specs.Prelude.{◌≡◌, ◌⊎◌, ℕ, ◌<◌, true, false, if◌then◌else◌, nat_lt, List, [], ◌∷◌, ◌++◌, length, Option}
-use Rattle.std.specs.Prelude.{Some, None}
+use Rattle.std.specs.Prelude.{Some, None, vec_capacity}
 use Rattle.std.specs.Option.{option_or}
 use Rattle.dl_rows.specs.declared.row.Row.{Row}
 use Rattle.dl_look.specs.declared.place.Place.{Place}
@@ -56,3 +56,9 @@ pub record Stand (finders : Finders) (places : List Place) (units : List (List R
       → j < length finders.slots.items → answer_upto finders.before finders.ledger (slot_number finders.slots.items j)
       ≡ answer_of_units front (slot_place finders.slots.items j)
   pub kept : Keeps finders.slots.items finders.trail.items finders.state (unended rows)
+
+-- the lists that rows and units add to have as much room as before, so that no memory was taken
+pub record KeepsRoom (old new : Finders) : Type 0 where
+  pub trail : vec_capacity new.trail ≡ vec_capacity old.trail
+  pub log : vec_capacity new.ledger.log ≡ vec_capacity old.ledger.log
+  pub slots : vec_capacity new.ledger.log_slots ≡ vec_capacity old.ledger.log_slots

@@ -75,7 +75,7 @@ impl Finders {
     ghost use Rattle.dl_rows.specs.declared.row.Row.{Row};
     ghost use Rattle.dl_look.specs.declared.place.Place.{Place};
     ghost use Rattle.dl_look.specs.Units.{answer_of_units, AreFirstAnswers};
-    ghost use Rattle.dl_look.specs.FindersRows.{Stand};
+    ghost use Rattle.dl_look.specs.FindersRows.{KeepsRoom, Stand};
 
     /// The places to look for, in any order, and no row yet. No memory is taken later.
     pub fn build(alloc: Global, places: &[Place]) -> Result<Finders, NoMemory>
@@ -101,11 +101,12 @@ impl Finders {
         })
     }
 
-    /// Takes the next row of the current unit.
+    /// Takes the next row of the current unit. No memory is taken.
     #[inline(always)]
     pub fn row(&mut self, row: &Row)
-        ensures { (places : List Place) (units : List (List Row)) (rows : List Row)
+        ensures stand { (places : List Place) (units : List (List Row)) (rows : List Row)
             → Stand self.old places units rows → Stand self.new places units (rows ++ row.now ∷ []) }
+        ensures room { KeepsRoom self.old self.new }
     {
         if row.end_sequence {
             self.end_sequence(row);
@@ -118,8 +119,9 @@ impl Finders {
     #[inline(always)]
     fn go_on(&mut self, row: &Row)
         requires { row.now.end_sequence ≡ false }
-        ensures { (places : List Place) (units : List (List Row)) (rows : List Row)
+        ensures stand { (places : List Place) (units : List (List Row)) (rows : List Row)
             → Stand self.old places units rows → Stand self.new places units (rows ++ row.now ∷ []) }
+        ensures room { KeepsRoom self.old self.new }
     {
         let place = Place::of(row);
         match &mut self.state {
@@ -147,8 +149,9 @@ impl Finders {
     /// Takes an end row.
     fn end_sequence(&mut self, row: &Row)
         requires { row.now.end_sequence ≡ true }
-        ensures { (places : List Place) (units : List (List Row)) (rows : List Row)
+        ensures stand { (places : List Place) (units : List (List Row)) (rows : List Row)
             → Stand self.old places units rows → Stand self.new places units (rows ++ row.now ∷ []) }
+        ensures room { KeepsRoom self.old self.new }
     {
         let place = Place::of(row);
         let state = self.state;
@@ -166,10 +169,11 @@ impl Finders {
         }
     }
 
-    /// The current unit ends, and its rows count; the next row is the first one of the next unit.
+    /// The current unit ends, and its rows count; the next row is the first one of the next unit. No memory is taken.
     pub fn end_unit(&mut self)
-        ensures { (places : List Place) (units : List (List Row)) (rows : List Row)
+        ensures stand { (places : List Place) (units : List (List Row)) (rows : List Row)
             → Stand self.old places units rows → Stand self.new places (units ++ rows ∷ []) [] }
+        ensures room { KeepsRoom self.old self.new }
     {
         self.ledger.seal(self.whole);
         self.before = self.whole;
@@ -180,8 +184,9 @@ impl Finders {
     /// The current unit turns out to be damaged: its rows don't count, and the next row is the first one of
     /// the next unit.
     pub fn forget_unit(&mut self)
-        ensures { (places : List Place) (units : List (List Row)) (rows : List Row)
+        ensures stand { (places : List Place) (units : List (List Row)) (rows : List Row)
             → Stand self.old places units rows → Stand self.new places units [] }
+        ensures room { KeepsRoom self.old self.new }
     {
         self.ledger.forget(self.whole);
         self.state = State::Start;

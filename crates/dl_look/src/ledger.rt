@@ -29,7 +29,7 @@ pub struct Ledger {
 }
 
 impl Ledger {
-    ghost use Rattle.std.specs.Prelude.{◌≡◌, ℕ, ◌+◌, ◌<◌, ◌≤◌, ◌≢◌, ◌&&◌, if◌then◌else◌, IfOk, OnErr, length, true, false, []};
+    ghost use Rattle.std.specs.Prelude.{◌≡◌, ℕ, ◌+◌, ◌<◌, ◌≤◌, ◌≢◌, ◌&&◌, if◌then◌else◌, IfOk, OnErr, length, true, false, [], vec_capacity};
     ghost use Rattle.dl_memory.specs.Refusals.{IsRefused};
     ghost use Rattle.std.specs.Prelude.{Some, None, nat_le, nat_lt, List, drop};
     ghost use Rattle.std.specs.Option.{option_or};
@@ -96,6 +96,8 @@ impl Ledger {
             → answer_upto limit self.new i ≡ answer_upto limit self.old i }
         ensures grown { length self.old.log.items ≤ length self.new.log.items }
         ensures sealed { self.new.links.sealed.items ≡ self.old.links.sealed.items }
+        ensures log_room { vec_capacity self.new.log ≡ vec_capacity self.old.log }
+        ensures slots_room { vec_capacity self.new.log_slots ≡ vec_capacity self.old.log_slots }
     {
         let mut at = self.links.first_open(low);
         while at < high {
@@ -121,6 +123,8 @@ impl Ledger {
             → answer_upto limit self.new i ≡ answer_upto limit self.old i }
         ensures grown { length self.new.log.items ≡ length self.old.log.items + 1 }
         ensures sealed { self.new.links.sealed.items ≡ self.old.links.sealed.items }
+        ensures log_room { vec_capacity self.new.log ≡ vec_capacity self.old.log }
+        ensures slots_room { vec_capacity self.new.log_slots ≡ vec_capacity self.old.log_slots }
     {
         let number = slots[at].number;
         self.entries[number] = Some(self.log.len());
@@ -139,6 +143,8 @@ impl Ledger {
             → AreSealed slots (length self.new.log.items) self.new }
         ensures answers { (limit i : ℕ) → answer_upto limit self.new i ≡ answer_upto limit self.old i }
         ensures log { self.new.log.items ≡ self.old.log.items }
+        ensures log_room { vec_capacity self.new.log ≡ vec_capacity self.old.log }
+        ensures slots_room { vec_capacity self.new.log_slots ≡ vec_capacity self.old.log_slots }
     {
         self.links.seal(&self.log_slots[whole..]);
     }
@@ -159,6 +165,8 @@ impl Ledger {
         ensures before { (limit i : ℕ) → limit ≤ whole
             → answer_upto limit self.new i ≡ answer_upto limit self.old i }
         ensures count { length self.new.log.items ≡ whole }
+        ensures log_room { vec_capacity self.new.log ≡ vec_capacity self.old.log }
+        ensures slots_room { vec_capacity self.new.log_slots ≡ vec_capacity self.old.log_slots }
     {
         self.links.reopen(&self.log_slots[whole..]);
         clear_entries(&mut self.entries, self.log.as_slice(), whole);

@@ -35,6 +35,7 @@ pub fn pass(trail: &mut Vec<Stretch>, slots: &[Slot], last: &Row, end: usize, pl
         ≡ option_or (row_at trail.old.items end j) (if nat_le end j && nat_lt j result then Some last.now else None) }
     ensures room { length trail.new.items ≤ result }
     ensures capacity { length slots.now ≤ vec_capacity trail.new }
+    ensures room_kept { vec_capacity trail.new ≡ vec_capacity trail.old }
     ensures starts { StartsWithin (length slots.now) trail.new.items }
 {
     if end == slots.len() || !slots[end].place.is_below(place) {
@@ -62,6 +63,8 @@ pub fn settle(trail: &[Stretch], end: usize, slots: &[Slot], ledger: &mut Ledger
         → answer_upto limit ledger.new i ≡ answer_upto limit ledger.old i }
     ensures grown { length ledger.old.log.items ≤ length ledger.new.log.items }
     ensures sealed { ledger.new.links.sealed.items ≡ ledger.old.links.sealed.items }
+    ensures log_room { vec_capacity ledger.new.log ≡ vec_capacity ledger.old.log }
+    ensures slots_room { vec_capacity ledger.new.log_slots ≡ vec_capacity ledger.old.log_slots }
 {
     for (i, stretch) in trail.iter().enumerate() {
         let high = if i + 1 < trail.len() {

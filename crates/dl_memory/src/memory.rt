@@ -1,16 +1,20 @@
 //! Growths, and that they are refused.
 
 use std::alloc::Global;
+use std::collections::BTreeMap;
 
 /// A growth was refused.
 #[derive(Debug, Clone, Copy, PartialEq, Eq)]
 pub struct NoMemory;
 
-/// Where memory comes from. Each call answers [`NoMemory`] only where memory was refused, and then the list stays as it was.
+/// Where memory comes from. Each call answers [`NoMemory`] only where memory was refused, and then the list or map stays as it
+/// was.
 pub trait Memory {
-    ghost use Rattle.std.specs.Prelude.{◌≡◌, ◌≤◌, ◌+◌, ◌++◌, ◌∷◌, [], ℕ, length, vec_len, vec_capacity, IfOk, OnOk, OnErr};
+    ghost use Rattle.std.specs.Prelude.{◌≡◌, ◌≤◌, ◌+◌, ◌++◌, ◌∷◌, [], ℕ, length, vec_len, vec_capacity, IfOk, OnOk, OnErr, Some, None};
+    ghost use Rattle.std.specs.BTreeMap.{IsUnchanged, Updates, btree_map_len, get};
+    ghost use Rattle.std.specs.Ordering.{nat_cmp};
 
-    /// For a list of how many items it refuses memory.
+    /// For a list or a map of how many items it refuses memory.
     ghost refuses: { Self → ℕ → Type 0 };
 
     /// What lists are made with that take no memory yet.
@@ -36,4 +40,16 @@ pub trait Memory {
         ensures kept { OnErr result (list.new.items ≡ list.old.items) }
         ensures capacity { vec_capacity list.old ≤ vec_capacity list.new }
         ensures refused { OnErr result (refuses self.now (length list.old.items + length more.now)) };
+
+    /// Puts a value by a key into a map, in place of the one that was by it.
+    fn insert<V: Drop>(
+        &self,
+        map: &mut BTreeMap<u64, V>,
+        key: u64,
+        value: V,
+    ) -> Result<(), NoMemory>
+        ensures updates { OnOk result (Updates nat_cmp map.old map.new key (Some value)) }
+        ensures kept { OnErr result (IsUnchanged map.old map.new) }
+        ensures absent { OnErr result (get nat_cmp map.old key ≡ None) }
+        ensures refused { OnErr result (refuses self.now (btree_map_len map.old + 1)) };
 }

@@ -2,6 +2,7 @@
 
 use crate::memory::{Memory, NoMemory};
 use std::alloc::Global;
+use std::collections::BTreeMap;
 
 /// The memory of the system, which may refuse any growth.
 #[derive(Clone, Copy)]
@@ -42,6 +43,18 @@ impl Memory for System {
     fn extend_from_slice<T: Copy>(&self, list: &mut Vec<T>, more: &[T]) -> Result<(), NoMemory> {
         match list.extend_from_slice(more) {
             Ok(()) => Ok(()),
+            Err(_) => Err(NoMemory),
+        }
+    }
+
+    fn insert<V: Drop>(
+        &self,
+        map: &mut BTreeMap<u64, V>,
+        key: u64,
+        value: V,
+    ) -> Result<(), NoMemory> {
+        match map.insert(key, value) {
+            Ok(_) => Ok(()),
             Err(_) => Err(NoMemory),
         }
     }

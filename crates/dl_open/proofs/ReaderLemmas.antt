@@ -43,7 +43,7 @@ reader_stream all_bytes reader (Inflated name bytes damage) gives = gives.3
 
 -- what stops the reading of bytes stops that of a section of which they are the first
 pub stops_known : (limit : ℕ) (known left : Option (List ℕ)) (bs : List ℕ) (f : RunFault) → Consumes known left bs
-    → StopsReading limit bs f → FileStops known limit f
+    → StopsReading (λ n. Unit {0}) limit bs f → FileStops known limit f
 stops_known limit known left bs fault.Read consumes stops = tt
 stops_known limit known left bs fault.NoMemory consumes stops = tt
 stops_known limit None left bs fault.SectionTooLong consumes stops = tt
@@ -59,7 +59,7 @@ pub section_stops : {S : Type 0} {g : _} (all_bytes : S
     (reader : ContentReader S g) (content : Option Content) (stream : Option SectionName) (left : Option (List ℕ))
     (f : RunFault) (stop : FileStop) → section ≡ Some reader → GivesOption all_bytes section content
     → stream ≡ stream_name reader
-    → (bs : List ℕ) × Consumes (content_remaining all_bytes reader) left bs × StopsReading STRINGS_LIMIT bs f
+    → (bs : List ℕ) × Consumes (content_remaining all_bytes reader) left bs × StopsReading (λ n. Unit {0}) STRINGS_LIMIT bs f
     → StopsAt path stream f stop → (c : Content) × (content ≡ Some c) × SectionStops path c stop
 section_stops all_bytes path None reader content stream left f stop none gives named read at = absurd (cc none)
 section_stops all_bytes path (Some other) reader None stream left f stop is gives named read at = absurd gives

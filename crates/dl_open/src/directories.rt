@@ -15,7 +15,7 @@ use crate::section::{PIECE, Piece, Unread, next_piece, whole};
 use dl_dirs::{Directories, Places, Texts, Walk};
 use dl_elf::{ElfFault, ReadAt};
 use dl_file::{ContentReader, InfoFile, LineReader, open_info};
-use dl_memory::NoMemory;
+use dl_memory::{NoMemory, System};
 use dl_num::Order;
 use dl_run::SECTION_LIMIT;
 use std::alloc::Global;
@@ -54,7 +54,7 @@ fn walk_over<'a, S: ReadAt>(
     loop {
         match next_piece(info, &mut left, &mut buffer)? {
             Piece::Bytes(piece) => {
-                walk = match walk.feed(piece) {
+                walk = match walk.feed(&System::new(alloc), piece) {
                     Ok(walk) => walk,
                     Err(NoMemory) => return Err(Unread::NoMemory),
                 };
@@ -78,7 +78,7 @@ fn walk_through<S: ReadAt>(
     let Some(walk) = walk_over(alloc, order, abbreviations, info)? else {
         return Ok(None);
     };
-    match walk.end() {
+    match walk.end(&System::new(alloc)) {
         Ok(places) => Ok(Some(places)),
         Err(NoMemory) => Err(Unread::NoMemory),
     }

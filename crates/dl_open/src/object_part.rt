@@ -10,6 +10,7 @@ use crate::stop::FileStop;
 use dl_elf::{ElfFault, ReadAt, code_section, open_elf, section_number};
 use dl_file::{LineReader, find_places};
 use dl_head::Dialect;
+use dl_memory::System;
 use dl_object::keep_section;
 use dl_reloc::Placed;
 use dl_run::{SECTION_LIMIT, read_strings};
@@ -105,7 +106,7 @@ pub fn kept_bytes<'p, S: ReadAt>(
         (λ kept. IsKept dialect part.now content kept.items) (KeepingStops path.entry.now dialect part.now content) }
 {
     let stream = line.stream_name();
-    let mut bytes = match read_strings(alloc, line, SECTION_LIMIT) {
+    let mut bytes = match read_strings(&System::new(alloc), line, SECTION_LIMIT) {
         Ok(bytes) => bytes,
         Err(fault) => return Err(FileStop::at(path, stream, fault, line.last_fault())),
     };

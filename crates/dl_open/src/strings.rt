@@ -12,6 +12,7 @@ use crate::stop::FileStop;
 use dl_elf::ReadAt;
 use dl_file::ContentReader;
 use dl_head::Dialect;
+use dl_memory::System;
 use dl_run::{Options, RunFault, SECTION_LIMIT, read_strings};
 use std::alloc::Global;
 
@@ -111,7 +112,7 @@ fn read_section<'p, S: ReadAt>(
         return Ok(None);
     };
     let stream = section.stream_name();
-    match read_strings(alloc, &mut section, STRINGS_LIMIT) {
+    match read_strings(&System::new(alloc), &mut section, STRINGS_LIMIT) {
         Ok(bytes) => Ok(Some(bytes)),
         Err(fault) => Err(FileStop::at(path, stream, fault, section.last_fault())),
     }

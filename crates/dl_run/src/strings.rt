@@ -5,20 +5,24 @@ ghost use Rattle.dl_run.specs.Strings.{StopsReading};
 
 use crate::fault::RunFault;
 use crate::input::Input;
-use std::alloc::Global;
+use dl_memory::Memory;
 use std::io::Read;
 
 /// All bytes of a string section, of which there may be `limit`.
 ///
-/// `SectionTooLong` where there are more, `Read` where the reader fails, `NoMemory` where a growth
-/// is refused.
-pub fn read_strings<R: Read>(alloc: Global, input: &mut R, limit: u64) -> Result<Vec<u8>, RunFault>
+/// `SectionTooLong` where there are more, `Read` where the reader fails, `NoMemory` where memory
+/// was refused for them.
+pub fn read_strings<M: Memory, R: Read>(
+    memory: &M,
+    input: &mut R,
+    limit: u64,
+) -> Result<Vec<u8>, RunFault>
     ensures { (bs : List ℕ) × Consumes (R.remaining input.old) (R.remaining input.new) bs
         × MatchResult result
         (λ bytes. (bytes.items ≡ bs) × (length bs ≤ limit) × IsAtEnd (R.remaining input.new))
-        (StopsReading limit bs) }
+        (StopsReading (M.refuses memory.now) limit bs) }
 {
-    let mut bytes = Vec::new(alloc);
+    let mut bytes = Vec::new(memory.alloc());
     let mut buffer = Input::new();
     loop {
         let Ok(piece) = buffer.next_piece(input) else {
@@ -30,8 +34,8 @@ pub fn read_strings<R: Read>(alloc: Global, input: &mut R, limit: u64) -> Result
         if limit - (bytes.len() as u64) < piece.len() as u64 {
             return Err(RunFault::SectionTooLong);
         }
-        if bytes.extend_from_slice(piece).is_err() {
+        let Ok(()) = memory.extend_from_slice(&mut bytes, piece) else {
             return Err(RunFault::NoMemory);
-        }
+        };
     }
 }

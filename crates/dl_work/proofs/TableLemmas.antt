@@ -40,7 +40,7 @@ pub ran : (units : FileUnits) (path : Text) (command : Command) (t : LineTable)
     → ((read : List ℕ) → Consumes remaining left read → Consumes (Some (bytes_of t.line)) left read)
     → IsWhole t.line_str t.str s → dialect ≡ file_dialect units t → strings ≡ s → limit ≡ SECTION_LIMIT
     → (read : List ℕ) × Consumes remaining left read
-    × Does command dialect strings limit read left start now hears answer
+    × Does (λ n. Unit {0}) command dialect strings limit read left start now hears answer
     → EndsAt path (stream_of t.line) answer result → RunsOn units path command t start now hears result
 ran units path command t start now left remaining hears s strings dialect limit answer result known whole ordered in_options
     limited (read, consumes, does) ends =
@@ -51,9 +51,9 @@ ran units path command t start now left remaining hears s strings dialect limit 
       left = left;
       bytes = known read consumes;
       answer = answer;
-      done = subst (λ (d : Dialect). Does command d s SECTION_LIMIT read left start now hears answer) ordered
-          (subst (λ (z : Strings). Does command dialect z SECTION_LIMIT read left start now hears answer) in_options
-          (subst (λ (l : ℕ). Does command dialect strings l read left start now hears answer) limited does));
+      done = subst (λ (d : Dialect). Does (λ n. Unit {0}) command d s SECTION_LIMIT read left start now hears answer) ordered
+          (subst (λ (z : Strings). Does (λ n. Unit {0}) command dialect z SECTION_LIMIT read left start now hears answer) in_options
+          (subst (λ (l : ℕ). Does (λ n. Unit {0}) command dialect strings l read left start now hears answer) limited does));
       ends = ends;
     }
 
@@ -76,7 +76,7 @@ pub found_stops : (units : FileUnits) (fails : Error → Type 0) (path : Text) (
     (t : LineTable) (start now : Option (List ℕ)) (hears : List Damage → Type 0) (stop : FileStop)
     (looks is_object : Bool) → looks ≡ true
     → looks ≡ looks_up command → is_object ≡ t.is_object_file → PartStops fails path f is_object name stop
-    → WithoutTable command start now → hears [] → OnFound units fails path name command f t start now hears (Err stop)
+    → WithoutTable (λ n. Unit {0}) command start now → hears [] → OnFound units fails path name command f t start now hears (Err stop)
 found_stops units fails path name command f t start now hears stop looks is_object said own object why written untold =
     subst (λ (looks : Bool). OnFoundWhere looks units fails path name command f t start now hears (Err stop))
     (sym said ∙ own)

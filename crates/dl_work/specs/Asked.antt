@@ -210,42 +210,43 @@ abbrev pub GoesOn : (Answers : Result Survey RunFault → Type 0) (hears : List 
     → Result Survey RunFault → Type 0
 GoesOn Answers hears result = hears [] × Answers result
 
--- what the command answers, writes and tells. bytes: what was read of a section, which has `left` left
-abbrev pub Does : Command → Dialect → Strings → (limit : ℕ) (bytes : List ℕ) (left : Option (List ℕ)) → Outcome RunFault
-Does Dump dialect s limit bytes left start now = EndsThere (Dumps dialect s limit bytes left start now)
-Does DumpAround dialect s limit bytes left start now = DumpsAround dialect s limit bytes left start now
-Does Check dialect s limit bytes left start now = EndsThere (Checks dialect limit bytes left start now)
-Does CheckAround dialect s limit bytes left start now = ChecksAround dialect limit bytes left start now
-Does (Find place) dialect s limit bytes left start now = EndsThere (Finds dialect s place limit bytes left start now)
+-- what the command answers, writes and tells. bytes: what was read of a section, which has `left` left. refuses: for how
+-- many items memory is refused
+abbrev pub Does : (refuses : ℕ → Type 0) → Command → Dialect → Strings → (limit : ℕ) (bytes : List ℕ) (left : Option (List ℕ)) → Outcome RunFault
+Does refuses Dump dialect s limit bytes left start now = EndsThere (Dumps dialect s limit bytes left start now)
+Does refuses DumpAround dialect s limit bytes left start now = DumpsAround dialect s limit bytes left start now
+Does refuses Check dialect s limit bytes left start now = EndsThere (Checks dialect limit bytes left start now)
+Does refuses CheckAround dialect s limit bytes left start now = ChecksAround dialect limit bytes left start now
+Does refuses (Find place) dialect s limit bytes left start now = EndsThere (Finds dialect s place limit bytes left start now)
 -- units of version 5 alone are copied
-Does Copy dialect s limit bytes left start now = EndsThere (Copies (version_5 dialect.order) limit bytes left start now)
+Does refuses Copy dialect s limit bytes left start now = EndsThere (Copies (version_5 dialect.order) limit bytes left start now)
 -- under headers of version 5, with the directory that is said
-Does (CopyTo5 comp_dir) dialect s limit bytes left start now = EndsThere (λ answer.
+Does refuses (CopyTo5 comp_dir) dialect s limit bytes left start now = EndsThere (λ answer.
     (d : CompilationDirectories) × ((unit : ℕ) → directory_by d unit ≡ option_copied comp_dir)
     × CopiesAs (to_5 (directory_by d)) dialect limit bytes left start now answer)
-Does (Addr question) dialect s limit bytes left start now = EndsThere (λ answer.
+Does refuses (Addr question) dialect s limit bytes left start now = EndsThere (λ answer.
     (found : Result Found RunFault) × (answer ≡ answered found)
-    × Locates dialect s question limit bytes left start now found)
-Does (AddrAround question) dialect s limit bytes left start now = GoesOn (λ answer.
+    × Locates refuses dialect s question limit bytes left start now found)
+Does refuses (AddrAround question) dialect s limit bytes left start now = GoesOn (λ answer.
     (found : Result FoundAround RunFault) × (answer ≡ answered_around found)
-    × LocatesAround dialect s question limit bytes left start now found)
-Does (Index table) dialect s limit bytes left start now = EndsThere (Writes dialect s table limit bytes left start now)
-Does (IndexAround table) dialect s limit bytes left start now =
+    × LocatesAround refuses dialect s question limit bytes left start now found)
+Does refuses (Index table) dialect s limit bytes left start now = EndsThere (Writes dialect s table limit bytes left start now)
+Does refuses (IndexAround table) dialect s limit bytes left start now =
     GoesOn (WritesAround dialect s table limit bytes left start now)
-Does (IndexUntil table) dialect s limit bytes left start now =
+Does refuses (IndexUntil table) dialect s limit bytes left start now =
     EndsThere (WritesUntil dialect s table limit bytes left start now)
-Does (IndexUntilAround table) dialect s limit bytes left start now =
+Does refuses (IndexUntilAround table) dialect s limit bytes left start now =
     GoesOn (WritesUntilAround dialect s table limit bytes left start now)
 
 -- what `addr` writes of a section without bytes, so that each address has no answer
-abbrev pub Unfound : Question → (start now : Option (List ℕ)) → Type 0
-Unfound question start now =
+abbrev pub Unfound : (refuses : ℕ → Type 0) → Question → (start now : Option (List ℕ)) → Type 0
+Unfound refuses question start now =
     (bytes : List ℕ) × (left : Option (List ℕ)) × (found : Result Found RunFault) × Consumes (Some []) left bytes
-    × Locates (version_5 Little) (record { line_strings = None; strings = None }) question SECTION_LIMIT bytes left
+    × Locates refuses (version_5 Little) (record { line_strings = None; strings = None }) question SECTION_LIMIT bytes left
     start now found
 
 -- what a command writes where there is no line table; `addr` alone writes something
-abbrev pub WithoutTable : Command → (start now : Option (List ℕ)) → Type 0
-WithoutTable (Addr question) start now = Unfound question start now
-WithoutTable (AddrAround question) start now = Unfound question start now
-WithoutTable other start now = Keeps start now
+abbrev pub WithoutTable : (refuses : ℕ → Type 0) → Command → (start now : Option (List ℕ)) → Type 0
+WithoutTable refuses (Addr question) start now = Unfound refuses question start now
+WithoutTable refuses (AddrAround question) start now = Unfound refuses question start now
+WithoutTable refuses other start now = Keeps start now

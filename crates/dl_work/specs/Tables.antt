@@ -42,7 +42,7 @@ pub record RunsOn (units : FileUnits) (path : Text) (command : Command) (t : Lin
   pub left : Option (List ℕ)
   pub bytes : Consumes (Some (bytes_of t.line)) left read
   pub answer : Result Survey RunFault
-  pub done : Does command (file_dialect units t) strings SECTION_LIMIT read left start now hears answer
+  pub done : Does (λ n. Unit {0}) command (file_dialect units t) strings SECTION_LIMIT read left start now hears answer
   pub ends : EndsAt path (stream_of t.line) answer result
 
 -- the table with these bytes of its line section
@@ -54,7 +54,7 @@ with_bytes t bytes = record t { line = Plain bytes }
 -- the program stops before its command
 abbrev pub StopsEarly : Command → (FileStop → Type 0) → Outcome FileStop
 StopsEarly command Reason start now hears result =
-    (stop : FileStop) × (result ≡ Err stop) × Reason stop × WithoutTable command start now × hears []
+    (stop : FileStop) × (result ≡ Err stop) × Reason stop × WithoutTable (λ n. Unit {0}) command start now × hears []
 
 abbrev pub OnLines : FileUnits → (path : Text) → Command → LineTable → Option Part → Outcome FileStop
 OnLines units path command t None start now hears result = RunsOn units path command t start now hears result

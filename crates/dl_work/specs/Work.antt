@@ -46,7 +46,7 @@ abbrev pub OnInput : (held : Text → Option (List ℕ)) → SectionWords → Co
 OnInput held section command bytes left start now hears result =
     ((s : Strings) × StringsAre held section.line_str section.strings s
     × (answer : Result Survey RunFault) × (result ≡ stopped answer)
-    × Does command (dialect_of section) s SECTION_LIMIT bytes left start now hears answer)
+    × Does (λ n. Unit {0}) command (dialect_of section) s SECTION_LIMIT bytes left start now hears answer)
     ⊎ ((f : RunFault) × FilesStop held section.line_str section.strings f
     × StopsUntold bytes start now hears result (Run f))
 

@@ -17,13 +17,13 @@ use dl_look::Place;
 use dl_making::{
     Table, write_index, write_index_around, write_index_until, write_index_until_around,
 };
+use dl_memory::Memory;
 use dl_num::Order;
 use dl_open::Sections;
 use dl_run::{
     DamageSink, Options, RunFault, SECTION_LIMIT, Summary, Survey, check, check_around, copy,
     copy_to_5, dump, dump_around, find,
 };
-use std::alloc::Global;
 use std::io::{Read, Write};
 
 /// What `addr` counts.
@@ -223,20 +223,21 @@ impl<'a> Command<'a> {
     }
 
     /// Says what there is to say where there is no line table: of `addr`, that each address has no answer, as over a
-    /// section without bytes. Whether that could be written isn't told, since the file's fault is.
-    pub fn without_table<W: Write>(self, alloc: Global, output: &mut W)
-        ensures { WithoutTable self.entry (W.contents output.old) (W.contents output.new) }
+    /// section without bytes. Whether that could be written, or memory was refused for it, isn't told, since the file's
+    /// fault is.
+    pub fn without_table<M: Memory, W: Write>(self, memory: &M, output: &mut W)
+        ensures { WithoutTable (M.refuses memory.now) self.entry (W.contents output.old) (W.contents output.new) }
     {
         if let Command::Addr(question) | Command::AddrAround(question) = self {
             let mut nothing: &[u8] = &[];
-            let _ = addr(alloc, &mut nothing, output, &question, &NO_STRINGS);
+            let _ = addr(memory, &mut nothing, output, &question, &NO_STRINGS);
         }
     }
 
     /// Works through the section, and tells of the units that are damaged where it goes on after them.
-    pub fn run<R: Read, W: Write, D: DamageSink>(
+    pub fn run<M: Memory, R: Read, W: Write, D: DamageSink>(
         self,
-        alloc: Global,
+        memory: &M,
         input: &mut R,
         output: &mut W,
         options: &Options<'_>,
@@ -244,10 +245,11 @@ impl<'a> Command<'a> {
     ) -> Result<Survey, RunFault>
         requires { options.now.limit ≤ SECTION_LIMIT }
         ensures { (bytes : List ℕ) × Consumes (R.remaining input.old) (R.remaining input.new) bytes
-            × (D.hears damages.old damages.old [] → Does self.entry options.now.dialect (strings_in options.now)
-            options.now.limit bytes (R.remaining input.new) (W.contents output.old) (W.contents output.new)
+            × (D.hears damages.old damages.old [] → Does (M.refuses memory.now) self.entry options.now.dialect
+            (strings_in options.now) options.now.limit bytes (R.remaining input.new) (W.contents output.old) (W.contents output.new)
             (D.hears damages.old damages.new) result) }
     {
+        let alloc = memory.alloc();
         match self {
             Command::DumpAround => dump_around(alloc, input, output, options, damages),
             Command::CheckAround => check_around(alloc, input, output, options, damages),
@@ -260,10 +262,10 @@ impl<'a> Command<'a> {
                 all_whole(copy_to_5(alloc, input, output, directories, options))
             }
             Command::Addr(question) => {
-                all_whole(answered(addr(alloc, input, output, &question, options)))
+                all_whole(answered(addr(memory, input, output, &question, options)))
             }
             Command::AddrAround(question) => {
-                answered_around(addr_around(alloc, input, output, &question, options))
+                answered_around(addr_around(memory, input, output, &question, options))
             }
             Command::Index(table) => {
                 all_whole(write_index(alloc, input, output, &table, options))

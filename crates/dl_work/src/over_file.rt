@@ -11,6 +11,7 @@ ghost use Rattle.dl_work.specs.Tables.{OnFile, OnFound, OnLines, OnTable, RunsOn
 use crate::command::Command;
 use dl_elf::ReadAt;
 use dl_file::{LineFile, LineReader};
+use dl_memory::System;
 use dl_open::{
     FileFault, FileStop, FileUnits, Part, StringSections, file_dialect, kept_bytes, open_table,
     part_of,
@@ -36,7 +37,7 @@ fn on_section<'p, S: ReadAt, W: Write, D: DamageSink>(
         (D.hears damages.old damages.new) result }
 {
     let stream = line.stream_name();
-    match command.run(alloc, line, output, options, damages) {
+    match command.run(&System::new(alloc), line, output, options, damages) {
         Ok(survey) => Ok(survey),
         Err(fault) => Err(FileStop::at(path, stream, fault, line.last_fault())),
     }
@@ -59,7 +60,7 @@ fn on_kept<'p, W: Write, D: DamageSink>(
         (D.hears damages.old damages.new) result }
 {
     let mut input = bytes;
-    match command.run(alloc, &mut input, output, options, damages) {
+    match command.run(&System::new(alloc), &mut input, output, options, damages) {
         Ok(survey) => Ok(survey),
         Err(fault) => Err(FileStop::at(path, None, fault, None)),
     }
@@ -96,7 +97,7 @@ fn on_lines<'p, S: ReadAt, W: Write, D: DamageSink>(
             damages,
         ),
         Err(stop) => {
-            command.without_table(alloc, output);
+            command.without_table(&System::new(alloc), output);
             Err(stop)
         }
     }
@@ -127,7 +128,7 @@ fn on_table<'p, S: ReadAt, W: Write, D: DamageSink>(
         ..
     } = table;
     if command.loses(is_object) {
-        command.without_table(alloc, output);
+        command.without_table(&System::new(alloc), output);
         return Err(FileStop::File {
             path,
             fault: FileFault::ObjectCopy,
@@ -136,7 +137,7 @@ fn on_table<'p, S: ReadAt, W: Write, D: DamageSink>(
     let strings = match StringSections::of_table(alloc, path, debug_line_str, debug_str) {
         Ok(strings) => strings,
         Err(stop) => {
-            command.without_table(alloc, output);
+            command.without_table(&System::new(alloc), output);
             return Err(stop);
         }
     };
@@ -179,7 +180,7 @@ fn on_found<'p, S: ReadAt, W: Write, D: DamageSink>(
             damages,
         ),
         Err(stop) => {
-            command.without_table(alloc, output);
+            command.without_table(&System::new(alloc), output);
             Err(stop)
         }
     }
@@ -207,7 +208,7 @@ pub fn on_file<'p, S: ReadAt, W: Write, D: DamageSink>(
             alloc, path, file, units, section, command, table, output, damages,
         ),
         Err(stop) => {
-            command.without_table(alloc, output);
+            command.without_table(&System::new(alloc), output);
             Err(stop)
         }
     }

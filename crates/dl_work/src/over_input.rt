@@ -8,6 +8,7 @@ use crate::command::Command;
 use crate::stop::Stop;
 use crate::unit_words::older_by;
 use dl_head::Dialect;
+use dl_memory::System;
 use dl_num::Order;
 use dl_open::{FileSource, StringSections};
 use dl_run::{DamageSink, RunFault, Survey};
@@ -69,7 +70,7 @@ pub fn on_input<'p, F: FileSource, R: Read, W: Write, D: DamageSink>(
     match StringSections::of_files(alloc, files, section.line_str, section.strings) {
         Ok(strings) => {
             let options = strings.options(section.dialect());
-            stopped(command.run(alloc, input, output, &options, damages))
+            stopped(command.run(&System::new(alloc), input, output, &options, damages))
         }
         Err(fault) => Err(Stop::Run(fault)),
     }

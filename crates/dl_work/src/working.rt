@@ -15,6 +15,7 @@ use crate::over_input::{Section, on_input};
 use crate::stop::{Stop, over_file};
 use crate::unit_words::file_units;
 use dl_cmd::Job;
+use dl_memory::System;
 use dl_open::{FileSource, FileStop, FileUnits, open_file};
 use dl_run::{DamageSink, Survey};
 use std::alloc::Global;
@@ -121,7 +122,7 @@ fn on_named<'p, F: FileSource, W: Write, D: DamageSink>(
     match open_file(files, path) {
         Ok(file) => on_file(alloc, path, &file, units, section, command, output, damages),
         Err(fault) => {
-            command.without_table(alloc, output);
+            command.without_table(&System::new(alloc), output);
             Err(FileStop::File { path, fault })
         }
     }

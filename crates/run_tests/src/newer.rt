@@ -3,7 +3,7 @@
 use crate::vectors::FREE_PASCAL;
 use dl_dirs::{CompilationDirectories, Directories, Texts, Walk};
 use dl_head::{AddressSize, Dialect, Older};
-use dl_memory::NoMemory;
+use dl_memory::{NoMemory, System};
 use dl_num::Order;
 use dl_run::{Options, RunFault, SECTION_LIMIT, Summary, copy_to_5, dump};
 use std::alloc::Global;
@@ -78,8 +78,9 @@ fn assert_dump(rt: &impl Abort, alloc: Global, section: &[u8], header: &[u8]) {
 
 /// The directories that `INFO` says.
 fn directories(alloc: Global) -> Result<Directories, NoMemory> {
-    let walk = Walk::new(alloc, Order::Little, ABBREVIATIONS).feed(INFO)?;
-    Ok(walk.end()?.directories(Texts::none()))
+    let memory = System::new(alloc);
+    let walk = Walk::new(alloc, Order::Little, ABBREVIATIONS).feed(&memory, INFO)?;
+    Ok(walk.end(&memory)?.directories(Texts::none()))
 }
 
 /// What the copy of a section without directories answers.

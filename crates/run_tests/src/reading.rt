@@ -1,5 +1,6 @@
 //! Reading a string section.
 
+use dl_memory::System;
 use dl_run::{RunFault, read_strings};
 use std::alloc::Global;
 use std::io::Read;
@@ -17,7 +18,7 @@ fn assert_read<R: Read>(
     limit: u64,
     wanted: Wanted<'_>,
 ) {
-    match read_strings(alloc, input, limit) {
+    match read_strings(&System::new(alloc), input, limit) {
         Ok(bytes) => assert!(rt; Ok(bytes.as_slice()) == wanted),
         Err(fault) => assert!(rt; Err(fault) == wanted, "{fault:?}"),
     }
@@ -77,7 +78,7 @@ fn each_read(rt: HostRuntime) {
 
 /// Whether what is read are 64 sevens.
 fn are_sevens<R: Read>(alloc: Global, input: &mut R) -> Result<bool, RunFault> {
-    let read = read_strings(alloc, input, 100)?;
+    let read = read_strings(&System::new(alloc), input, 100)?;
     Ok(read.as_slice() == [7; 64].as_slice())
 }
 

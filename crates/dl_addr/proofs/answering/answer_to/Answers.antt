@@ -9,7 +9,7 @@ use Rattle.dl_addr.specs.Locating.{located_by}
 use Rattle.dl_addr.proofs.answering.answer_to.Goals as goal
 
 pub returns-in-Some : goal.returns-in-Some
-returns-in-Some c first start held visits places s made at =
+returns-in-Some g c first start held visits places s made at =
     let is = sym c.place.ensures ∙ c.in-Some.is in
     let seen : Option Place → Option Location =
     λ o. option_map (located_seen first) (option_and_then (λ x. located_by first x visits) o) in

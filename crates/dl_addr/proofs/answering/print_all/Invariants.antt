@@ -11,12 +11,12 @@ use Rattle.dl_addr.proofs.answering.print_all.Given as goal
 abbrev pub invariant-loop-number : goal.invariant-loop-number
 invariant-loop-number g l = record {
   within : l.number ≤ length l.question.asked.now;
-  printed : (first : Locator) (start held : Option (List ℕ)) (visits : List Visit)
+  printed : (first : Locator g.row.M.Denot) (start held : Option (List ℕ)) (visits : List Visit)
       → Locating first l.locator start held visits
       → IsMadeFor first (map (looked_up l.question.base) l.question.asked.now)
       → PrintsMore (g.W.Write.contents l.initial.output) (g.W.Write.contents l.output) l.initial.printer l.printer
       (seen_lines l.question.style (answer_for first visits l.question.base) (take l.number l.question.asked.now));
-  found : (first : Locator) (start held : Option (List ℕ)) (visits : List Visit)
+  found : (first : Locator g.row.M.Denot) (start held : Option (List ℕ)) (visits : List Visit)
       → Locating first l.locator start held visits
       → IsMadeFor first (map (looked_up l.question.base) l.question.asked.now)
       → l.found ≡ found_by (answer_for first visits l.question.base) (take l.number l.question.asked.now);

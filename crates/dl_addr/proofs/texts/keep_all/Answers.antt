@@ -6,7 +6,7 @@ use Rattle.dl_addr.proofs.TextLemmas.{grows_none, grows_on, kept_stays, none_is_
 use Rattle.dl_addr.proofs.texts.keep_all.Goals as goal
 
 pub loop-answer-init : goal.loop-answer-init
-loop-answer-init c = record {
+loop-answer-init g c = record {
   grows = grows_none c.args.paths.now;
   seen = record {
     files = λ file k at. absurd (none_seen c.new.result c.new.ensures.empty file k at);
@@ -19,7 +19,7 @@ loop-answer-init c = record {
 }
 
 pub loop-answer-preserved : goal.loop-answer-preserved
-loop-answer-preserved c =
+loop-answer-preserved g c =
     let l = c.loop-answer in
     let answered = c.args.answered.now in
     let at = l.answer-index in
@@ -48,18 +48,18 @@ loop-answer-preserved c =
     }
 
 pub returns-in_err-keep-clause-grows : goal.returns-in_err-keep-clause-grows
-returns-in_err-keep-clause-grows c =
+returns-in_err-keep-clause-grows g c =
     grows_on c.args.paths.now c.loop-answer.paths c.keep.new.paths c.loop-answer.invariant.grows c.keep.ensures.grows
 
 pub returns-in_err-keep-clause-others : goal.returns-in_err-keep-clause-others
-returns-in_err-keep-clause-others c i other =
+returns-in_err-keep-clause-others g c i other =
     let at = c.loop-answer.answer-index in
     let lt = c.loop-answer-test.true in
     c.keep.ensures.others i (other at (omega arith))
     ∙ c.loop-answer.invariant.others i (λ j less. other j (omega arith))
 
 pub returns-clause-others : goal.returns-clause-others
-returns-clause-others c i other = c.loop-answer.invariant.others i (λ j less. other j (omega arith))
+returns-clause-others g c i other = c.loop-answer.invariant.others i (λ j less. other j (omega arith))
 
 pub returns-clause-right : goal.returns-clause-right
-returns-clause-right c numbers j less = c.loop-answer.invariant.right numbers j (omega arith)
+returns-clause-right g c numbers j less = c.loop-answer.invariant.right numbers j (omega arith)

@@ -5,7 +5,7 @@ use Rattle.dl_addr.specs.Texts.{AreNumbers, AreSeen, Grows, IsKept, IsOther, pat
 use Rattle.dl_addr.proofs.texts.keep_all.Given as goal
 
 abbrev pub invariant-loop-answer : goal.invariant-loop-answer
-invariant-loop-answer l = record {
+invariant-loop-answer g l = record {
   grows : Grows l.initial.paths l.paths;
   seen : AreSeen l.unit l.numbers l.paths;
   len : length l.kept.items ≡ length l.initial.kept.items;

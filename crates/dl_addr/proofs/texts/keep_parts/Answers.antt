@@ -6,7 +6,7 @@ use Rattle.dl_addr.proofs.TextLemmas.{part_stays, texts_stay}
 use Rattle.dl_addr.proofs.texts.keep_parts.Goals as goal
 
 pub returns-in_default-clause-right : goal.returns-in_default-clause-right
-returns-in_default-clause-right c f are from = record {
+returns-in_default-clause-right g c f are from = record {
   base = [];
   directory = [];
   name = None;
@@ -17,14 +17,14 @@ returns-in_default-clause-right c f are from = record {
 }
 
 pub returns-clause-directories : goal.returns-clause-directories
-returns-clause-directories c f are from =
+returns-clause-directories g c f are from =
     let d = subst (λ (o : Option Parts). IfSome o (FromDirectories f)) c.in-Some.is from in
     texts_stay f c.keep_directory-2.new.directories c.keep_directory-2.new.texts.items c.add_text.new.texts.items
     c.add_text.ensures.grows
     (c.in_ok-directory.ensures.directories f (c.in_ok-base.ensures.directories f are d.base) d.directory)
 
 pub returns-clause-right : goal.returns-clause-right
-returns-clause-right c f are from =
+returns-clause-right g c f are from =
     let d = subst (λ (o : Option Parts). IfSome o (FromDirectories f)) c.in-Some.is from in
     let p = c.in-Some.parts in
     let one = c.keep_directory.new.texts.items in

@@ -4,7 +4,7 @@ use Rattle.dl_calls.specs.AllCalls.{place_of_address}
 use Rattle.dl_calls.proofs.gathering.finders_of.Given as goal
 
 abbrev pub invariant-loop-address : goal.invariant-loop-address
-invariant-loop-address l = record {
+invariant-loop-address g l = record {
   all : l.places.items ≡ map place_of_address (take l.address-index l.addresses);
   len : vec_len l.places ≡ l.address-index;
   capacity : length l.addresses ≤ vec_capacity l.places;

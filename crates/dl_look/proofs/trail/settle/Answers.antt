@@ -34,4 +34,6 @@ loop-i-preserved c =
       before = λ limit i le. give.before limit i (omega (arith, l.invariant.grown)) ∙ l.invariant.before limit i le;
       grown = omega (arith, l.invariant.grown);
       sealed = give.sealed ∙ l.invariant.sealed;
+      log_room = give.log_room ∙ l.invariant.log_room;
+      slots_room = give.slots_room ∙ l.invariant.slots_room;
     }

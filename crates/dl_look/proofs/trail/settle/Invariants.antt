@@ -1,4 +1,4 @@
-use Rattle.std.proofs.Common.{◌≡◌, ℕ, ◌<◌, ◌≤◌, length, take, drop}
+use Rattle.std.proofs.Common.{◌≡◌, ℕ, ◌<◌, ◌≤◌, length, take, drop, vec_capacity}
 use Rattle.std.specs.Option.{option_or}
 use Rattle.dl_look.specs.Slots.{slot_number}
 use Rattle.dl_look.specs.Ledgers.{IsSound, answer_upto}
@@ -16,4 +16,6 @@ invariant-loop-i l =
           → answer_upto limit l.ledger i ≡ answer_upto limit l.fn.ledger i;
       grown : length l.fn.ledger.log.items ≤ length l.ledger.log.items;
       sealed : l.ledger.links.sealed.items ≡ l.fn.ledger.links.sealed.items;
+      log_room : vec_capacity l.ledger.log ≡ vec_capacity l.fn.ledger.log;
+      slots_room : vec_capacity l.ledger.log_slots ≡ vec_capacity l.fn.ledger.log_slots;
     }

@@ -11,14 +11,14 @@ use Rattle.dl_addr.specs.Texts.{path_at}
 use Rattle.dl_addr.proofs.LocationLemmas.{kept_is}
 use Rattle.dl_addr.proofs.locating.Locator.answer_of.Goals as goal
 
-abbrev answer_row : Locator → Row → List (List ℕ) → FilePath → Location
+abbrev answer_row : {M : Type 0} → Locator M → Row → List (List ℕ) → FilePath → Location
 answer_row l row texts f = location_at row f.unit.offset (printed_by l f.unit (path_at texts f))
 
 abbrev some_row : Row → Option (List ℕ) → ℕ → Option Location
 some_row row path unit = Some (location_at row unit path)
 
 pub returns : goal.returns
-returns c =
+returns g c =
     let l = c.args.self.now in
     let row = c.args.row in
     let texts = l.paths.texts.items in

@@ -10,8 +10,8 @@ use Rattle.dl_addr.proofs.KeepLemmas.{is_kept, is_other, none_kept, numbers, on_
 use Rattle.dl_addr.proofs.TextLemmas.{grows_none}
 use Rattle.dl_addr.proofs.locating.Locator.keep.Goals as goal
 
-pub returns-then-is_empty : goal.returns-then-is_empty
-returns-then-is_empty c =
+pub returns-then-is_empty-clause-keeps : goal.returns-then-is_empty-clause-keeps
+returns-then-is_empty-clause-keeps g c =
     let answered = c.answered_so_far-answered.result.now in
     let empty : length answered ≡ 0 = eqb-true (length answered) 0 (sym c.is_empty.ensures ∙ c.if-is_empty.true) in
     record {
@@ -19,6 +19,7 @@ returns-then-is_empty c =
       directories = refl;
       style = refl;
       strings = refl;
+      memory = refl;
       unit = refl;
       live = refl;
       finders = refl;
@@ -31,8 +32,8 @@ returns-then-is_empty c =
       some = tt;
     }
 
-pub returns : goal.returns
-returns c =
+pub returns-clause-keeps : goal.returns-clause-keeps
+returns-clause-keeps g c =
     let answered = c.answered_so_far-answered.result.now in
     let old = c.args.self.now in
     let h = option_copied c.args.header in
@@ -46,6 +47,7 @@ returns c =
       directories = refl;
       style = refl;
       strings = refl;
+      memory = refl;
       unit = refl;
       live = refl;
       finders = refl;

@@ -1,4 +1,5 @@
 use Rattle.std.proofs.Common.{subst}
+use Rattle.dl_memory.specs.Refusals.{WasRefused}
 use Rattle.dl_addr.specs.Keeping.{Keeps}
 use Rattle.dl_addr.proofs.LocatorLemmas.{tail, stops}
 use Rattle.dl_addr.proofs.locating.LocatorVisitor.end.Goals as goal
@@ -6,13 +7,13 @@ use Rattle.dl_addr.proofs.locating.LocatorVisitor.end.Goals as goal
 pub returns-in-Ok : goal.returns-in-Ok
 returns-in-Ok g c first start visits s told =
     let keeps = subst (λ h. Keeps c.args.self.now c.keep.new.self h c.keep.result) c.as_ref.ensures.value
-    c.keep.ensures in
+    c.keep.ensures.keeps in
     tail first c.args.self.now c.keep.new.self start (g.W.Write.contents c.args._output.now) visits c.args.header
-    c.keep.result s keeps c.in-Ok.is c.end_unit.new.self c.new-self.result c.end_unit.ensures c.new-self.ensures
+    c.keep.result s keeps c.in-Ok.is c.end_unit.new.self c.new-self.result c.end_unit.ensures.stand c.new-self.ensures
 
 pub returns : goal.returns
 returns g c first start visits s told =
     let keeps = subst (λ h. Keeps c.args.self.now c.keep.new.self h c.keep.result) c.as_ref.ensures.value
-    c.keep.ensures in
+    c.keep.ensures.keeps in
     stops first c.args.self.now c.keep.new.self start (g.W.Write.contents c.args._output.now) visits c.args.header
-    c.keep.result s keeps _ c.in-Err.is
+    c.keep.result s keeps (λ memory. WasRefused (g.M.Memory.refuses memory)) _ c.in-Err.is c.in-Err.ensures.refused

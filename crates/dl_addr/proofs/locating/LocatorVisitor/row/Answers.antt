@@ -28,9 +28,9 @@ returns-then-takes g c first start visits s =
       finders =
           c.row.new.self;
     }) start (g.W.Write.contents c.args._output.now) visits (of_row r ∷ []) s
-    (λ x n. refl) refl refl refl refl refl refl (c.takes.ensures.goes_on live rows s.live is) refl refl
+    (λ x n. refl) refl refl refl refl refl refl refl (c.takes.ensures.goes_on live rows s.live is) refl refl
     (λ places units st. subst (λ (l : List Row). Stand c.row.new.self places units l) (sym told)
-    (c.row.ensures places units (live_rows live rows) st))
+    (c.row.ensures.stand places units (live_rows live rows) st))
 
 pub returns-else-takes : goal.returns-else-takes
 returns-else-takes g c first start visits s =
@@ -48,5 +48,5 @@ returns-else-takes g c first start visits s =
       live =
           c.takes.new.self;
     }) start (g.W.Write.contents c.args._output.now) visits (of_row r ∷ []) s
-    (λ x n. refl) refl refl refl refl refl refl (c.takes.ensures.goes_on live rows s.live is) refl refl
+    (λ x n. refl) refl refl refl refl refl refl refl (c.takes.ensures.goes_on live rows s.live is) refl refl
     (λ places units st. subst (λ (l : List Row). Stand c.args.self.now.finders places units l) (sym told) st)

@@ -11,7 +11,7 @@ returns c first units rows so =
     let unit : UnitTold = record { unit = c.args.unit; rows = rows } in
     let before = map (λ (t : UnitTold). t.rows) units in
     let ended = λ (addresses : List ℕ) (stands : Stand first.finders.now (map place_of_address addresses) [] []).
-    c.end_unit.ensures (map place_of_address addresses) before rows
+    c.end_unit.ensures.stand (map place_of_address addresses) before rows
     (so.stand addresses stands) in
     record {
       same_rows = so.same_rows;

@@ -4,6 +4,6 @@ pub returns : goal.returns
 returns c first units rows so = record {
   same_rows = so.same_rows;
   same_units = so.same_units;
-  stand = λ addresses stands. c.row.ensures _ _ rows (so.stand addresses stands);
+  stand = λ addresses stands. c.row.ensures.stand _ _ rows (so.stand addresses stands);
   told = so.told;
 }

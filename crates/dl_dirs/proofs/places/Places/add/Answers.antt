@@ -7,21 +7,21 @@ use Rattle.dl_dirs.proofs.HoldLemmas.{added, holds_passed, if_err, none_of, one_
 use Rattle.dl_dirs.proofs.places.Places.add.Goals as goal
 
 pub returns-in_default-clause-holds : goal.returns-in_default-clause-holds
-returns-in_default-clause-holds c es h =
+returns-in_default-clause-holds g c es h =
     holds_passed c.args.self.now es (entry c.args.unit.now) h (λ n said. absurd (says_directory c.args.unit.now n c.in_default.is-1 said))
 
 pub returns-in_default-2-clause-holds : goal.returns-in_default-2-clause-holds
-returns-in_default-2-clause-holds c es h =
+returns-in_default-2-clause-holds g c es h =
     holds_passed c.args.self.now es (entry c.args.unit.now) h (λ n said. absurd (says_table c.args.unit.now n c.in_default.is-0 said))
 
 pub returns-then-contains_key-clause-holds : goal.returns-then-contains_key-clause-holds
-returns-then-contains_key-clause-holds c es h =
+returns-then-contains_key-clause-holds g c es h =
     holds_passed c.args.self.now es (entry c.args.unit.now) h
     (was_said c.args.self.now es c.args.unit.now c.in-Some-Some.offset h c.in-Some-Some.is-0
     (sym c.contains_key.ensures ∙ c.if-contains_key.true))
 
 pub returns-clause-holds : goal.returns-clause-holds
-returns-clause-holds c =
+returns-clause-holds g c =
     let p = c.args.self.now in
     let u = c.args.unit.now in
     let q : Places = record {
@@ -38,11 +38,11 @@ returns-clause-holds c =
     c.keep.ensures.holds
 
 pub returns-in_err-place-clause-memory : goal.returns-in_err-place-clause-memory
-returns-in_err-place-clause-memory c =
+returns-in_err-place-clause-memory g c =
     if_err c.from_residual.result _
     (one_says c.args.unit.now c.in-Some-Some.offset c.in-Some-Some.text c.in-Some-Some.is-0 c.in-Some-Some.is-1)
 
 pub returns-clause-memory : goal.returns-clause-memory
-returns-clause-memory c =
+returns-clause-memory g c =
     if_err c.keep.result _
     (one_says c.args.unit.now c.in-Some-Some.offset c.in-Some-Some.text c.in-Some-Some.is-0 c.in-Some-Some.is-1)

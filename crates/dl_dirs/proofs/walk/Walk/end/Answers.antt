@@ -13,21 +13,21 @@ use Rattle.dl_dirs.proofs.walk.Walk.end.Goals as goal
 use Rattle.dl_dirs.proofs.walk.Walk.end.Goals.{in-Begun+in_ok-read, in_default}
 
 pub returns-clause-places : goal.returns-clause-places
-returns-clause-places c order abbreviations b s =
+returns-clause-places g c order abbreviations b s =
     let walk = c.args.self in
     let front = walk.front.items in
     let es = entries order abbreviations b in
     elim c.match-state.branch [
       | in-Begun+in_ok-read w ↦
           let begun = subst (λ (x : State). StandsAt order abbreviations x front b s.es) w.in-Begun.is s.stands in
-          let g : GoesOn walk order abbreviations b front = record {
+          let goes : GoesOn walk order abbreviations b front = record {
             order_is = s.order_is;
             abbreviations_are = s.abbreviations_are;
             es = s.es;
             holds = s.holds;
             onward = begun.1;
           } in
-          let m = moved walk order abbreviations b front g w.read.new.places front w.in_ok-read.field-0
+          let m = moved walk order abbreviations b front goes w.read.new.places front w.in_ok-read.field-0
           (read_of walk w.read.new.places w.deref.result.now front w.in_ok-read.field-0 w.in_ok-read.field-0
           w.deref.ensures.value refl w.read.ensures.order w.in_ok-read.ensures.length w.in_ok-read.ensures.holds) in
           subst (λ (p : Places). (p.order ≡ order) × Holds p es) (sym w.places-is) (
@@ -44,7 +44,7 @@ returns-clause-places c order abbreviations b s =
     ]
 
 pub returns-in_err-read-clause-memory : goal.returns-in_err-read-clause-memory
-returns-in_err-read-clause-memory c order abbreviations b s =
+returns-in_err-read-clause-memory g c order abbreviations b s =
     let walk = c.args.self in
     let front = walk.front.items in
     let begun = subst (λ (x : State). StandsAt order abbreviations x front b s.es) c.in-Begun.is s.stands in

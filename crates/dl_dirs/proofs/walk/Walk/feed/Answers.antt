@@ -4,7 +4,7 @@ use Rattle.dl_dirs.proofs.WalkLemmas.{further, further_within}
 use Rattle.dl_dirs.proofs.walk.Walk.feed.Goals as goal
 
 pub loop-preserved : goal.loop-preserved
-loop-preserved c =
+loop-preserved g c =
     let l = c.loop in
     let piece = c.args.piece.now in
     let used = c.in_ok-at.field-0 in

@@ -4,7 +4,7 @@ use Rattle.dl_dirs.specs.Standing.{StandsFor}
 use Rattle.dl_dirs.proofs.walk.Walk.feed.Given as goal
 
 abbrev pub invariant-loop : goal.invariant-loop
-invariant-loop l = record {
+invariant-loop g l = record {
   within : l.at ≤ length l.piece;
   stands : (order : Order) (abbreviations b : List ℕ) → StandsFor l.fn.self order abbreviations b
       → (l.counter ≤ l.at) × StandsFor l.walk order abbreviations (b ++ take l.at l.piece);

@@ -5,7 +5,7 @@ use Rattle.dl_dirs.proofs.WalkLemmas.{body_ends, body_goes, further}
 use Rattle.dl_dirs.proofs.walk.Walk.pass.Goals as goal
 
 pub returns-then-left-piece-clause-stands : goal.returns-then-left-piece-clause-stands
-returns-then-left-piece-clause-stands c order abbreviations b is s =
+returns-then-left-piece-clause-stands g c order abbreviations b is s =
     let walk = c.args.self.now in
     let stands = subst (λ (x : State). StandsAt order abbreviations x walk.front.items b s.es) is s.stands in (
       c.requires,
@@ -20,7 +20,7 @@ returns-then-left-piece-clause-stands c order abbreviations b is s =
     )
 
 pub returns-clause-stands : goal.returns-clause-stands
-returns-clause-stands c order abbreviations b is s =
+returns-clause-stands g c order abbreviations b is s =
     let walk = c.args.self.now in
     let piece = c.args.piece.now in
     let left = c.args.left in

@@ -14,7 +14,7 @@ use Rattle.dl_dirs.proofs.walk.Walk.read_front.Goals as goal
 use Rattle.dl_dirs.proofs.walk.Walk.read_front.Goals.{in-Found, in-More, in-Unreadable}
 
 pub awaited-requires : goal.awaited-requires
-awaited-requires c l is =
+awaited-requires g c l is =
     let walk = c.args.self.now in
     let told : told_length walk.places.order (section_of walk.abbreviations) walk.front.items ≡ More =
     ap (told_length walk.places.order (section_of walk.abbreviations)) (sym c.deref.ensures.value)
@@ -23,8 +23,8 @@ awaited-requires c l is =
     (wants_more walk.places.order (section_of walk.abbreviations) walk.front.items told l
     (rw (← c.read.ensures.order, ← c.deref-in-More.ensures.value) is))
 
-pub returns : goal.returns
-returns c order abbreviations b g fits =
+pub returns-clause-stands : goal.returns-clause-stands
+returns-clause-stands g c order abbreviations b goes fits =
     let walk = c.args.self.now in
     let front = walk.front.items in
     let places = c.read.new.places in
@@ -40,16 +40,16 @@ returns c order abbreviations b g fits =
     elim c.match-branch-2.branch [
       | in-Found w ↦
           let l = w.in-Found.unit in
-          let m = moved walk order abbreviations b front g places front (Found l) (read (Found l) w.in-Found.is) in
+          let m = moved walk order abbreviations b front goes places front (Found l) (read (Found l) w.in-Found.is) in
           let within = fits l (told_found order abbreviations front (Found l) (λ more. absurd cc) m.told).length in
           let left : w.saturating_sub.result ≡ l.size - length front = search rules in
-          after_unit walk order abbreviations b front g new c.read.ensures.abbreviations front b (Found l) m
+          after_unit walk order abbreviations b front goes new c.read.ensures.abbreviations front b (Found l) m
           (subst
-          (λ (x : State). StandsAt order abbreviations x front b (more_in walk order abbreviations b front g front))
+          (λ (x : State). StandsAt order abbreviations x front b (more_in walk order abbreviations b front goes front))
           (sym (w.self-is ∙ ap state.Body left))
-          (ends_front order abbreviations b g.es front front l g.onward m.told within))
+          (ends_front order abbreviations b goes.es front front l goes.onward m.told within))
       | in-More w ↦
-          let m = moved walk order abbreviations b front g places front More (read More w.in-More.is) in
+          let m = moved walk order abbreviations b front goes places front More (read More w.in-More.is) in
           let before : Walk = record {
             abbreviations = c.read.new.abbreviations;
             state = walk.state;
@@ -60,12 +60,12 @@ returns c order abbreviations b g fits =
           w.awaited.ensures in
           begun before new order abbreviations b w.awaited.result refl refl w.self-is
           (subst (λ (o : Order). Awaits o front w.awaited.result) m.order_is awaits)
-          (after_more walk order abbreviations b front g before c.read.ensures.abbreviations front b More m front refl g.onward)
+          (after_more walk order abbreviations b front goes before c.read.ensures.abbreviations front b More m front refl goes.onward)
       | in-Unreadable w ↦
-          let m = moved walk order abbreviations b front g places front Unreadable
+          let m = moved walk order abbreviations b front goes places front Unreadable
           (read Unreadable w.in-Unreadable.is) in
-          after_unit walk order abbreviations b front g new c.read.ensures.abbreviations front b Unreadable m
+          after_unit walk order abbreviations b front goes new c.read.ensures.abbreviations front b Unreadable m
           (subst
-          (λ (x : State). StandsAt order abbreviations x front b (more_in walk order abbreviations b front g front))
-          (sym w.self-is) (ends_over order abbreviations b g.es front front g.onward m.told))
+          (λ (x : State). StandsAt order abbreviations x front b (more_in walk order abbreviations b front goes front))
+          (sym w.self-is) (ends_over order abbreviations b goes.es front front goes.onward m.told))
     ]

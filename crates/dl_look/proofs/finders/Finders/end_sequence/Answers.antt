@@ -11,8 +11,8 @@ use Rattle.dl_look.proofs.FindersLemmas.{kept_in, rows_more, rising_more, falls,
 use Rattle.dl_look.proofs.FindersLemmas.{answers_at_end, none_at_end, not_alone, not_fallen}
 use Rattle.dl_look.proofs.finders.Finders.end_sequence.Goals as goal
 
-pub returns-then-is_at_most : goal.returns-then-is_at_most
-returns-then-is_at_most c places units rows st =
+pub returns-then-is_at_most-clause-stand : goal.returns-then-is_at_most-clause-stand
+returns-then-is_at_most-clause-stand c places units rows st =
     let f = c.args.self.now in
     let slots = f.slots.items in
     let seen = c.as_slice-slots.ensures.value in
@@ -52,8 +52,8 @@ returns-then-is_at_most c places units rows st =
       kept = unended-push_end [] rows r c.requires;
     }
 
-pub returns-else-is_at_most : goal.returns-else-is_at_most
-returns-else-is_at_most c places units rows st =
+pub returns-else-is_at_most-clause-stand : goal.returns-else-is_at_most-clause-stand
+returns-else-is_at_most-clause-stand c places units rows st =
     let f = c.args.self.now in
     let slots = f.slots.items in
     let r = c.args.row.now in
@@ -73,8 +73,8 @@ returns-else-is_at_most c places units rows st =
       kept = unended-push_end [] rows r c.requires;
     }
 
-pub returns-in-Passed : goal.returns-in-Passed
-returns-in-Passed c places units rows st =
+pub returns-in-Passed-clause-stand : goal.returns-in-Passed-clause-stand
+returns-in-Passed-clause-stand c places units rows st =
     let f = c.args.self.now in
     let slots = f.slots.items in
     let r = c.args.row.now in
@@ -90,8 +90,8 @@ returns-in-Passed c places units rows st =
       kept = unended-push_end [] rows r c.requires;
     }
 
-pub returns-in-Start : goal.returns-in-Start
-returns-in-Start c places units rows st =
+pub returns-in-Start-clause-stand : goal.returns-in-Start-clause-stand
+returns-in-Start-clause-stand c places units rows st =
     let f = c.args.self.now in
     let slots = f.slots.items in
     let r = c.args.row.now in

@@ -11,8 +11,8 @@ forget-requires-clause-closed c =
     let f = c.args.self.now in
     closed_after f.slots.items f.ledger f.whole f.numbered f.sound f.sealed f.ended
 
-pub returns : goal.returns
-returns c places units rows st =
+pub returns-clause-stand : goal.returns-clause-stand
+returns-clause-stand c places units rows st =
     let f = c.args.self.now in
     let slots = f.slots.items in
     let new = c.forget.new.self in

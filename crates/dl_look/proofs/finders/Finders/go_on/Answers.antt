@@ -6,8 +6,8 @@ use Rattle.dl_look.specs.Slots.{slot_place}
 use Rattle.dl_look.proofs.FindersLemmas.{kept_in, keeps_above, keeps_begun, keeps_on, keeps_fallen, keeps_passed, same_answer}
 use Rattle.dl_look.proofs.finders.Finders.go_on.Goals as goal
 
-pub returns-then-end-len : goal.returns-then-end-len
-returns-then-end-len c places units rows st =
+pub returns-then-end-len-clause-stand : goal.returns-then-end-len-clause-stand
+returns-then-end-len-clause-stand c places units rows st =
     let f = c.args.self.now in
     let slots = f.slots.items in
     let seen = c.as_slice.ensures.value in
@@ -23,8 +23,8 @@ returns-then-end-len c places units rows st =
           c.of-place.result c.of-place.ensures c.first_not_below-end.result none all c.first_not_below-end.ensures.below;
     }
 
-pub returns-else-end-len : goal.returns-else-end-len
-returns-else-end-len c places units rows st =
+pub returns-else-end-len-clause-stand : goal.returns-else-end-len-clause-stand
+returns-else-end-len-clause-stand c places units rows st =
     let f = c.args.self.now in
     let slots = f.slots.items in
     let none = kept_in slots f.trail.items (unended rows) f.state Start c.in-Start.is st.kept in
@@ -39,8 +39,8 @@ returns-else-end-len c places units rows st =
           c.first_not_below-end.ensures.rest;
     }
 
-pub returns-in-Open : goal.returns-in-Open
-returns-in-Open c places units rows st =
+pub returns-in-Open-clause-stand : goal.returns-in-Open-clause-stand
+returns-in-Open-clause-stand c places units rows st =
     let f = c.args.self.now in
     let slots = f.slots.items in
     let a = kept_in slots f.trail.items (unended rows) f.state (Open c.in-Open.last c.in-Open.end) c.in-Open.is
@@ -57,8 +57,8 @@ returns-in-Open c places units rows st =
           c.pass.ensures.rows;
     }
 
-pub returns-in-Open-2 : goal.returns-in-Open-2
-returns-in-Open-2 c places units rows st =
+pub returns-in-Open-2-clause-stand : goal.returns-in-Open-2-clause-stand
+returns-in-Open-2-clause-stand c places units rows st =
     let f = c.args.self.now in
     let slots = f.slots.items in
     let a = kept_in slots f.trail.items (unended rows) f.state (Open c.in-Open.last c.in-Open.end) c.in-Open.is
@@ -73,8 +73,8 @@ returns-in-Open-2 c places units rows st =
           ∙ sym c.if-is_at_most.ensures));
     }
 
-pub returns-in-Passed : goal.returns-in-Passed
-returns-in-Passed c places units rows st =
+pub returns-in-Passed-clause-stand : goal.returns-in-Passed-clause-stand
+returns-in-Passed-clause-stand c places units rows st =
     let f = c.args.self.now in
     let slots = f.slots.items in
     let passed = kept_in slots f.trail.items (unended rows) f.state Passed c.in-Passed.is st.kept in
