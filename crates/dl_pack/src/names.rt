@@ -87,7 +87,7 @@ impl Names {
             known(third, count),
         ]);
         let file = FileTexts { unit, texts };
-        match memory.insert(&mut self.files, file) {
+        match memory.insert_item(&mut self.files, file) {
             Ok(place) => Ok(number_at(&self.files, place)),
             Err(NoMemory) => Err(NoMemory),
         }
@@ -179,7 +179,7 @@ fn put<M: SetMemory>(
 {
     let mut copy = memory.with_capacity(text.len())?;
     memory.extend_from_slice(&mut copy, text)?;
-    memory.insert(texts, copy)
+    memory.insert_item(texts, copy)
 }
 
 /// The same number; 0 where there are fewer texts.

@@ -11,7 +11,11 @@ pub trait SetMemory: Memory {
 
     /// Puts an item last where the set has none that is equal, and answers the place of the one that it has then. It answers
     /// [`NoMemory`] only where memory was refused, and then the set has the same items.
-    fn insert<T: Eq + Hash + Drop>(&self, set: &mut IndexSet<T>, item: T) -> Result<usize, NoMemory>
+    fn insert_item<T: Eq + Hash + Drop>(
+        &self,
+        set: &mut IndexSet<T>,
+        item: T,
+    ) -> Result<usize, NoMemory>
         ensures keys { IfOk result (λ _. set.new.keys ≡ insert_key T.eq set.old.keys item) }
         ensures within { IfOk result (λ place. place < length set.new.keys) }
         ensures more { length set.old.keys ≤ length set.new.keys }
@@ -23,7 +27,7 @@ pub trait SetMemory: Memory {
 }
 
 impl SetMemory for System {
-    fn insert<T: Eq + Hash + Drop>(
+    fn insert_item<T: Eq + Hash + Drop>(
         &self,
         set: &mut IndexSet<T>,
         item: T,

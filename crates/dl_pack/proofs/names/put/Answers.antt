@@ -13,12 +13,12 @@ by_result (Err e) x y z K U put same k u = same u
 
 pub returns-clause-index : goal.returns-clause-index
 returns-clause-index g c =
-    IfOk-weaker c.insert.result _ _ (λ i s. placed c.insert.new.set c.extend_from_slice.new.list _ _ s.0 (c.in_ok-extend_from_slice.ensures.items ∙ ap (λ l. l ++ c.args.text.now) c.in_ok-copy.ensures.items) s.1 s.2)
-    c.insert.ensures.stored
+    IfOk-weaker c.insert_item.result _ _ (λ i s. placed c.insert_item.new.set c.extend_from_slice.new.list _ _ s.0 (c.in_ok-extend_from_slice.ensures.items ∙ ap (λ l. l ++ c.args.text.now) c.in_ok-copy.ensures.items) s.1 s.2)
+    c.insert_item.ensures.stored
 
 pub returns-clause-texts : goal.returns-clause-texts
 returns-clause-texts g c =
-    by_result c.insert.result _ _ _ _ _
+    by_result c.insert_item.result _ _ _ _ _
     (λ keys. ap (map (λ (v : Vec ℕ). v.items)) keys ∙ texts_put c.args.texts.now.keys c.extend_from_slice.new.list c.args.text.now
     (c.in_ok-extend_from_slice.ensures.items ∙ ap (λ l. l ++ c.args.text.now) c.in_ok-copy.ensures.items))
-    (λ kept. ap (map (λ (v : Vec ℕ). v.items)) kept) c.insert.ensures.keys c.insert.ensures.kept
+    (λ kept. ap (map (λ (v : Vec ℕ). v.items)) kept) c.insert_item.ensures.keys c.insert_item.ensures.kept
