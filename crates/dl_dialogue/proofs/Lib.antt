@@ -1,3 +1,4 @@
 pub mod AnswerLemmas
 pub mod DialogueLemmas
 pub mod TellingLemmas
+pub mod BlameLemmas

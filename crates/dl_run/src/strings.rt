@@ -1,22 +1,28 @@
 //! A string section, read whole.
+ghost use Rattle.dl_input.specs.Failing.{Blames};
 ghost use Rattle.std.specs.Prelude.{◌≡◌, ◌≤◌, ℕ, List, length, MatchResult};
 ghost use Rattle.std.specs.Io.KnownBytes.{Consumes, IsAtEnd};
 ghost use Rattle.dl_run.specs.Strings.{StopsReading};
 
 use crate::fault::RunFault;
-use crate::input::Input;
+use dl_input::{Input, Source};
 use std::alloc::Global;
-use std::io::Read;
 
 /// All bytes of a string section, of which there may be `limit`.
 ///
 /// `SectionTooLong` where there are more, `Read` where the reader fails, `NoMemory` where a growth
 /// is refused.
-pub fn read_strings<R: Read>(alloc: Global, input: &mut R, limit: u64) -> Result<Vec<u8>, RunFault>
-    ensures { (bs : List ℕ) × Consumes (R.remaining input.old) (R.remaining input.new) bs
+pub fn read_strings<R: Source>(
+    alloc: Global,
+    input: &mut R,
+    limit: u64,
+) -> Result<Vec<u8>, RunFault>
+    ensures ran { (bs : List ℕ) × Consumes (R.remaining input.old) (R.remaining input.new) bs
         × MatchResult result
         (λ bytes. (bytes.items ≡ bs) × (length bs ≤ limit) × IsAtEnd (R.remaining input.new))
         (StopsReading limit bs) }
+    ensures blames { Blames R.follows R.fails input.old input.new
+        (result ≡ Err RunFault.Read) }
 {
     let mut bytes = Vec::new(alloc);
     let mut buffer = Input::new();

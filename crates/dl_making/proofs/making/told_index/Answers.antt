@@ -1,13 +1,11 @@
-use Rattle.std.proofs.Common.{◌<◌, arith, ◌∙◌, ap, sym, subst, ℕ, List, [], length, map}
+use Rattle.std.proofs.Common.{◌<◌, arith, ◌∙◌, ap, sym, subst, ℕ, [], length}
 use Rattle.std.specs.List.{All}
 use Rattle.std.proofs.lemmas.List.{length-map, length-take}
 use Rattle.dl_run.specs.RowsTold.{rows_after}
-use Rattle.dl_stretch.specs.declared.stretch.Stretch.{Stretch}
 use Rattle.dl_stretch.specs.ToldUnits.{told_of_units}
 use Rattle.dl_pack.specs.IndexOf.{files_told, index_of}
 use Rattle.dl_pack.specs.Named.{named}
 use Rattle.dl_pack.specs.Shown.{files_of, named_files, texts_of}
-use Rattle.dl_pack.specs.Telling.{StretchesRise}
 use Rattle.dl_making.specs.Makes.{id_kept}
 use Rattle.dl_making.specs.Making.{code_of, told_after}
 use Rattle.dl_pack.specs.Faults.{TellsUnnamed}
