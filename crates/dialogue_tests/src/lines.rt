@@ -5,7 +5,7 @@ use dl_dialogue::{AnswerFault, Answered, answer_lines};
 use dl_index::open;
 use dl_memory::System;
 use std::alloc::Global;
-use std::io::{Read, Write};
+use std::io::Write;
 use std::process::Abort;
 use std::test::Fail;
 use test_support::{Fault, Sink, Source};
@@ -47,7 +47,11 @@ fn end_of(answered: Result<Answered, AnswerFault>) -> End {
 }
 
 /// Answers the lines of an input from the index.
-pub fn answered<R: Read, W: Write>(alloc: Global, input: &mut R, output: &mut W) -> End {
+pub fn answered<R: dl_input::Source, W: Write>(
+    alloc: Global,
+    input: &mut R,
+    output: &mut W,
+) -> End {
     let memory = System::new(alloc);
     match open(INDEX) {
         Ok(index) => end_of(answer_lines(&memory, &index, STYLE, 0, false, input, output)),

@@ -1,5 +1,6 @@
 //! What is out before each read.
 use crate::lines::{End, answered};
+use dl_input::Source;
 use std::cell::Cell;
 use std::io;
 use std::io::{Read, Write};
@@ -44,6 +45,12 @@ impl Read for Asking<'_> {
         let n = piece.len().min(buf.len());
         buf[..n].copy_from_slice(&piece[..n]);
         Ok(n)
+    }
+}
+
+impl Source for Asking<'_> {
+    fn read_next(&mut self, buffer: &mut [u8]) -> io::Result<usize> {
+        self.read(buffer)
     }
 }
 

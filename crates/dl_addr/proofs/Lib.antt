@@ -9,3 +9,4 @@ pub mod LocationLemmas
 pub mod AroundEnds
 pub mod AroundAnswers
 pub mod UndamagedLemmas
+pub mod BlameLemmas

@@ -4,6 +4,7 @@ ghost use Rattle.std.specs.Prelude.{◌≡◌, ◌≤◌, ◌+◌, ℕ, List, []
 ghost use Rattle.std.specs.Prelude.{length, slice_get};
 ghost use Rattle.dl_memory.specs.Refusals.{IsRefused};
 ghost use Rattle.std.specs.Io.KnownBytes.{Consumes};
+ghost use Rattle.dl_input.specs.Failing.{Blames};
 ghost use Rattle.dl_look.specs.declared.place.Place as place;
 ghost use Rattle.dl_print.specs.ValueText.{strings_of};
 ghost use Rattle.dl_run.specs.Commands.{strings_in};
@@ -21,11 +22,12 @@ ghost use Rattle.dl_addr.specs.Printing.{PrintsAll, answer_for, told, told_aroun
 use crate::locating::{Answer, Locator};
 use crate::printing::print_line;
 use crate::question::{Found, FoundAround, Question};
+use dl_input::Source;
 use dl_look::{Asked, Place};
 use dl_memory::{Memory, NoMemory};
 use dl_print::{Printer, StringSections, Summary, WriteFault};
 use dl_run::{Options, RunFault, SECTION_LIMIT, Survey, read_units, read_units_around};
-use std::io::{Read, Write};
+use std::io::Write;
 
 /// Answers each address with a line, in the order in which they are asked: its location, by the first
 /// unit whose sequences cover it, or that there is none.
@@ -34,7 +36,7 @@ use std::io::{Read, Write};
 /// the fault is answered. Where memory is refused before anything is read, nothing is printed. The places
 /// are held in memory, the tables of one header, and of the paths that answer what their headers have of their texts,
 /// a directory and a name once for each unit.
-pub fn addr<M: Memory, R: Read, W: Write>(
+pub fn addr<M: Memory, R: Source, W: Write>(
     memory: &M,
     input: &mut R,
     output: &mut W,
@@ -42,9 +44,10 @@ pub fn addr<M: Memory, R: Read, W: Write>(
     options: &Options<'_>,
 ) -> Result<Found, RunFault>
     requires { options.now.limit ≤ SECTION_LIMIT }
-    ensures { (bs : List ℕ) × Consumes (R.remaining input.old) (R.remaining input.new) bs
+    ensures ran { (bs : List ℕ) × Consumes (R.remaining input.old) (R.remaining input.new) bs
         × Locates (M.refuses memory.now) options.now.dialect (strings_in options.now) question.now options.now.limit bs
         (R.remaining input.new) (W.contents output.old) (W.contents output.new) result }
+    ensures blames { Blames R.follows R.fails input.old input.new (result ≡ Err RunFault.Read) }
 {
     let strings = StringSections::new(options.debug_line_str, options.debug_str);
     let Ok(mut locator) = locator_of(memory, &strings, question) else {
@@ -72,7 +75,7 @@ fn told(
 /// The section is read as `read_units_around` reads it. Then the lines are printed that the whole units before its end,
 /// or before the fault, answer. The faults are those of `addr` but for `Damage`: of damaged units the answer says what
 /// is wrong with the first, and how many others there are.
-pub fn addr_around<M: Memory, R: Read, W: Write>(
+pub fn addr_around<M: Memory, R: Source, W: Write>(
     memory: &M,
     input: &mut R,
     output: &mut W,
@@ -80,9 +83,10 @@ pub fn addr_around<M: Memory, R: Read, W: Write>(
     options: &Options<'_>,
 ) -> Result<FoundAround, RunFault>
     requires { options.now.limit ≤ SECTION_LIMIT }
-    ensures { (bs : List ℕ) × Consumes (R.remaining input.old) (R.remaining input.new) bs
+    ensures ran { (bs : List ℕ) × Consumes (R.remaining input.old) (R.remaining input.new) bs
         × LocatesAround (M.refuses memory.now) options.now.dialect (strings_in options.now) question.now
         options.now.limit bs (R.remaining input.new) (W.contents output.old) (W.contents output.new) result }
+    ensures blames { Blames R.follows R.fails input.old input.new (result ≡ Err RunFault.Read) }
 {
     let strings = StringSections::new(options.debug_line_str, options.debug_str);
     let Ok(mut locator) = locator_of(memory, &strings, question) else {

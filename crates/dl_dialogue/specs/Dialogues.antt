@@ -1,6 +1,6 @@
 -- What is answered to lines that ask. start, now: what the writer held at first, and holds now.
-use Rattle.std.specs.Prelude.{◌≡◌, ℕ, ◌<◌, ◌^◌, Bool, List, ◌++◌, length, option_map, Option, Result, Ok, Err}
-use Rattle.std.specs.Io.KnownBytes.{Appends, IsAtEnd}
+use Rattle.std.specs.Prelude.{◌≡◌, ℕ, ◌+◌, ◌<◌, ◌≤◌, ◌^◌, Bool, List, ◌++◌, length, option_map, Option, Result, Ok, Err}
+use Rattle.std.specs.Io.KnownBytes.{Appends, Consumes, IsAtEnd}
 use Rattle.dl_print.specs.Printed.{Printed}
 use Rattle.dl_asked.specs.AskedLines.{asked_in, ended, no_address_in, other_line_seen}
 use Rattle.dl_dialogue.specs.Answers.{Manner, StopsBy, found_by, lines_by}
@@ -37,3 +37,7 @@ abbrev pub AnswersLines : Manner → (hex : Bool) (Fails : TellFault → Type 0)
 AnswersLines m hex Fails bytes left start now (Ok answered) = IsAtEnd left × Ends m hex start now bytes answered
 AnswersLines m hex Fails bytes left start now (Err Input) = Appends start now (lines_by m (asked_in hex (ended bytes)))
 AnswersLines m hex Fails bytes left start now (Err fault) = StopsBy m Fails start now (asked_in hex bytes) fault
+
+-- 2^64 - 1 bytes or more were read
+abbrev pub IsLong : (old new : Option (List ℕ)) → Type 0
+IsLong old new = (bytes : List ℕ) × Consumes old new bytes × (2 ^ 64 ≤ length bytes + 1)

@@ -2,9 +2,10 @@
 
 ghost use Rattle.std.specs.Prelude.{◌≡◌, [], ℕ, Bool, List, Option};
 ghost use Rattle.std.specs.Io.KnownBytes.{Consumes};
+ghost use Rattle.dl_input.specs.Failing.{Blames};
 ghost use Rattle.dl_addr.specs.Location.{Location};
 ghost use Rattle.dl_dialogue.specs.Answers.{Determines};
-ghost use Rattle.dl_dialogue.specs.Dialogues.{AnswersLines};
+ghost use Rattle.dl_dialogue.specs.Dialogues.{AnswersLines, IsLong};
 ghost use Rattle.dl_dialogue.specs.Faults.{TellFails};
 
 use crate::answers::Answers;
@@ -12,11 +13,12 @@ use crate::fault::AnswerFault;
 use crate::telling::Tell;
 use dl_addr::{Found, Style};
 use dl_asked::{CurrentLine, LastLine, OtherLine};
+use dl_input::Source;
 use dl_memory::Memory;
 use dl_print::Printer;
 use dl_run::Input;
 use std::alloc::Global;
-use std::io::{Read, Write};
+use std::io::Write;
 
 /// What came of all lines.
 #[derive(Debug, Drop)]
@@ -138,7 +140,7 @@ impl<'q> Dialogue<'q> {
 ///
 /// `Input` where the reader fails: then each line that has ended was answered. Where nothing can be told of an address, the
 /// lines before it were answered. Memory is taken for one path.
-pub fn answer_lines<M: Memory, T: Tell, R: Read, W: Write>(
+pub fn answer_lines<M: Memory, T: Tell, R: Source, W: Write>(
     memory: &M,
     teller: &mut T,
     style: Style<'_>,
@@ -147,10 +149,13 @@ pub fn answer_lines<M: Memory, T: Tell, R: Read, W: Write>(
     input: &mut R,
     output: &mut W,
 ) -> Result<Answered, AnswerFault>
-    ensures { (bs : List ℕ) × Consumes (R.remaining input.old) (R.remaining input.new) bs
+    ensures answers { (bs : List ℕ) × Consumes (R.remaining input.old) (R.remaining input.new) bs
         × ((f : ℕ → Option Location) → Determines (T.tells teller.old) f
         → AnswersLines (record { style = style.entry; base = base; told = f }) hex (TellFails (T.fails_with teller.old) (M.refuses memory.now)) bs
         (R.remaining input.new) (W.contents output.old) (W.contents output.new) result) }
+    ensures blames { Blames R.follows R.fails input.old input.new ((result ≡ Err AnswerFault.Input)
+        × ((f : ℕ → Option Location) × Determines (T.tells teller.old) f)
+        × ¬ IsLong (R.remaining input.old) (R.remaining input.new)) }
 {
     let mut buffer = Input::new();
     let mut printer = Printer::new();

@@ -44,3 +44,9 @@ pub fill_more_known : (known : Option (List ℕ)) (offset at filled n : ℕ) (bu
 fill_more_known known offset at filled n buffer part l w a e e' = λ f is short.
     let told = rw is at e' in
     fill_more offset filled n f buffer part l w (e f is short) (told.0 ∙ ap (λ k. take n (drop k f)) a)
+
+-- a file that ends before the rest of a section ends before the section
+pub ends_before : (known : Option (List ℕ)) (offset left n next : ℕ) → n ≤ left → next ≡ offset + n
+    → ForBytes known (λ f. length f < next + (left - n)) → ForBytes known (λ f. length f < offset + left)
+ends_before known offset left n next within is early f known_is small =
+    omega (arith, within, is, early f known_is small)

@@ -3,6 +3,7 @@ ghost use Rattle.std.specs.Prelude.{◌≡◌, ◌+◌, ◌<◌, ◌≤◌, leng
 ghost use Rattle.std.specs.Io.{ReadsAtMost};
 ghost use Rattle.std.specs.Result.{result_err};
 ghost use Rattle.std.specs.IoError.{error_kind};
+ghost use Rattle.std.specs.declared.io.Error.{Error};
 ghost use Rattle.std.specs.Io.KnownBytes.{ReadConsumes};
 ghost use Rattle.dl_elf.specs.Reader.{reader_remaining, reader_error, ReaderFails, known_range};
 
@@ -52,6 +53,8 @@ impl<'a, S: ReadAt> SectionReader<'a, S> {
         ensures bytes { ReadConsumes (reader_remaining S.all_bytes self.old)
             (reader_remaining S.all_bytes self.new) result buffer.new }
         ensures fails { IfErr result (ReaderFails S.all_bytes S.fails_with self.old) }
+        ensures later { (error : Error) → ReaderFails S.all_bytes S.fails_with self.new error
+            → ReaderFails S.all_bytes S.fails_with self.old error }
     {
         let room = shorter(buffer.len(), self.left);
         if room == 0 {
@@ -85,6 +88,8 @@ impl<'a, S: ReadAt> Read for SectionReader<'a, S> {
         ensures bytes { ReadConsumes (reader_remaining S.all_bytes self.old)
             (reader_remaining S.all_bytes self.new) result buffer.new }
         ensures fails { IfErr result (ReaderFails S.all_bytes S.fails_with self.old) }
+        ensures later { (error : Error) → ReaderFails S.all_bytes S.fails_with self.new error
+            → ReaderFails S.all_bytes S.fails_with self.old error }
         ensures error { reader_error self.new ≡ result_err result }
     {
         let result = self.read_next(buffer);

@@ -7,5 +7,6 @@ pub mod PieceLemmas
 pub mod StreamLemmas
 pub mod InflatedLemmas
 pub mod DamageLemmas
+pub mod FollowLemmas
 pub mod PlaceLemmas
 pub mod InfoLemmas

@@ -5,7 +5,7 @@ use Rattle.std.specs.declared.io.Error.{Error}
 use Rattle.dl_elf.specs.declared.name.SectionName.{SectionName}
 use Rattle.dl_elf.specs.declared.compression.CompressionHeader.{CompressionHeader}
 use Rattle.dl_elf.specs.Reader.{known_range, reader_remaining, reader_error, ReaderFails}
-use Rattle.dl_file.specs.Faults.{IsAfter, IsDamage}
+use Rattle.dl_file.specs.Faults.{FollowsBy, IsAfter, IsDamage}
 use Rattle.dl_file.specs.Inflating.{inflated, damage}
 use Rattle.dl_file.specs.declared.inflated_reader.InflatedReader.{InflatedReader}
 use Rattle.dl_file.specs.declared.read_fault.ReadFault.{ReadFault}
@@ -73,3 +73,14 @@ abbrev pub ContentFails : {S : Type 0} {g : _} → (S → Option (List ℕ)) →
     → Type 0
 ContentFails all_bytes fails_with (Plain reader) error = ReaderFails all_bytes fails_with reader error
 ContentFails all_bytes fails_with (Inflated reader) error = Unit {0}
+
+-- what a reader has become by reads, of which the last so many failed
+abbrev pub ContentFollows : {S : Type 0} {g : _} → (S → Option (List ℕ)) → (S → Error → Type 0)
+    → (first : ContentReader S g) → (failed : ℕ) → (now : ContentReader S g) → Type 0
+ContentFollows all_bytes fails_with =
+    FollowsBy (content_damage all_bytes) content_fault (ContentFails all_bytes fails_with)
+
+-- a read of it may fail
+abbrev pub ContentMayFail : {S : Type 0} {g : _} → (S → Option (List ℕ)) → (S → Error → Type 0) → ContentReader S g
+    → Type 0
+ContentMayFail all_bytes fails_with reader = (error : Error) × ContentFails all_bytes fails_with reader error

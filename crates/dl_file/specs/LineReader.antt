@@ -3,6 +3,7 @@ use Rattle.std.specs.Prelude.{ℕ, List, Option, None, Some, drop}
 use Rattle.std.specs.Io.Cursor.{cursor_inner, cursor_position, cursor_remaining}
 use Rattle.std.specs.declared.io.Error.{Error}
 use Rattle.dl_elf.specs.declared.name.SectionName.{SectionName}
+use Rattle.dl_file.specs.Faults.{FollowsBy}
 use Rattle.dl_file.specs.declared.read_fault.ReadFault.{ReadFault}
 use Rattle.dl_file.specs.declared.line_reader.LineReader.{LineReader}
 use Rattle.dl_file.specs.declared.line_reader.LineReader.TheVariants.{File, Held}
@@ -38,3 +39,13 @@ abbrev pub LineReaderFails : {S : Type 0} {g : _} → (S → Option (List ℕ)) 
     → Error → Type 0
 LineReaderFails all_bytes fails_with (File reader) error = ContentFails all_bytes fails_with reader error
 LineReaderFails all_bytes fails_with (Held bytes) error = ⊥
+
+-- what a reader has become by reads, of which the last so many failed
+abbrev pub LineReaderFollows : {S : Type 0} {g : _} → (S → Option (List ℕ)) → (S → Error → Type 0) → (first : LineReader S g)
+    → (failed : ℕ) → (now : LineReader S g) → Type 0
+LineReaderFollows all_bytes fails_with =
+    FollowsBy (line_damage all_bytes) line_fault (LineReaderFails all_bytes fails_with)
+
+-- a read of it may fail
+abbrev pub LineReaderMayFail : {S : Type 0} {g : _} → (S → Option (List ℕ)) → (S → Error → Type 0) → LineReader S g → Type 0
+LineReaderMayFail all_bytes fails_with reader = (error : Error) × LineReaderFails all_bytes fails_with reader error

@@ -2,13 +2,14 @@
 ghost use Rattle.std.specs.Prelude.{◌≡◌, IfErr, Some};
 ghost use Rattle.std.specs.Io.{ReadsAtMost};
 ghost use Rattle.std.specs.Io.KnownBytes.{ReadConsumes};
+ghost use Rattle.std.specs.declared.io.Error.{Error};
 ghost use Rattle.dl_elf.specs.Source.{ForBytes};
 ghost use Rattle.dl_elf.specs.Answers.{IfRead};
 ghost use Rattle.dl_elf.specs.Compressed.{compression_header};
 ghost use Rattle.dl_file.specs.Answering.{OpensContent};
 ghost use Rattle.dl_file.specs.Faults.{Tells};
 ghost use Rattle.dl_file.specs.ContentReader.{ContentFails, EndsBy, content_damage, content_fault, content_remaining};
-ghost use Rattle.dl_file.specs.ContentReader.{stream_name};
+ghost use Rattle.dl_file.specs.ContentReader.{ContentFollows, ContentMayFail, stream_name};
 ghost use Rattle.dl_file.specs.LineTable.{HasStream, content};
 
 use crate::inflated_reader::InflatedReader;
@@ -17,6 +18,7 @@ use dl_elf::{
     Elf, ElfFault, NamedSection, ReadAt, SectionName, SectionReader, compression_header,
     section_range,
 };
+use dl_input::Source;
 use std::alloc::Global;
 use std::io;
 use std::io::Read;
@@ -90,11 +92,23 @@ impl<'a, S: ReadAt> Read for ContentReader<'a, S> {
             result buffer.new }
         ensures damage { content_damage S.all_bytes self.new ≡ content_damage S.all_bytes self.old }
         ensures fails { IfErr result (ContentFails S.all_bytes S.fails_with self.old) }
+        ensures later { (error : Error) → ContentFails S.all_bytes S.fails_with self.new error
+            → ContentFails S.all_bytes S.fails_with self.old error }
         ensures fault { Tells (content_fault self.new) result }
     {
         match self {
             ContentReader::Plain(reader) => reader.read(buffer),
             ContentReader::Inflated(reader) => reader.as_mut().read(buffer),
         }
+    }
+}
+
+impl<'a, S: ReadAt> Source for ContentReader<'a, S> {
+    ghost follows = { ContentFollows S.all_bytes S.fails_with };
+
+    ghost fails = { ContentMayFail S.all_bytes S.fails_with };
+
+    fn read_next(&mut self, buffer: &mut [u8]) -> io::Result<usize> {
+        self.read(buffer)
     }
 }

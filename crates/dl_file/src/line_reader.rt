@@ -3,14 +3,16 @@ ghost use Rattle.std.specs.Prelude.{◌≡◌, IfErr, drop, option_map};
 ghost use Rattle.std.specs.Io.Cursor.{cursor_inner, cursor_position};
 ghost use Rattle.std.specs.Io.{ReadsAtMost};
 ghost use Rattle.std.specs.Io.KnownBytes.{ReadConsumes};
+ghost use Rattle.std.specs.declared.io.Error.{Error};
 ghost use Rattle.dl_file.specs.Faults.{Tells};
 ghost use Rattle.dl_file.specs.ContentReader.{EndsBy};
 ghost use Rattle.dl_file.specs.LineReader.{LineReaderFails, line_damage, line_fault, line_held, line_remaining};
-ghost use Rattle.dl_file.specs.LineReader.{line_stream};
+ghost use Rattle.dl_file.specs.LineReader.{LineReaderFollows, LineReaderMayFail, line_stream};
 
 use crate::content_reader::ContentReader;
 use crate::read_fault::ReadFault;
 use dl_elf::{ReadAt, SectionName};
+use dl_input::Source;
 use std::io;
 use std::io::{Cursor, Read};
 
@@ -79,11 +81,23 @@ impl<'a, S: ReadAt> Read for LineReader<'a, S> {
             result buffer.new }
         ensures damage { line_damage S.all_bytes self.new ≡ line_damage S.all_bytes self.old }
         ensures fails { IfErr result (LineReaderFails S.all_bytes S.fails_with self.old) }
+        ensures later { (error : Error) → LineReaderFails S.all_bytes S.fails_with self.new error
+            → LineReaderFails S.all_bytes S.fails_with self.old error }
         ensures fault { Tells (line_fault self.new) result }
     {
         match self {
             LineReader::File(reader) => reader.read(buffer),
             LineReader::Held(bytes) => bytes.read(buffer),
         }
+    }
+}
+
+impl<'a, S: ReadAt> Source for LineReader<'a, S> {
+    ghost follows = { LineReaderFollows S.all_bytes S.fails_with };
+
+    ghost fails = { LineReaderMayFail S.all_bytes S.fails_with };
+
+    fn read_next(&mut self, buffer: &mut [u8]) -> io::Result<usize> {
+        self.read(buffer)
     }
 }

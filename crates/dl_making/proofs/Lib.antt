@@ -7,3 +7,4 @@ pub mod NamedFiles
 pub mod NumberLemmas
 pub mod TextNumbers
 pub mod WritingLemmas
+pub mod BlameLemmas

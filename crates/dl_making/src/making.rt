@@ -2,6 +2,7 @@
 
 ghost use Rattle.std.specs.Prelude.{◌≡◌, ◌≤◌, ℕ, List, Option, IfOk, take};
 ghost use Rattle.std.specs.Io.KnownBytes.{Consumes};
+ghost use Rattle.dl_input.specs.Failing.{Blames};
 ghost use Rattle.dl_run.specs.Commands.{strings_in};
 ghost use Rattle.dl_run.specs.Section.{Visit};
 ghost use Rattle.dl_making.specs.declared.maker.Maker as makers;
@@ -11,6 +12,7 @@ ghost use Rattle.dl_making.specs.Making.{Making, WasTold, told_after};
 
 use crate::maker::Maker;
 use dl_dirs::CompilationDirectories;
+use dl_input::Source;
 use dl_look::CodeRanges;
 use dl_memory::{NoMemory, System};
 use dl_pack::{PackFault, index_bytes};
@@ -18,7 +20,6 @@ use dl_print::{StringSections, Summary};
 use dl_run::{Options, RunFault, SECTION_LIMIT, Survey, read_units, read_units_around};
 use std::alloc::Global;
 use std::io;
-use std::io::Read;
 
 /// What an index is made with, beside the section.
 #[derive(Clone, Copy)]
@@ -53,15 +54,16 @@ pub struct MadeAround {
 ///
 /// The faults are those of `check`, but for failed writes; `NoMemory` also where a growth is refused for the runs of
 /// rows, for files and texts, or for the index, and where there would be 2^32 texts.
-pub fn make_index<R: Read>(
+pub fn make_index<R: Source>(
     alloc: Global,
     input: &mut R,
     table: &Table<'_>,
     options: &Options<'_>,
 ) -> Result<Made, RunFault>
     requires { options.now.limit ≤ SECTION_LIMIT }
-    ensures { (bs : List ℕ) × Consumes (R.remaining input.old) (R.remaining input.new) bs
+    ensures ran { (bs : List ℕ) × Consumes (R.remaining input.old) (R.remaining input.new) bs
         × Makes options.now.dialect (strings_in options.now) table.now options.now.limit bs (R.remaining input.new) result }
+    ensures blames { Blames R.follows R.fails input.old input.new (result ≡ Err RunFault.Read) }
 {
     let strings = StringSections::new(options.debug_line_str, options.debug_str);
     let mut maker = Maker::new(alloc, &strings, table.code, table.directories);
@@ -77,15 +79,16 @@ pub fn make_index<R: Read>(
 ///
 /// The section is read as `read_units_around` reads it. The faults are those of `make_index` but for `Damage`: of damaged
 /// units the answer says what is wrong with the first, and how many others there are.
-pub fn make_index_around<R: Read>(
+pub fn make_index_around<R: Source>(
     alloc: Global,
     input: &mut R,
     table: &Table<'_>,
     options: &Options<'_>,
 ) -> Result<MadeAround, RunFault>
     requires { options.now.limit ≤ SECTION_LIMIT }
-    ensures { (bs : List ℕ) × Consumes (R.remaining input.old) (R.remaining input.new) bs
+    ensures ran { (bs : List ℕ) × Consumes (R.remaining input.old) (R.remaining input.new) bs
         × MakesAround options.now.dialect (strings_in options.now) table.now options.now.limit bs (R.remaining input.new) result }
+    ensures blames { Blames R.follows R.fails input.old input.new (result ≡ Err RunFault.Read) }
 {
     let strings = StringSections::new(options.debug_line_str, options.debug_str);
     let mut maker = Maker::new(alloc, &strings, table.code, table.directories);

@@ -2,6 +2,7 @@
 
 ghost use Rattle.std.specs.Prelude.{◌≡◌, ◌≤◌, ℕ, List, Option, Some, IfOk, is_err, true, false};
 ghost use Rattle.std.specs.Io.KnownBytes.{Consumes};
+ghost use Rattle.dl_input.specs.Failing.{Blames};
 ghost use Rattle.dl_run.specs.declared.fault.RunFault.TheVariants as faults;
 ghost use Rattle.dl_run.specs.Commands.{strings_in};
 ghost use Rattle.dl_run.specs.Section.{Visit};
@@ -13,12 +14,12 @@ ghost use Rattle.dl_making.specs.Until.{MakesUntil, MakesUntilAround, is_refused
 
 use crate::maker::Maker;
 use crate::making::{Table, told_index};
+use dl_input::Source;
 use dl_memory::NoMemory;
 use dl_print::{StringSections, Summary};
 use dl_run::{Options, RunFault, SECTION_LIMIT, Survey, read_units, read_units_around};
 use std::alloc::Global;
 use std::io;
-use std::io::Read;
 
 /// The index of the units before the end of a section, or before the fault at which its reading ended.
 #[derive(Drop)]
@@ -44,16 +45,17 @@ pub struct MadeUntilAround {
 ///
 /// The faults are those of `check`, but for failed writes; `NoMemory` also where a growth is refused for the runs of
 /// rows, for files and texts.
-pub fn make_index_until<R: Read>(
+pub fn make_index_until<R: Source>(
     alloc: Global,
     input: &mut R,
     table: &Table<'_>,
     options: &Options<'_>,
 ) -> MadeUntil
     requires { options.now.limit ≤ SECTION_LIMIT }
-    ensures { (bs : List ℕ) × Consumes (R.remaining input.old) (R.remaining input.new) bs
+    ensures ran { (bs : List ℕ) × Consumes (R.remaining input.old) (R.remaining input.new) bs
         × MakesUntil options.now.dialect (strings_in options.now) table.now options.now.limit bs (R.remaining input.new)
         result.ended result.index }
+    ensures blames { Blames R.follows R.fails input.old input.new (result.ended ≡ Err RunFault.Read) }
 {
     let strings = StringSections::new(options.debug_line_str, options.debug_str);
     let mut maker = Maker::new(alloc, &strings, table.code, table.directories);
@@ -68,16 +70,17 @@ pub fn make_index_until<R: Read>(
 /// told.
 ///
 /// The section is read as `read_units_around` reads it, and the faults are those of `make_index_until` but for `Damage`.
-pub fn make_index_until_around<R: Read>(
+pub fn make_index_until_around<R: Source>(
     alloc: Global,
     input: &mut R,
     table: &Table<'_>,
     options: &Options<'_>,
 ) -> MadeUntilAround
     requires { options.now.limit ≤ SECTION_LIMIT }
-    ensures { (bs : List ℕ) × Consumes (R.remaining input.old) (R.remaining input.new) bs
+    ensures ran { (bs : List ℕ) × Consumes (R.remaining input.old) (R.remaining input.new) bs
         × MakesUntilAround options.now.dialect (strings_in options.now) table.now options.now.limit bs
         (R.remaining input.new) result.ended result.index }
+    ensures blames { Blames R.follows R.fails input.old input.new (result.ended ≡ Err RunFault.Read) }
 {
     let strings = StringSections::new(options.debug_line_str, options.debug_str);
     let mut maker = Maker::new(alloc, &strings, table.code, table.directories);

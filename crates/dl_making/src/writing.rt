@@ -1,21 +1,23 @@
 //! The index of a section, written.
 
-ghost use Rattle.std.specs.Prelude.{◌≤◌, ℕ, List, MatchResult};
+ghost use Rattle.std.specs.Prelude.{◌≡◌, ◌≤◌, ℕ, List, MatchResult};
 ghost use Rattle.std.specs.Io.KnownBytes.{Appends, Consumes};
+ghost use Rattle.dl_input.specs.Failing.{Blames};
 ghost use Rattle.dl_print.specs.Output.{TellsOut};
 ghost use Rattle.dl_run.specs.Commands.{strings_in};
 ghost use Rattle.dl_making.specs.Writes.{Writes, WritesAround};
 
 use crate::making::{Table, make_index, make_index_around};
+use dl_input::Source;
 use dl_print::{Printer, Summary, WriteFault};
 use dl_run::{Options, RunFault, SECTION_LIMIT, Survey};
 use std::alloc::Global;
-use std::io::{Read, Write};
+use std::io::Write;
 
 /// Makes the index of a section as `make_index` does, and writes it. Where none can be made, nothing is written.
 ///
 /// The faults are those of `make_index`, and `Write` where the writer fails.
-pub fn write_index<R: Read, W: Write>(
+pub fn write_index<R: Source, W: Write>(
     alloc: Global,
     input: &mut R,
     output: &mut W,
@@ -23,9 +25,10 @@ pub fn write_index<R: Read, W: Write>(
     options: &Options<'_>,
 ) -> Result<Summary, RunFault>
     requires { options.now.limit ≤ SECTION_LIMIT }
-    ensures { (bs : List ℕ) × Consumes (R.remaining input.old) (R.remaining input.new) bs
+    ensures ran { (bs : List ℕ) × Consumes (R.remaining input.old) (R.remaining input.new) bs
         × Writes options.now.dialect (strings_in options.now) table.now options.now.limit bs (R.remaining input.new)
         (W.contents output.old) (W.contents output.new) result }
+    ensures blames { Blames R.follows R.fails input.old input.new (result ≡ Err RunFault.Read) }
 {
     let made = make_index(alloc, input, table, options)?;
     match put_bytes(output, made.index.as_slice()) {
@@ -37,7 +40,7 @@ pub fn write_index<R: Read, W: Write>(
 /// Makes the index of a section as `make_index_around` does, and writes it. Where none can be made, nothing is written.
 ///
 /// The faults are those of `make_index_around`, and `Write` where the writer fails.
-pub fn write_index_around<R: Read, W: Write>(
+pub fn write_index_around<R: Source, W: Write>(
     alloc: Global,
     input: &mut R,
     output: &mut W,
@@ -45,9 +48,10 @@ pub fn write_index_around<R: Read, W: Write>(
     options: &Options<'_>,
 ) -> Result<Survey, RunFault>
     requires { options.now.limit ≤ SECTION_LIMIT }
-    ensures { (bs : List ℕ) × Consumes (R.remaining input.old) (R.remaining input.new) bs
+    ensures ran { (bs : List ℕ) × Consumes (R.remaining input.old) (R.remaining input.new) bs
         × WritesAround options.now.dialect (strings_in options.now) table.now options.now.limit bs (R.remaining input.new)
         (W.contents output.old) (W.contents output.new) result }
+    ensures blames { Blames R.follows R.fails input.old input.new (result ≡ Err RunFault.Read) }
 {
     let made = make_index_around(alloc, input, table, options)?;
     match put_bytes(output, made.index.as_slice()) {

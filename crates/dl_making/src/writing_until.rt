@@ -1,25 +1,27 @@
 //! The index of the units of a section before its end or a fault, written.
 
-ghost use Rattle.std.specs.Prelude.{◌≤◌, ℕ, List};
+ghost use Rattle.std.specs.Prelude.{◌≡◌, ◌≤◌, ℕ, List};
 ghost use Rattle.std.specs.Io.KnownBytes.{Consumes};
+ghost use Rattle.dl_input.specs.Failing.{Blames};
 ghost use Rattle.dl_run.specs.Commands.{strings_in};
 ghost use Rattle.dl_making.specs.WritesUntil.{WritesMade, WritesUntil, WritesUntilAround};
 
 use crate::making::Table;
 use crate::until::{make_index_until, make_index_until_around};
 use crate::writing::put_bytes;
+use dl_input::Source;
 use dl_memory::NoMemory;
 use dl_print::Summary;
 use dl_run::{Options, RunFault, SECTION_LIMIT, Survey};
 use std::alloc::Global;
-use std::io::{Read, Write};
+use std::io::Write;
 
 /// Makes the index of a section as `make_index_until` does, and writes it: also where the reading ended with a fault, which
 /// is then answered. Where memory was refused nothing is written, and `NoMemory` answered.
 ///
 /// The faults are those of `make_index_until`, `NoMemory` also where it is refused for the index alone, and before them
 /// `Write` where the writer fails.
-pub fn write_index_until<R: Read, W: Write>(
+pub fn write_index_until<R: Source, W: Write>(
     alloc: Global,
     input: &mut R,
     output: &mut W,
@@ -27,9 +29,10 @@ pub fn write_index_until<R: Read, W: Write>(
     options: &Options<'_>,
 ) -> Result<Summary, RunFault>
     requires { options.now.limit ≤ SECTION_LIMIT }
-    ensures { (bs : List ℕ) × Consumes (R.remaining input.old) (R.remaining input.new) bs
+    ensures ran { (bs : List ℕ) × Consumes (R.remaining input.old) (R.remaining input.new) bs
         × WritesUntil options.now.dialect (strings_in options.now) table.now options.now.limit bs
         (R.remaining input.new) (W.contents output.old) (W.contents output.new) result }
+    ensures blames { Blames R.follows R.fails input.old input.new (result ≡ Err RunFault.Read) }
 {
     let made = make_index_until(alloc, input, table, options);
     put_made(output, &made.index, made.ended)
@@ -39,7 +42,7 @@ pub fn write_index_until<R: Read, W: Write>(
 ///
 /// The faults are those of `make_index_until_around`, `NoMemory` also where it is refused for the index alone, and before
 /// them `Write` where the writer fails.
-pub fn write_index_until_around<R: Read, W: Write>(
+pub fn write_index_until_around<R: Source, W: Write>(
     alloc: Global,
     input: &mut R,
     output: &mut W,
@@ -47,9 +50,10 @@ pub fn write_index_until_around<R: Read, W: Write>(
     options: &Options<'_>,
 ) -> Result<Survey, RunFault>
     requires { options.now.limit ≤ SECTION_LIMIT }
-    ensures { (bs : List ℕ) × Consumes (R.remaining input.old) (R.remaining input.new) bs
+    ensures ran { (bs : List ℕ) × Consumes (R.remaining input.old) (R.remaining input.new) bs
         × WritesUntilAround options.now.dialect (strings_in options.now) table.now options.now.limit bs
         (R.remaining input.new) (W.contents output.old) (W.contents output.new) result }
+    ensures blames { Blames R.follows R.fails input.old input.new (result ≡ Err RunFault.Read) }
 {
     let made = make_index_until_around(alloc, input, table, options);
     put_made(output, &made.index, made.ended)

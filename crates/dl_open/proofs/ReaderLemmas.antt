@@ -1,13 +1,20 @@
 -- Readers of the sections of a file, and what stops the reading of one.
-use Rattle.std.proofs.Common.{◌≡◌, ◌∙◌, ℕ, ◌+◌, List, length, Option, None, Some, arith, inr}
+use Rattle.std.proofs.Common.{◌≡◌, ◌∙◌, ℕ, ◌+◌, List, length, Option, None, Some, arith, inl, inr}
 use Rattle.std.proofs.Common.{refl, ap, sym, subst, length-append, append-nil}
 use Rattle.std.specs.Io.KnownBytes.{Consumes, IsAtEnd}
 use Rattle.std.specs.Prelude.{◌⊎◌, ◌++◌}
 use Rattle.dl_elf.specs.declared.name.SectionName.{SectionName}
+use Rattle.std.specs.Prelude.{IfSome, option_map}
+use Rattle.std.specs.declared.io.Error.{Error}
+use Rattle.dl_input.specs.Failing.{Blames}
 use Rattle.dl_file.specs.ContentReader.{content_remaining, stream_name}
-use Rattle.dl_file.specs.LineReader.{line_remaining, line_stream}
-use Rattle.dl_file.specs.LineTable.{Content, GivesLine, GivesOption, Inflated, Plain}
+use Rattle.dl_file.specs.ContentReader.{ContentFails, ContentFollows, ContentMayFail, content_damage, content_fault}
+use Rattle.dl_file.specs.Faults.{FollowsBy, IsDamage}
+use Rattle.dl_file.specs.LineReader.{line_damage, line_fault, line_remaining, line_stream}
+use Rattle.dl_file.specs.LineReader.{LineReaderFails, LineReaderFollows, LineReaderMayFail}
+use Rattle.dl_file.specs.LineTable.{Content, Gives, GivesLine, GivesOption, Inflated, Plain}
 use Rattle.dl_file.specs.declared.content_reader.ContentReader.{ContentReader}
+use Rattle.dl_file.specs.declared.read_fault.ReadFault.{ReadFault}
 use Rattle.dl_file.specs.declared.line_reader.LineReader.{LineReader}
 use Rattle.dl_head.specs.declared.dialect.Dialect.{Dialect}
 use Rattle.dl_object.specs.Kept.{Rises}
@@ -21,7 +28,7 @@ use Rattle.dl_open.specs.declared.object_part.Part.{Part}
 use Rattle.dl_open.specs.declared.stop.FileStop.{FileStop}
 use Rattle.dl_open.specs.declared.strings.TheConstants.{STRINGS_LIMIT}
 use Rattle.dl_open.specs.Files.{FileStops}
-use Rattle.dl_open.specs.Stops.{IsAt, StopsAt}
+use Rattle.dl_open.specs.Stops.{IsAt, IsToldOf, StopsAt, Stream}
 use Rattle.dl_open.specs.Tables.{KeepingStops, SectionStops, bytes_of, stream_of}
 
 -- a reader of a line section has the bytes that are known
@@ -33,11 +40,59 @@ reader_known all_bytes reader (Plain bytes) left read gives consumes =
 reader_known all_bytes reader (Inflated name bytes damage) left read gives consumes =
     subst (λ (r : Option (List ℕ)). Consumes r left read) gives.0 consumes
 
+pub reader_bytes : {S : Type 0} {g : _} (all_bytes : S → Option (List ℕ)) (reader : LineReader S g) (content : Content)
+    → GivesLine all_bytes reader content → line_remaining all_bytes reader ≡ Some (bytes_of content)
+reader_bytes all_bytes reader (Plain bytes) gives = gives.0
+reader_bytes all_bytes reader (Inflated name bytes damage) gives = gives.0
+
 -- and its name where it is inflated
 pub reader_stream : {S : Type 0} {g : _} (all_bytes : S → Option (List ℕ)) (reader : LineReader S g) (content : Content)
-    → GivesLine all_bytes reader content → line_stream reader ≡ stream_of content
-reader_stream all_bytes reader (Plain bytes) gives = gives.2
-reader_stream all_bytes reader (Inflated name bytes damage) gives = gives.3
+    → GivesLine all_bytes reader content → option_map (λ (s : Stream). s.0) (stream_of content) ≡ line_stream reader
+reader_stream all_bytes reader (Plain bytes) gives = sym gives.2
+reader_stream all_bytes reader (Inflated name bytes damage) gives = sym gives.3
+
+-- ---- why a read failed
+
+-- a reader of which no read failed is what it became
+follows_itself : {R : Type 0} (damage : R → Option (Option ℕ)) (fault : R → Option ReadFault) (Fails : R → Error → Type 0)
+    (r : R) → fault r ≡ None → FollowsBy damage fault Fails r 0 r
+follows_itself damage fault Fails r none = record {
+  same = refl;
+  told = by (damage r) (fault r) none;
+  later = λ error at. at;
+  failed_by = inl refl;
+}
+  where
+    by : (known : Option (Option ℕ)) (told : Option ReadFault) → told ≡ None → IfSome known (λ at. IfSome told (IsDamage at))
+    by None told is = tt
+    by (Some at) told is = rw is tt
+
+-- after reads of it why the last failed is true
+told_after : {R B : Type 0} (damage : R → Option (Option ℕ)) (fault : R → Option ReadFault) (Fails : R → Error → Type 0)
+    (old new : R) (name : SectionName) (at : Option ℕ) → damage old ≡ Some at → fault old ≡ None
+    → Blames (FollowsBy damage fault Fails) (λ r. (error : Error) × Fails r error) old new B
+    → IsToldOf (Some (name, at)) (fault new)
+told_after damage fault Fails old new name at known none blames =
+    let so = (blames old (0, follows_itself damage fault Fails old none)).0.1 in
+    subst (λ (d : Option (Option ℕ)). IfSome d (λ k. IfSome (fault new) (IsDamage k))) known so.told
+
+pub reader_told : {S : Type 0} {g : _} {B : Type 0} (all_bytes : S → Option (List ℕ)) (fails_with : S → Error → Type 0)
+    (old new : LineReader S g) (content : Content) → GivesLine all_bytes old content
+    → Blames (LineReaderFollows all_bytes fails_with) (LineReaderMayFail all_bytes fails_with) old new B
+    → IsToldOf (stream_of content) (line_fault new)
+reader_told all_bytes fails_with old new (Plain bytes) gives blames = tt
+reader_told all_bytes fails_with old new (Inflated name bytes damage) gives blames =
+    told_after (line_damage all_bytes) line_fault (LineReaderFails all_bytes fails_with) old new name damage gives.1 gives.2
+    blames
+
+content_told : {S : Type 0} {g : _} {B : Type 0} (all_bytes : S → Option (List ℕ)) (fails_with : S → Error → Type 0)
+    (old new : ContentReader S g) (content : Content) → Gives all_bytes old content
+    → Blames (ContentFollows all_bytes fails_with) (ContentMayFail all_bytes fails_with) old new B
+    → IsToldOf (stream_of content) (content_fault new)
+content_told all_bytes fails_with old new (Plain bytes) gives blames = tt
+content_told all_bytes fails_with old new (Inflated name bytes damage) gives blames =
+    told_after (content_damage all_bytes) content_fault (ContentFails all_bytes fails_with) old new name damage gives.1
+    gives.2 blames
 
 -- ---- a string section
 
@@ -54,42 +109,38 @@ stops_known limit (Some xs) (Some ys) bs fault.SectionTooLong consumes stops =
 stops_known limit known left bs other consumes stops = absurd stops
 
 -- the reading of a section stops
-pub section_stops : {S : Type 0} {g : _} (all_bytes : S
-    → Option (List ℕ)) (path : List ℕ) (section : Option (ContentReader S g))
-    (reader : ContentReader S g) (content : Option Content) (stream : Option SectionName) (left : Option (List ℕ))
-    (f : RunFault) (stop : FileStop) → section ≡ Some reader → GivesOption all_bytes section content
-    → stream ≡ stream_name reader
-    → (bs : List ℕ) × Consumes (content_remaining all_bytes reader) left bs × StopsReading (λ n. Unit {0}) STRINGS_LIMIT bs f
-    → StopsAt path stream f stop → (c : Content) × (content ≡ Some c) × SectionStops path c stop
-section_stops all_bytes path None reader content stream left f stop none gives named read at = absurd (cc none)
-section_stops all_bytes path (Some other) reader None stream left f stop is gives named read at = absurd gives
-section_stops all_bytes path (Some other) reader (Some (Plain bytes)) stream left f stop is gives named
-    (bs, read, stops) at =
-    let same : other ≡ reader = cc is in
-    let known = ap (content_remaining all_bytes) (sym same) ∙ gives.0 in
-    let its_name = named ∙ (ap stream_name (sym same) ∙ gives.2) in (
-      Plain bytes,
-      refl,
-      (
-        f,
-        stops_known STRINGS_LIMIT (Some bytes) left bs f
-            (subst (λ (r : Option (List ℕ)). Consumes r left bs) known read) stops,
-        subst (λ (n : Option SectionName). StopsAt path n f stop) its_name at,
-      ),
+pub section_stops : {S : Type 0} {g : _} {B : Type 0} (all_bytes : S → Option (List ℕ)) (fails_with : S → Error → Type 0)
+    (path : List ℕ) (section : Option (ContentReader S g)) (reader new : ContentReader S g) (content : Option Content)
+    (stream : Option SectionName) (f : RunFault) (stop : FileStop) → section ≡ Some reader
+    → GivesOption all_bytes section content → stream ≡ stream_name reader
+    → (bs : List ℕ) × Consumes (content_remaining all_bytes reader) (content_remaining all_bytes new) bs
+    × StopsReading (λ n. Unit {0}) STRINGS_LIMIT bs f
+    → Blames (ContentFollows all_bytes fails_with) (ContentMayFail all_bytes fails_with) reader new B
+    → ((told : Option Stream) → option_map (λ s. s.0) told ≡ stream → IsToldOf told (content_fault new)
+    → StopsAt path told f stop)
+    → (c : Content) × (content ≡ Some c) × SectionStops path c stop
+section_stops {S} {g} {B} all_bytes fails_with path section reader new content stream f stop is gives named read blames at =
+    by content (subst (λ (o : Option (ContentReader S g)). GivesOption all_bytes o content) is gives)
+  where
+    of : (c : Content) → Gives all_bytes reader c → SectionStops path c stop
+    of (Plain bytes) gives = (
+      f,
+      stops_known STRINGS_LIMIT (Some bytes) _ read.0 f
+          (subst (λ (r : Option (List ℕ)). Consumes r (content_remaining all_bytes new) read.0) gives.0 read.1) read.2,
+      at None (sym (named ∙ gives.2)) tt,
     )
-section_stops all_bytes path (Some other) reader (Some (Inflated name bytes damage)) stream left f stop is gives named
-    (bs, read, stops) at =
-    let same : other ≡ reader = cc is in
-    let known = ap (content_remaining all_bytes) (sym same) ∙ gives.0 in (
-      Inflated name bytes damage,
-      refl,
-      (
-        f,
-        stops_known STRINGS_LIMIT (Some bytes) left bs f
-            (subst (λ (r : Option (List ℕ)). Consumes r left bs) known read) stops,
-        subst (λ (n : Option SectionName). StopsAt path n f stop) (named ∙ (ap stream_name (sym same) ∙ gives.3)) at,
-      ),
+    of (Inflated name bytes damage) gives = (
+      f,
+      stops_known STRINGS_LIMIT (Some bytes) _ read.0 f
+          (subst (λ (r : Option (List ℕ)). Consumes r (content_remaining all_bytes new) read.0) gives.0 read.1) read.2,
+      at (Some (name, damage)) (sym (named ∙ gives.3))
+          (content_told all_bytes fails_with reader new (Inflated name bytes damage) gives blames),
     )
+
+    by : (content : Option Content) → GivesOption all_bytes (Some reader) content
+        → (c : Content) × (content ≡ Some c) × SectionStops path c stop
+    by None gives = absurd gives
+    by (Some c) gives = (c, refl, of c gives)
 
 -- ---- what is left of a line section
 

@@ -1,9 +1,11 @@
 -- How the work over an ELF file stops: what is wrong with the file, its text and its status.
-use Rattle.std.specs.Prelude.{⊤, ◌≡◌, ℕ, List, ◌++◌, codes, Option, Some, None}
+use Rattle.std.specs.Prelude.{⊤, ◌≡◌, ℕ, List, ◌++◌, codes, IfSome, Option, Some, None}
 use Rattle.dl_elf.specs.FaultText.{fault_text}
 use Rattle.dl_elf.specs.declared.name.SectionName.{SectionName}
 use Rattle.dl_elf.specs.declared.fault.ElfFault.{ElfFault}
 use Rattle.dl_elf.specs.declared.fault.ElfFault.TheVariants.{Read, DamagedStream, NoMemory as Refused}
+use Rattle.dl_file.specs.Faults.{IsDamage}
+use Rattle.dl_file.specs.declared.read_fault.ReadFault.{ReadFault}
 use Rattle.dl_run.specs.declared.fault.RunFault.{RunFault}
 use Rattle.dl_run.specs.declared.fault.RunFault.TheVariants as fault
 use Rattle.dl_open.specs.declared.fault.FileFault.{FileFault}
@@ -43,15 +45,24 @@ abbrev pub IsAt : (path : List ℕ) → FileFault → FileStop → Type 0
 IsAt path f (File p g) = (p.now ≡ path) × (g ≡ f)
 IsAt path f stop = ⊥
 
--- what is told of a file where a read failed of a section, which is inflated where `stream` names it
-abbrev pub IsReadFault : (stream : Option SectionName) → ElfFault → Type 0
+-- a section that is inflated as it is read: its name, and the byte that shows its damage, if it has some
+abbrev pub Stream : Type 0
+Stream = SectionName × Option ℕ
+
+-- what is told of a file where a read failed of a section, which is inflated where it is a stream; its damage is told where
+-- it is
+abbrev pub IsReadFault : (stream : Option Stream) → ElfFault → Type 0
 IsReadFault stream (Read error) = ⊤
-IsReadFault stream (DamagedStream name at) = stream ≡ Some name
+IsReadFault stream (DamagedStream name at) = stream ≡ Some (name, Some at)
 IsReadFault stream f = ⊥
+
+-- why the last read failed is true of the stream
+abbrev pub IsToldOf : (stream : Option Stream) → Option ReadFault → Type 0
+IsToldOf stream read = IfSome stream (λ s. IfSome read (IsDamage s.1))
 
 -- the fault of a run over a section of the file. Reads and memory are told with its path, and what is wrong with a
 -- section without
-abbrev pub StopsAt : (path : List ℕ) (stream : Option SectionName) → RunFault → FileStop → Type 0
+abbrev pub StopsAt : (path : List ℕ) (stream : Option Stream) → RunFault → FileStop → Type 0
 StopsAt path stream fault.Read stop = (f : ElfFault) × IsReadFault stream f × IsAt path (Elf f) stop
 StopsAt path stream fault.NoMemory stop = IsAt path NoMemory stop
 StopsAt path stream f stop = stop ≡ Run f

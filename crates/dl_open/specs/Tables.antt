@@ -6,7 +6,6 @@ use Rattle.std.specs.declared.io.Error.{Error}
 use Rattle.dl_file.specs.declared.line_file.Wanted.{Wanted}
 use Rattle.dl_file.specs.declared.line_file.Wanted.TheVariants.{LineSection, LineAndLineStrings, LineAndStringSections}
 use Rattle.dl_elf.specs.declared.fault.ElfFault.TheVariants.{Read, NoMemory}
-use Rattle.dl_elf.specs.declared.name.SectionName.{SectionName}
 use Rattle.dl_file.specs.LineTable.{Content, HasLineTable, Inflated, LineTable, Plain, TakesMemory}
 use Rattle.dl_elf.specs.declared.header.Class.{Class}
 use Rattle.dl_elf.specs.declared.header.Class.TheVariants as class
@@ -33,7 +32,7 @@ use Rattle.dl_open.specs.declared.fault.FileFault.{FileFault}
 use Rattle.dl_open.specs.declared.fault.FileFault.TheVariants.{Open, Elf, NoMemory as Refused}
 use Rattle.dl_open.specs.declared.stop.FileStop.{FileStop}
 use Rattle.dl_open.specs.Files.{FileStops}
-use Rattle.dl_open.specs.Stops.{IsAt, StopsAt}
+use Rattle.dl_open.specs.Stops.{IsAt, StopsAt, Stream}
 
 -- ---- string sections of the file
 
@@ -55,10 +54,10 @@ pub record IsWhole (line_str str : Option Content) (s : Strings) : Type 0 where
   pub line_strings : IsHeld line_str s.line_strings
   pub strings : IsHeld str s.strings
 
--- the section's name where it is inflated
-abbrev pub stream_of : Content → Option SectionName
+-- the section's name and its damage where it is inflated
+abbrev pub stream_of : Content → Option Stream
 stream_of (Plain bytes) = None
-stream_of (Inflated name bytes damage) = Some name
+stream_of (Inflated name bytes damage) = Some (name, damage)
 
 -- a section stops the program: a read or a growth failed, or it is too long
 abbrev pub SectionStops : (path : List ℕ) → Content → FileStop → Type 0

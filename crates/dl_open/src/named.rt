@@ -3,6 +3,7 @@ ghost use Rattle.std.specs.Prelude.{◌≡◌, ◌↔◌, Bool, Ok, IfSome, IsTr
 ghost use Rattle.dl_elf.specs.Source.{ForBytes};
 ghost use Rattle.dl_file.specs.LineTable.{Content, GivesLine, GivesTable, HasLineTable, LineTable, Plain};
 ghost use Rattle.dl_forms.specs.Names.{Names};
+ghost use Rattle.dl_input.specs.Failing.{Blames};
 ghost use Rattle.dl_open.specs.Tables.{HasTable, IsNamed, NamedStops, NamingStops, OpeningStops, StopsNaming};
 ghost use Rattle.dl_open.specs.Tables.{TableStops, file_dialect, with_strings};
 ghost use Rattle.dl_file.specs.declared.line_file.Wanted.TheVariants.{LineAndLineStrings};
@@ -15,9 +16,9 @@ use dl_elf::ReadAt;
 use dl_file::{LineFile, LineReader, Wanted, open_line_file};
 use dl_forms::StringWalk;
 use dl_head::Dialect;
+use dl_input::Source;
 use dl_run::{Input, RunFault, SECTION_LIMIT};
 use std::alloc::Global;
-use std::io::Read;
 
 /// What is looked into of a line table.
 #[derive(Clone, Copy)]
@@ -29,10 +30,11 @@ pub enum Sections {
 }
 
 /// Whether a table of the line section names `.debug_str`.
-fn names_str<R: Read>(alloc: Global, dialect: Dialect, input: &mut R) -> Result<bool, RunFault>
-    ensures { MatchResult result
+fn names_str<R: Source>(alloc: Global, dialect: Dialect, input: &mut R) -> Result<bool, RunFault>
+    ensures told { MatchResult result
         (λ names. IfSome (R.remaining input.old) (λ bytes. IsTrue names ↔ Names dialect bytes))
         (StopsNaming dialect (R.remaining input.old)) }
+    ensures blames { Blames R.follows R.fails input.old input.new (result ≡ Err RunFault.Read) }
 {
     let mut walk = StringWalk::new(alloc, dialect);
     let mut buffer = Input::new();

@@ -1,5 +1,6 @@
 //! Why the work over a file stops.
-ghost use Rattle.dl_open.specs.Stops.{StopsAt};
+ghost use Rattle.std.specs.Prelude.{◌≡◌, Option, option_map};
+ghost use Rattle.dl_open.specs.Stops.{IsToldOf, StopsAt, Stream};
 
 use crate::fault::{FileFault, read_fault};
 use dl_elf::SectionName;
@@ -28,7 +29,8 @@ impl<'a> FileStop<'a> {
         fault: RunFault,
         read: Option<ReadFault>,
     ) -> FileStop<'a>
-        ensures { StopsAt path.entry.now stream fault result }
+        ensures { (told : Option Stream) → option_map (λ s. s.0) told ≡ stream → IsToldOf told read
+            → StopsAt path.entry.now told fault result }
     {
         match fault {
             RunFault::Read => FileStop::File {

@@ -25,6 +25,7 @@ pub mod CountLemmas
 pub mod FeedLemmas
 pub mod WorkLemmas
 pub mod ReadLemmas
+pub mod BlameLemmas
 pub mod TellingLemmas
 pub mod TellingVisits
 pub mod AroundTelling

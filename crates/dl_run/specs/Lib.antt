@@ -4,6 +4,7 @@ pub mod RunOutput
 pub mod Strings
 pub mod Section
 pub mod Visiting
+pub mod Blaming
 pub mod Around
 pub mod InMemory
 pub mod AroundInMemory

@@ -1,5 +1,7 @@
 //! The units of a section around those that are damaged. Section 6.2.4.
 
+ghost use Rattle.dl_input.specs.Failing.{Blames};
+ghost use Rattle.dl_run.specs.Blaming.{NeverBlames};
 ghost use Rattle.std.specs.Prelude.{◌≡◌, ◌≤◌, ◌<◌, ◌+◌, ◌^◌, ◌++◌, [], ◌∷◌, ℕ, List, Option, Some, Ok, drop, length};
 ghost use Rattle.std.specs.Io.KnownBytes.{Appends, Consumes};
 ghost use Rattle.dl_head.specs.declared.dialect.Dialect.{Dialect};
@@ -11,14 +13,14 @@ ghost use Rattle.dl_run.specs.Around.{AllIsRead, RanAround, damaged_units};
 ghost use Rattle.dl_run.specs.GoingOn.{AroundFed, AroundIs, BeginsAround, NextBegins, passed, surveyed};
 
 use crate::fault::RunFault;
-use crate::input::Input;
 use crate::options::{Options, SECTION_LIMIT};
 use crate::section::{SectionUnits, Visitor, front, work_through};
 use dl_head::{Dialect, FaultKind};
+use dl_input::{Input, Source};
 use dl_print::Summary;
 use dl_rows::Flow;
 use std::alloc::Global;
-use std::io::{Read, Write};
+use std::io::Write;
 
 /// What is wrong with a unit, and where: the offset counts from the section's first byte.
 #[derive(Clone, Copy, Debug, PartialEq, Eq)]
@@ -194,7 +196,7 @@ fn also(damaged: Option<DamagedUnits>, damage: Damage) -> DamagedUnits
 /// end cuts off it is told that it is `Truncated`, unless it is damaged before. `SectionTooLong` where the section goes
 /// past the limit, `Read` where the reader fails, `NoMemory` where a growth of `Reader::feed` is refused; else the first
 /// fault of the visitor.
-pub fn read_units_around<R: Read, W: Write, V: AroundDamage<W>>(
+pub fn read_units_around<R: Source, W: Write, V: AroundDamage<W>>(
     alloc: Global,
     input: &mut R,
     output: &mut W,
@@ -202,18 +204,20 @@ pub fn read_units_around<R: Read, W: Write, V: AroundDamage<W>>(
     visitor: &mut V,
 ) -> Result<Survey, RunFault>
     requires { options.now.limit ≤ SECTION_LIMIT }
-    ensures { (bs : List ℕ) × Consumes (R.remaining input.old) (R.remaining input.new) bs
+    ensures ran { (bs : List ℕ) × Consumes (R.remaining input.old) (R.remaining input.new) bs
         × (V.story.tells visitor.old visitor.old (W.contents output.old) (W.contents output.old) []
         → Appends (W.contents output.old) (W.contents output.old) (V.story.text visitor.old [])
         → RanAround V.story options.now.dialect options.now.limit bs (R.remaining input.new) visitor.old visitor.new
         (W.contents output.old) (W.contents output.new) result) }
+    ensures blames { Blames R.follows R.fails input.old input.new
+        (NeverBlames V.story visitor.old (W.contents output.old) × (result ≡ Err RunFault.Read)) }
 {
     let mut units = UnitsAround::new(alloc, options.dialect);
     read_pieces_around(&mut units, input, output, options, visitor)
 }
 
 /// Reads the units piece by piece, of which nothing was read yet.
-fn read_pieces_around<R: Read, W: Write, V: AroundDamage<W>>(
+fn read_pieces_around<R: Source, W: Write, V: AroundDamage<W>>(
     units: &mut UnitsAround,
     input: &mut R,
     output: &mut W,
@@ -222,11 +226,13 @@ fn read_pieces_around<R: Read, W: Write, V: AroundDamage<W>>(
 ) -> Result<Survey, RunFault>
     requires limit { options.now.limit ≤ SECTION_LIMIT }
     requires begun { BeginsAround options.now.dialect units.old }
-    ensures { (bs : List ℕ) × Consumes (R.remaining input.old) (R.remaining input.new) bs
+    ensures ran { (bs : List ℕ) × Consumes (R.remaining input.old) (R.remaining input.new) bs
         × (V.story.tells visitor.old visitor.old (W.contents output.old) (W.contents output.old) []
         → Appends (W.contents output.old) (W.contents output.old) (V.story.text visitor.old [])
         → RanAround V.story options.now.dialect options.now.limit bs (R.remaining input.new) visitor.old visitor.new
         (W.contents output.old) (W.contents output.new) result) }
+    ensures blames { Blames R.follows R.fails input.old input.new
+        (NeverBlames V.story visitor.old (W.contents output.old) × (result ≡ Err RunFault.Read)) }
 {
     let mut buffer = Input::new();
     let mut left = options.limit;

@@ -1,6 +1,7 @@
 //! The command that counts units, sequences and rows.
 
-ghost use Rattle.std.specs.Prelude.{◌≤◌, [], ℕ, List};
+ghost use Rattle.dl_input.specs.Failing.{Blames};
+ghost use Rattle.std.specs.Prelude.{◌≡◌, ◌≤◌, [], ℕ, List};
 ghost use Rattle.std.specs.Io.KnownBytes.{Consumes};
 ghost use Rattle.dl_run.specs.AroundCommands.{ChecksAround};
 ghost use Rattle.dl_run.specs.Commands.{Checks};
@@ -11,10 +12,11 @@ use crate::options::{Options, SECTION_LIMIT};
 use crate::reporting::{DamageSink, NoneTold};
 use crate::section::{Visitor, read_units};
 use dl_head::Header;
+use dl_input::Source;
 use dl_print::{Printer, Summary};
 use dl_rows::{Flow, Row};
 use std::alloc::Global;
-use std::io::{Read, Write};
+use std::io::Write;
 
 /// Prints nothing, and tells of damaged units.
 #[derive(Drop)]
@@ -63,16 +65,18 @@ impl<W: Write, D: DamageSink> AroundDamage<W> for Checker<'_, D> {
 ///
 /// Before the input's end nothing is printed. The faults are those of `RunFault`; each growth of
 /// memory is one of `Reader::feed`.
-pub fn check<R: Read, W: Write>(
+pub fn check<R: Source, W: Write>(
     alloc: Global,
     input: &mut R,
     output: &mut W,
     options: &Options<'_>,
 ) -> Result<Summary, RunFault>
     requires { options.now.limit ≤ SECTION_LIMIT }
-    ensures { (bs : List ℕ) × Consumes (R.remaining input.old) (R.remaining input.new) bs
+    ensures ran { (bs : List ℕ) × Consumes (R.remaining input.old) (R.remaining input.new) bs
         × Checks options.now.dialect options.now.limit bs
         (R.remaining input.new) (W.contents output.old) (W.contents output.new) result }
+    ensures blames { Blames R.follows R.fails input.old input.new
+        (result ≡ Err RunFault.Read) }
 {
     let mut checker = Checker {
         damages: &mut NoneTold,
@@ -89,7 +93,7 @@ pub fn check<R: Read, W: Write>(
 ///
 /// Before the input's end nothing is printed. The answer tells how many units are damaged; the faults are those of
 /// `read_units_around`, and failed writes.
-pub fn check_around<R: Read, W: Write, D: DamageSink>(
+pub fn check_around<R: Source, W: Write, D: DamageSink>(
     alloc: Global,
     input: &mut R,
     output: &mut W,
@@ -97,10 +101,12 @@ pub fn check_around<R: Read, W: Write, D: DamageSink>(
     damages: &mut D,
 ) -> Result<Survey, RunFault>
     requires { options.now.limit ≤ SECTION_LIMIT }
-    ensures { (bs : List ℕ) × Consumes (R.remaining input.old) (R.remaining input.new) bs
+    ensures ran { (bs : List ℕ) × Consumes (R.remaining input.old) (R.remaining input.new) bs
         × (D.hears damages.old damages.old [] → ChecksAround options.now.dialect options.now.limit bs
         (R.remaining input.new) (W.contents output.old) (W.contents output.new) (D.hears damages.old damages.new)
         result) }
+    ensures blames { Blames R.follows R.fails input.old input.new
+        ((D.hears damages.old damages.old []) × (result ≡ Err RunFault.Read)) }
 {
     let mut checker = Checker { damages };
     let survey = read_units_around(alloc, input, output, options, &mut checker)?;

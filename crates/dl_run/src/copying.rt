@@ -1,5 +1,6 @@
 //! The commands that write all units anew.
 
+ghost use Rattle.dl_input.specs.Failing.{Blames};
 ghost use Rattle.std.specs.Prelude.{◌≡◌, ◌≤◌, ◌++◌, ℕ, List, [], None, IfOk};
 ghost use Rattle.std.specs.Io.KnownBytes.{Consumes};
 ghost use Rattle.dl_rows.specs.declared.row.Row.{Row};
@@ -19,12 +20,13 @@ use crate::section::{Visitor, read_units};
 use dl_dirs::CompilationDirectories;
 use dl_emit::{EmitFault, Program, into_version_5};
 use dl_head::{Dialect, Header};
+use dl_input::Source;
 use dl_num::Order;
 use dl_print::{Printer, Summary, WriteFault};
 use dl_rows::{Flow, Row};
 use std::alloc::{AllocError, Global};
 use std::io;
-use std::io::{Read, Write};
+use std::io::Write;
 
 /// How many bytes of what a unit has before its program are held at most: 1 MiB.
 const MOST_HELD: usize = 1 << 20;
@@ -262,16 +264,18 @@ fn print_parts<W: Write>(
 /// What comes before a fault is written. The faults are those of `RunFault`. What is written for the rows of a unit is
 /// held in memory until the unit ends, and up to 1 MiB of what stands before it; each growth of these, and those of
 /// `Reader::feed`, come before the unit is written.
-pub fn copy<R: Read, W: Write>(
+pub fn copy<R: Source, W: Write>(
     alloc: Global,
     input: &mut R,
     output: &mut W,
     options: &Options<'_>,
 ) -> Result<Summary, RunFault>
     requires { options.now.limit ≤ SECTION_LIMIT }
-    ensures { (bs : List ℕ) × Consumes (R.remaining input.old) (R.remaining input.new) bs
+    ensures ran { (bs : List ℕ) × Consumes (R.remaining input.old) (R.remaining input.new) bs
         × Copies (version_5 options.now.dialect.order) options.now.limit bs (R.remaining input.new)
         (W.contents output.old) (W.contents output.new) result }
+    ensures blames { Blames R.follows R.fails input.old input.new
+        (result ≡ Err RunFault.Read) }
 {
     let mut copier = Copier::new(alloc, options.dialect.order, Becomes::Itself);
     let own = Options {
@@ -287,7 +291,7 @@ pub fn copy<R: Read, W: Write>(
 /// The header of a unit is made one of version 5 by `into_version_5`, with the compilation directory of the unit, by its
 /// offset, and then has opcode_base 13; all else is as in `copy`. Memory grows for the tables of that header too, before
 /// the unit is written.
-pub fn copy_to_5<R: Read, W: Write>(
+pub fn copy_to_5<R: Source, W: Write>(
     alloc: Global,
     input: &mut R,
     output: &mut W,
@@ -295,9 +299,11 @@ pub fn copy_to_5<R: Read, W: Write>(
     options: &Options<'_>,
 ) -> Result<Summary, RunFault>
     requires { options.now.limit ≤ SECTION_LIMIT }
-    ensures { (bs : List ℕ) × Consumes (R.remaining input.old) (R.remaining input.new) bs
+    ensures ran { (bs : List ℕ) × Consumes (R.remaining input.old) (R.remaining input.new) bs
         × CopiesAs (to_5 (directory_by directories.entry)) options.now.dialect options.now.limit bs (R.remaining input.new)
         (W.contents output.old) (W.contents output.new) result }
+    ensures blames { Blames R.follows R.fails input.old input.new
+        (result ≡ Err RunFault.Read) }
 {
     let becomes = Becomes::Version5(directories);
     let mut copier = Copier::new(alloc, options.dialect.order, becomes);

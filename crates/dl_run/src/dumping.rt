@@ -1,6 +1,7 @@
 //! The command that prints a section.
 
-ghost use Rattle.std.specs.Prelude.{◌≤◌, [], ℕ, List};
+ghost use Rattle.dl_input.specs.Failing.{Blames};
+ghost use Rattle.std.specs.Prelude.{◌≡◌, ◌≤◌, [], ℕ, List};
 ghost use Rattle.std.specs.Io.KnownBytes.{Consumes};
 ghost use Rattle.dl_run.specs.AroundCommands.{DumpsAround};
 ghost use Rattle.dl_run.specs.Commands.{Dumps, strings_in};
@@ -11,10 +12,11 @@ use crate::options::{Options, SECTION_LIMIT};
 use crate::reporting::{DamageSink, NoneTold};
 use crate::section::{Visitor, read_units};
 use dl_head::Header;
+use dl_input::Source;
 use dl_print::{Printer, StringSections, Summary};
 use dl_rows::{Flow, Row};
 use std::alloc::Global;
-use std::io::{Read, Write};
+use std::io::Write;
 
 /// Prints the events of units, and tells of damaged ones.
 #[derive(Drop)]
@@ -65,16 +67,18 @@ impl<W: Write, D: DamageSink> AroundDamage<W> for Dumper<'_, D> {
 ///
 /// What comes before a fault is printed. The faults are those of `RunFault`; each growth of memory is
 /// one of `Reader::feed`.
-pub fn dump<R: Read, W: Write>(
+pub fn dump<R: Source, W: Write>(
     alloc: Global,
     input: &mut R,
     output: &mut W,
     options: &Options<'_>,
 ) -> Result<Summary, RunFault>
     requires { options.now.limit ≤ SECTION_LIMIT }
-    ensures { (bs : List ℕ) × Consumes (R.remaining input.old) (R.remaining input.new) bs
+    ensures ran { (bs : List ℕ) × Consumes (R.remaining input.old) (R.remaining input.new) bs
         × Dumps options.now.dialect (strings_in options.now) options.now.limit bs
         (R.remaining input.new) (W.contents output.old) (W.contents output.new) result }
+    ensures blames { Blames R.follows R.fails input.old input.new
+        (result ≡ Err RunFault.Read) }
 {
     let strings = StringSections::new(options.debug_line_str, options.debug_str);
     let mut dumper = Dumper {
@@ -90,7 +94,7 @@ pub fn dump<R: Read, W: Write>(
 ///
 /// The answer tells what the units come to, and how many are damaged; the faults are those of `read_units_around`, and
 /// failed writes.
-pub fn dump_around<R: Read, W: Write, D: DamageSink>(
+pub fn dump_around<R: Source, W: Write, D: DamageSink>(
     alloc: Global,
     input: &mut R,
     output: &mut W,
@@ -98,10 +102,12 @@ pub fn dump_around<R: Read, W: Write, D: DamageSink>(
     damages: &mut D,
 ) -> Result<Survey, RunFault>
     requires { options.now.limit ≤ SECTION_LIMIT }
-    ensures { (bs : List ℕ) × Consumes (R.remaining input.old) (R.remaining input.new) bs
+    ensures ran { (bs : List ℕ) × Consumes (R.remaining input.old) (R.remaining input.new) bs
         × (D.hears damages.old damages.old [] → DumpsAround options.now.dialect (strings_in options.now)
         options.now.limit bs (R.remaining input.new) (W.contents output.old) (W.contents output.new)
         (D.hears damages.old damages.new) result) }
+    ensures blames { Blames R.follows R.fails input.old input.new
+        ((D.hears damages.old damages.old []) × (result ≡ Err RunFault.Read)) }
 {
     let strings = StringSections::new(options.debug_line_str, options.debug_str);
     let mut printer = Printer::new();

@@ -1,6 +1,7 @@
 //! The command that looks an address up.
 
-ghost use Rattle.std.specs.Prelude.{◌≤◌, ℕ, List};
+ghost use Rattle.dl_input.specs.Failing.{Blames};
+ghost use Rattle.std.specs.Prelude.{◌≡◌, ◌≤◌, ℕ, List};
 ghost use Rattle.std.specs.Io.KnownBytes.{Consumes};
 ghost use Rattle.dl_run.specs.Commands.{Finds, strings_in};
 
@@ -8,11 +9,12 @@ use crate::fault::RunFault;
 use crate::options::{Options, SECTION_LIMIT};
 use crate::section::{Visitor, read_units};
 use dl_head::Header;
+use dl_input::Source;
 use dl_look::{Finder, Place};
 use dl_print::{Printer, StringSections, Summary};
 use dl_rows::{Flow, Row};
 use std::alloc::Global;
-use std::io::{Read, Write};
+use std::io::Write;
 
 /// Looks a place up in the rows of each unit, and prints the first answer.
 #[derive(Drop)]
@@ -72,7 +74,7 @@ impl<W: Write> Visitor<W> for Seeker<'_> {
 /// The counts are those of the units up to this one. A fault in one of these units, or before them, is
 /// answered with nothing printed; where no unit answers, and none is damaged, it is `NotFound`. Each
 /// growth of memory is one of `Reader::feed`.
-pub fn find<R: Read, W: Write>(
+pub fn find<R: Source, W: Write>(
     alloc: Global,
     input: &mut R,
     output: &mut W,
@@ -80,9 +82,11 @@ pub fn find<R: Read, W: Write>(
     options: &Options<'_>,
 ) -> Result<Summary, RunFault>
     requires { options.now.limit ≤ SECTION_LIMIT }
-    ensures { (bs : List ℕ) × Consumes (R.remaining input.old) (R.remaining input.new) bs
+    ensures ran { (bs : List ℕ) × Consumes (R.remaining input.old) (R.remaining input.new) bs
         × Finds options.now.dialect (strings_in options.now) place options.now.limit bs
         (R.remaining input.new) (W.contents output.old) (W.contents output.new) result }
+    ensures blames { Blames R.follows R.fails input.old input.new
+        (result ≡ Err RunFault.Read) }
 {
     let strings = StringSections::new(options.debug_line_str, options.debug_str);
     let mut seeker = Seeker {

@@ -1,5 +1,6 @@
 //! Units of other versions, which aren't read.
 
+ghost use Rattle.dl_input.specs.Failing.{Blames};
 ghost use Rattle.std.specs.Prelude.{◌≡◌, ◌≤◌, ◌∷◌, ◌++◌, [], ℕ, List, Some};
 ghost use Rattle.std.specs.Io.KnownBytes.{Consumes};
 ghost use Rattle.dl_run.specs.PassedOver.{PassesOver};
@@ -9,10 +10,11 @@ use crate::fault::RunFault;
 use crate::options::{Options, SECTION_LIMIT};
 use crate::section::{Visitor, read_units};
 use dl_head::Header;
+use dl_input::Source;
 use dl_rows::{Flow, Row};
 use std::alloc::Global;
 use std::io;
-use std::io::{Read, Write};
+use std::io::Write;
 
 /// Units of other versions than 5, of which there is one or more. Section 6.2.4.
 #[derive(Clone, Copy, Debug, PartialEq, Eq)]
@@ -112,14 +114,16 @@ impl<W: Write> Visitor<W> for OtherVersions {
 /// least version and their greatest; None where all are of version 5.
 ///
 /// The faults are those of `check`, but for failed writes.
-pub fn passed_over<R: Read>(
+pub fn passed_over<R: Source>(
     alloc: Global,
     input: &mut R,
     options: &Options<'_>,
 ) -> Result<Option<PassedOver>, RunFault>
     requires { options.now.limit ≤ SECTION_LIMIT }
-    ensures { (bs : List ℕ) × Consumes (R.remaining input.old) (R.remaining input.new) bs
+    ensures ran { (bs : List ℕ) × Consumes (R.remaining input.old) (R.remaining input.new) bs
         × PassesOver options.now.dialect options.now.limit bs (R.remaining input.new) result }
+    ensures blames { Blames R.follows R.fails input.old input.new
+        (result ≡ Err RunFault.Read) }
 {
     let mut versions = OtherVersions { range: None };
     let summary = read_units(alloc, input, &mut io::sink(), options, &mut versions)?;

@@ -1,5 +1,7 @@
 //! The units of a section, read one after the other. Section 6.2.4.
 
+ghost use Rattle.dl_input.specs.Failing.{Blames};
+ghost use Rattle.dl_run.specs.Blaming.{NeverBlames};
 ghost use Rattle.std.specs.Prelude.{◌≡◌, ◌≤◌, ◌<◌, ◌+◌, ◌^◌, ◌++◌, ◌∷◌, ◌⊎◌, [], ℕ, List, Option, length, take, IfOk};
 ghost use Rattle.std.specs.Prelude.{OnOk};
 ghost use Rattle.dl_num.specs.declared.fixed.Order.{Order};
@@ -21,13 +23,13 @@ ghost use Rattle.dl_run.specs.GoingOn.{BeginsAt};
 
 use crate::around::Damage;
 use crate::fault::RunFault;
-use crate::input::Input;
 use crate::options::{Options, SECTION_LIMIT};
 use dl_head::{Dialect, Fault, Header};
+use dl_input::{Input, Source};
 use dl_print::Summary;
 use dl_rows::{Event, Fed, Flow, Reader, Row, RowSink};
 use std::alloc::Global;
-use std::io::{Read, Write};
+use std::io::Write;
 use std::mem;
 
 /// What a command does at the events of the units of a section, which `read_units` tells it in the
@@ -360,7 +362,7 @@ impl SectionUnits {
 /// it the visitor was told of all that the bytes before the fault give. `SectionTooLong` where the
 /// section goes past the limit, `Read` where the reader fails, `NoMemory` where a growth of
 /// `Reader::feed` is refused. The counts are those of the units that were read whole.
-pub fn read_units<R: Read, W: Write, V: Visitor<W>>(
+pub fn read_units<R: Source, W: Write, V: Visitor<W>>(
     alloc: Global,
     input: &mut R,
     output: &mut W,
@@ -368,18 +370,20 @@ pub fn read_units<R: Read, W: Write, V: Visitor<W>>(
     visitor: &mut V,
 ) -> Result<Summary, RunFault>
     requires { options.now.limit ≤ SECTION_LIMIT }
-    ensures { (bs : List ℕ) × Consumes (R.remaining input.old) (R.remaining input.new) bs
+    ensures ran { (bs : List ℕ) × Consumes (R.remaining input.old) (R.remaining input.new) bs
         × (V.story.tells visitor.old visitor.old (W.contents output.old) (W.contents output.old) []
         → Appends (W.contents output.old) (W.contents output.old) (V.story.text visitor.old [])
         → Ran V.story options.now.dialect options.now.limit bs (R.remaining input.new) visitor.old visitor.new
         (W.contents output.old) (W.contents output.new) result) }
+    ensures blames { Blames R.follows R.fails input.old input.new
+        (NeverBlames V.story visitor.old (W.contents output.old) × (result ≡ Err RunFault.Read)) }
 {
     let mut units = SectionUnits::new(alloc, options.dialect);
     read_pieces(&mut units, input, output, options, visitor)
 }
 
 /// Reads the units piece by piece, of which nothing was read yet.
-fn read_pieces<R: Read, W: Write, V: Visitor<W>>(
+fn read_pieces<R: Source, W: Write, V: Visitor<W>>(
     units: &mut SectionUnits,
     input: &mut R,
     output: &mut W,
@@ -389,11 +393,13 @@ fn read_pieces<R: Read, W: Write, V: Visitor<W>>(
     requires limit { options.now.limit ≤ SECTION_LIMIT }
     requires begun { (past : Before options.now.dialect) → past.bytes ≡ [] → past.units ≡ []
         → UnitsAre past units.old [] [] [] }
-    ensures { (bs : List ℕ) × Consumes (R.remaining input.old) (R.remaining input.new) bs
+    ensures ran { (bs : List ℕ) × Consumes (R.remaining input.old) (R.remaining input.new) bs
         × (V.story.tells visitor.old visitor.old (W.contents output.old) (W.contents output.old) []
         → Appends (W.contents output.old) (W.contents output.old) (V.story.text visitor.old [])
         → Ran V.story options.now.dialect options.now.limit bs (R.remaining input.new) visitor.old visitor.new
         (W.contents output.old) (W.contents output.new) result) }
+    ensures blames { Blames R.follows R.fails input.old input.new
+        (NeverBlames V.story visitor.old (W.contents output.old) × (result ≡ Err RunFault.Read)) }
 {
     let mut buffer = Input::new();
     let mut left = options.limit;

@@ -1,26 +1,28 @@
 //! A string section, read whole.
+ghost use Rattle.dl_input.specs.Failing.{Blames};
 ghost use Rattle.std.specs.Prelude.{◌≡◌, ◌≤◌, ℕ, List, length, MatchResult};
 ghost use Rattle.std.specs.Io.KnownBytes.{Consumes, IsAtEnd};
 ghost use Rattle.dl_run.specs.Strings.{StopsReading};
 
 use crate::fault::RunFault;
-use crate::input::Input;
+use dl_input::{Input, Source};
 use dl_memory::Memory;
-use std::io::Read;
 
 /// All bytes of a string section, of which there may be `limit`.
 ///
 /// `SectionTooLong` where there are more, `Read` where the reader fails, `NoMemory` where memory
 /// was refused for them.
-pub fn read_strings<M: Memory, R: Read>(
+pub fn read_strings<M: Memory, R: Source>(
     memory: &M,
     input: &mut R,
     limit: u64,
 ) -> Result<Vec<u8>, RunFault>
-    ensures { (bs : List ℕ) × Consumes (R.remaining input.old) (R.remaining input.new) bs
+    ensures ran { (bs : List ℕ) × Consumes (R.remaining input.old) (R.remaining input.new) bs
         × MatchResult result
         (λ bytes. (bytes.items ≡ bs) × (length bs ≤ limit) × IsAtEnd (R.remaining input.new))
         (StopsReading (M.refuses memory.now) limit bs) }
+    ensures blames { Blames R.follows R.fails input.old input.new
+        (result ≡ Err RunFault.Read) }
 {
     let mut bytes = Vec::new(memory.alloc());
     let mut buffer = Input::new();

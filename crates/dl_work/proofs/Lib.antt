@@ -6,3 +6,4 @@ pub mod AnsweringLemmas
 pub mod ReadsLemmas
 pub mod IndexingLemmas
 pub mod DamageLemmas
+pub mod BlameLemmas

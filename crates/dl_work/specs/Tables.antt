@@ -6,7 +6,6 @@ use Rattle.std.specs.Prelude.{MatchResult}
 use Rattle.std.specs.Io.KnownBytes.{Consumes}
 use Rattle.std.specs.declared.io.Error.{Error}
 use Rattle.dl_cmd.specs.Job.{Text}
-use Rattle.dl_elf.specs.declared.name.SectionName.{SectionName}
 use Rattle.dl_file.specs.LineTable.{LineTable, Plain}
 use Rattle.dl_run.specs.declared.options.TheConstants.{SECTION_LIMIT}
 use Rattle.dl_run.specs.declared.fault.RunFault.{RunFault}
@@ -18,7 +17,7 @@ use Rattle.dl_open.specs.declared.fault.FileFault.TheVariants.{ObjectCopy}
 use Rattle.dl_open.specs.declared.object_part.Part.{Part}
 use Rattle.dl_open.specs.declared.stop.FileStop.{FileStop}
 use Rattle.dl_open.specs.Parts.{IsPart, PartStops}
-use Rattle.dl_open.specs.Stops.{IsAt, StopsAt}
+use Rattle.dl_open.specs.Stops.{IsAt, StopsAt, Stream}
 use Rattle.dl_open.specs.Tables.{HasTable, IsKept, IsWhole, KeepingStops, StringsStop, TableStops, file_dialect}
 use Rattle.dl_open.specs.Tables.{bytes_of, stream_of}
 use Rattle.dl_work.specs.declared.command.Command.{Command}
@@ -27,7 +26,7 @@ use Rattle.dl_work.specs.Asked.{Does, Outcome, WithoutTable, is_copy, looks_up, 
 -- ---- the command over the line section
 
 -- the program answers what its command answered
-abbrev pub EndsAt : (path : Text) (stream : Option SectionName) → Result Survey RunFault → Result Survey FileStop
+abbrev pub EndsAt : (path : Text) (stream : Option Stream) → Result Survey RunFault → Result Survey FileStop
     → Type 0
 EndsAt path stream answer result = MatchResult answer (λ survey. result ≡ Ok survey)
     (λ f. (stop : FileStop) × (result ≡ Err stop) × StopsAt path stream f stop)

@@ -7,6 +7,7 @@ use Rattle.std.specs.declared.io.Error.{Error}
 use Rattle.dl_elf.specs.Source.{ForBytes}
 use Rattle.dl_run.specs.declared.options.TheConstants.{SECTION_LIMIT}
 use Rattle.dl_run.specs.declared.fault.RunFault.{RunFault}
+use Rattle.dl_run.specs.declared.fault.RunFault.TheVariants as fault
 use Rattle.dl_run.specs.declared.around.Damage.{Damage}
 use Rattle.dl_run.specs.declared.around.Survey.{Survey}
 use Rattle.dl_cmd.specs.Job.{Request, Text}
@@ -68,3 +69,9 @@ Works held fails (Some request) bytes left start now hears result =
     × MatchOption (file_of request) (OnInput held (section_of request) command bytes left start now hears result)
     (λ path. OnNamed held fails (file_units (units_of request)) path (part_name_of request) command bytes start now
     hears result))
+
+-- a read of the input is blamed: by a request that names no file, whose string sections can be read
+abbrev pub BlamesInput : {A : Type 0} → (held : Text → Option (List ℕ)) → Option Request → Result A Stop → Type 0
+BlamesInput held None result = ⊥
+BlamesInput held (Some request) result = (result ≡ Err (Run fault.Read)) × (file_of request ≡ None)
+    × ¬ FilesStop held (section_of request).line_str (section_of request).strings fault.Read

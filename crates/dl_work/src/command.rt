@@ -2,6 +2,7 @@
 ghost use Rattle.std.specs.Prelude.{◌≡◌, ◌≤◌, ◌&&◌, ℕ, List, [], option_map};
 ghost use Rattle.std.specs.Option.{option_copied};
 ghost use Rattle.std.specs.Io.KnownBytes.{Consumes};
+ghost use Rattle.dl_input.specs.Failing.{Blames};
 ghost use Rattle.dl_run.specs.Commands.{strings_in};
 ghost use Rattle.dl_cmd.specs.Job.{request_made};
 ghost use Rattle.dl_dirs.specs.Compilation.{directory_by};
@@ -13,6 +14,7 @@ use dl_addr::{Found, FoundAround, Question, addr, addr_around};
 use dl_cmd::{Job, read_address};
 use dl_dirs::CompilationDirectories;
 use dl_head::{Dialect, Older};
+use dl_input::Source;
 use dl_look::Place;
 use dl_making::{
     Table, write_index, write_index_around, write_index_until, write_index_until_around,
@@ -24,7 +26,7 @@ use dl_run::{
     DamageSink, Options, RunFault, SECTION_LIMIT, Summary, Survey, check, check_around, copy,
     copy_to_5, dump, dump_around, find,
 };
-use std::io::{Read, Write};
+use std::io::Write;
 
 /// What `addr` counts.
 pub const NOTHING: Summary = Summary {
@@ -235,7 +237,7 @@ impl<'a> Command<'a> {
     }
 
     /// Works through the section, and tells of the units that are damaged where it goes on after them.
-    pub fn run<M: Memory, R: Read, W: Write, D: DamageSink>(
+    pub fn run<M: Memory, R: Source, W: Write, D: DamageSink>(
         self,
         memory: &M,
         input: &mut R,
@@ -244,10 +246,12 @@ impl<'a> Command<'a> {
         damages: &mut D,
     ) -> Result<Survey, RunFault>
         requires { options.now.limit ≤ SECTION_LIMIT }
-        ensures { (bytes : List ℕ) × Consumes (R.remaining input.old) (R.remaining input.new) bytes
+        ensures ran { (bytes : List ℕ) × Consumes (R.remaining input.old) (R.remaining input.new) bytes
             × (D.hears damages.old damages.old [] → Does (M.refuses memory.now) self.entry options.now.dialect
             (strings_in options.now) options.now.limit bytes (R.remaining input.new) (W.contents output.old) (W.contents output.new)
             (D.hears damages.old damages.new) result) }
+        ensures blames { Blames R.follows R.fails input.old input.new
+            ((D.hears damages.old damages.old []) × (result ≡ Err RunFault.Read)) }
     {
         let alloc = memory.alloc();
         match self {

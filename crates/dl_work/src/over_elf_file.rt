@@ -22,15 +22,16 @@ use dl_cmd::AddrWords;
 use dl_dialogue::{AnswerFault, Answered, Nothing};
 use dl_dirs::Directories;
 use dl_elf::ReadAt;
+use dl_input::Source;
 use dl_look::CodeRanges;
 use dl_making::Table;
 use dl_open::{FileFault, FileStop};
 use dl_run::{RunFault, Survey};
 use std::alloc::Global;
-use std::io::{Read, Write};
+use std::io::Write;
 
 /// Looks into the ELF file at this path, which is open.
-pub fn in_elf_file<'a, S: ReadAt, R: Read, W: Write>(
+pub fn in_elf_file<'a, S: ReadAt, R: Source, W: Write>(
     alloc: Global,
     words: &AddrWords<'a>,
     path: &'a str,
@@ -122,7 +123,7 @@ fn given<'a, S: ReadAt, W: Write>(
 }
 
 /// Makes the index of the line table in memory, and answers from it the addresses on the input, as they come.
-fn by_index<'a, S: ReadAt, R: Read, W: Write>(
+fn by_index<'a, S: ReadAt, R: Source, W: Write>(
     alloc: Global,
     words: &AddrWords<'a>,
     path: &'a str,

@@ -1,6 +1,8 @@
 //! Commands over a section that comes on the input.
 ghost use Rattle.std.specs.Prelude.{◌≡◌, ℕ, List, []};
 ghost use Rattle.std.specs.Io.KnownBytes.{Consumes};
+ghost use Rattle.dl_input.specs.Failing.{Blames};
+ghost use Rattle.dl_open.specs.Files.{FilesStop};
 ghost use Rattle.dl_work.specs.Held.{section_seen};
 ghost use Rattle.dl_work.specs.Work.{OnInput, stopped};
 
@@ -8,12 +10,13 @@ use crate::command::Command;
 use crate::stop::Stop;
 use crate::unit_words::older_by;
 use dl_head::Dialect;
+use dl_input::Source;
 use dl_memory::System;
 use dl_num::Order;
 use dl_open::{FileSource, StringSections};
 use dl_run::{DamageSink, RunFault, Survey};
 use std::alloc::Global;
-use std::io::{Read, Write};
+use std::io::Write;
 
 /// What the words say of a section on the input.
 #[derive(Clone, Copy)]
@@ -53,7 +56,7 @@ fn stopped<'a>(answer: Result<Survey, RunFault>) -> Result<Survey, Stop<'a>>
 }
 
 /// Does what is asked of the section on the input. The string sections are read first.
-pub fn on_input<'p, F: FileSource, R: Read, W: Write, D: DamageSink>(
+pub fn on_input<'p, F: FileSource, R: Source, W: Write, D: DamageSink>(
     alloc: Global,
     files: &F,
     section: Section<'_>,
@@ -62,10 +65,14 @@ pub fn on_input<'p, F: FileSource, R: Read, W: Write, D: DamageSink>(
     output: &mut W,
     damages: &mut D,
 ) -> Result<Survey, Stop<'p>>
-    ensures { (bytes : List ℕ) × Consumes (R.remaining input.old) (R.remaining input.new) bytes
+    ensures ran { (bytes : List ℕ) × Consumes (R.remaining input.old) (R.remaining input.new) bytes
         × (D.hears damages.old damages.old [] → OnInput (F.held files.now) (section_seen section.entry) command.entry
         bytes (R.remaining input.new) (W.contents output.old) (W.contents output.new)
         (D.hears damages.old damages.new) result) }
+    ensures blames { Blames R.follows R.fails input.old input.new ((D.hears damages.old damages.old [])
+        × (result ≡ Err (Stop.Run RunFault.Read))
+        × ¬ FilesStop (F.held files.now) (section_seen section.entry).line_str (section_seen section.entry).strings
+        RunFault.Read) }
 {
     match StringSections::of_files(alloc, files, section.line_str, section.strings) {
         Ok(strings) => {

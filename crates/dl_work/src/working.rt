@@ -1,12 +1,13 @@
 //! What the program does for a job.
 ghost use Rattle.std.specs.Prelude.{◌≡◌, ℕ, List, [], option_map};
 ghost use Rattle.std.specs.Io.KnownBytes.{Consumes};
+ghost use Rattle.dl_input.specs.Failing.{Blames};
 ghost use Rattle.dl_cmd.specs.Job.{request_made};
 ghost use Rattle.dl_work.specs.Asked.{file_of, looked_into, part_name_of, section_of};
 ghost use Rattle.dl_elf.specs.Source.{ForBytes};
 ghost use Rattle.dl_work.specs.Held.{section_seen};
 ghost use Rattle.dl_work.specs.Tables.{OnFile};
-ghost use Rattle.dl_work.specs.Work.{Works};
+ghost use Rattle.dl_work.specs.Work.{BlamesInput, Works};
 
 use crate::addr_words::file_of_words;
 use crate::command::Command;
@@ -15,11 +16,12 @@ use crate::over_input::{Section, on_input};
 use crate::stop::{Stop, over_file};
 use crate::unit_words::file_units;
 use dl_cmd::Job;
+use dl_input::Source;
 use dl_memory::System;
 use dl_open::{FileSource, FileStop, FileUnits, open_file};
 use dl_run::{DamageSink, Survey};
 use std::alloc::Global;
-use std::io::{Read, Write};
+use std::io::Write;
 
 /// The path of the ELF file that a job names.
 fn file<'a>(job: &Job<'a>) -> Option<&'a str>
@@ -139,7 +141,7 @@ fn on_named<'p, F: FileSource, W: Write, D: DamageSink>(
 /// `NotUnderstood` where there is no job, ADDRESS is no address, a size is no size, a section of an object file is named without a file,
 /// or the job is `addr`, which is that of `locate`, or `index`, which is that of `index`; then, and at each fault before the command, nothing is
 /// written. Of the input nothing is read then, nor where a file is named.
-pub fn work<'a, F: FileSource, R: Read, W: Write, D: DamageSink>(
+pub fn work<'a, F: FileSource, R: Source, W: Write, D: DamageSink>(
     alloc: Global,
     job: Option<Job<'a>>,
     files: &F,
@@ -147,10 +149,12 @@ pub fn work<'a, F: FileSource, R: Read, W: Write, D: DamageSink>(
     output: &mut W,
     damages: &mut D,
 ) -> Result<Survey, Stop<'a>>
-    ensures { (bytes : List ℕ) × Consumes (R.remaining input.old) (R.remaining input.new) bytes
+    ensures ran { (bytes : List ℕ) × Consumes (R.remaining input.old) (R.remaining input.new) bytes
         × (D.hears damages.old damages.old [] → Works (F.held files.now) (F.fails_with files.now)
         (option_map request_made job.entry) bytes (R.remaining input.new) (W.contents output.old)
         (W.contents output.new) (D.hears damages.old damages.new) result) }
+    ensures blames { Blames R.follows R.fails input.old input.new ((D.hears damages.old damages.old [])
+        × BlamesInput (F.held files.now) (option_map request_made job.entry) result) }
 {
     let Some(job) = job else {
         return Err(Stop::NotUnderstood);

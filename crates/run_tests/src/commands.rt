@@ -6,7 +6,6 @@ use dl_look::Place;
 use dl_num::Order;
 use dl_run::{Options, RunFault, SECTION_LIMIT, Summary, check, copy, dump, find};
 use std::alloc::Global;
-use std::io::Read;
 use std::process::Abort;
 use test_support::Sink;
 
@@ -27,7 +26,7 @@ pub enum Command {
 pub type Outcome<'a> = (Answer, &'a [u8]);
 
 /// What comes of a command over a section in Little of at most this many bytes, without string sections.
-fn start<R: Read>(
+fn start<R: dl_input::Source>(
     alloc: Global,
     command: Command,
     limit: u64,
@@ -49,7 +48,7 @@ fn start<R: Read>(
 }
 
 /// What a command answers.
-pub fn run<R: Read>(
+pub fn run<R: dl_input::Source>(
     alloc: Global,
     command: Command,
     limit: u64,
@@ -68,7 +67,7 @@ pub fn run<R: Read>(
 }
 
 /// Asserts what a command answers and writes.
-pub fn assert_run<R: Read>(
+pub fn assert_run<R: dl_input::Source>(
     rt: &impl Abort,
     alloc: Global,
     command: Command,

@@ -5,7 +5,6 @@ use crate::vectors::{CUT_OFF, SIX_ROWS, SMALLEST, THREE_ROWS};
 use dl_look::Place;
 use dl_run::{RunFault, SECTION_LIMIT};
 use std::alloc::Global;
-use std::io::Read;
 use std::process::Abort;
 use test_support::{Repeated, Sink, Source};
 
@@ -65,7 +64,12 @@ const UNITS: &[Case<'static>] = &[
     (NOWHERE, THREE_ROWS, 120, (TOO_LONG, &[])),
 ];
 
-fn assert_limit<R: Read>(rt: &impl Abort, alloc: Global, input: &mut R, case: &Case<'_>) {
+fn assert_limit<R: dl_input::Source>(
+    rt: &impl Abort,
+    alloc: Global,
+    input: &mut R,
+    case: &Case<'_>,
+) {
     let (command, _, limit, wanted) = *case;
     let output = &mut Sink::new(alloc, 1 << 20, 1 << 20);
     assert_run(rt, alloc, command, limit, input, output, wanted);

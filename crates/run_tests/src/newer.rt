@@ -7,7 +7,6 @@ use dl_memory::{NoMemory, System};
 use dl_num::Order;
 use dl_run::{Options, RunFault, SECTION_LIMIT, Summary, copy_to_5, dump};
 use std::alloc::Global;
-use std::io::Read;
 use std::process::Abort;
 use test_support::{Hoarding, Sink, Source, hoard_most};
 
@@ -84,7 +83,11 @@ fn directories(alloc: Global) -> Result<Directories, NoMemory> {
 }
 
 /// What the copy of a section without directories answers.
-fn copied<R: Read>(alloc: Global, input: &mut R, output: &mut Sink) -> Result<Summary, RunFault> {
+fn copied<R: dl_input::Source>(
+    alloc: Global,
+    input: &mut R,
+    output: &mut Sink,
+) -> Result<Summary, RunFault> {
     copy_to_5(
         alloc,
         input,

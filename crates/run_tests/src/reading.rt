@@ -3,7 +3,6 @@
 use dl_memory::System;
 use dl_run::{RunFault, read_strings};
 use std::alloc::Global;
-use std::io::Read;
 use std::process::Abort;
 use test_support::{Endless, Fault, Hoarding, Source, hoard_most};
 
@@ -11,7 +10,7 @@ use test_support::{Endless, Fault, Hoarding, Source, hoard_most};
 type Wanted<'a> = Result<&'a [u8], RunFault>;
 
 /// Asserts what is read of an input of at most `limit` bytes.
-fn assert_read<R: Read>(
+fn assert_read<R: dl_input::Source>(
     rt: &impl Abort,
     alloc: Global,
     input: &mut R,
@@ -77,7 +76,7 @@ fn each_read(rt: HostRuntime) {
 }
 
 /// Whether what is read are 64 sevens.
-fn are_sevens<R: Read>(alloc: Global, input: &mut R) -> Result<bool, RunFault> {
+fn are_sevens<R: dl_input::Source>(alloc: Global, input: &mut R) -> Result<bool, RunFault> {
     let read = read_strings(&System::new(alloc), input, 100)?;
     Ok(read.as_slice() == [7; 64].as_slice())
 }

@@ -51,6 +51,12 @@ impl Read for Source<'_> {
     }
 }
 
+impl dl_input::Source for Source<'_> {
+    fn read_next(&mut self, buffer: &mut [u8]) -> io::Result<usize> {
+        self.read(buffer)
+    }
+}
+
 /// Gives bytes without end.
 #[derive(Drop)]
 pub struct Endless;
@@ -59,6 +65,12 @@ impl Read for Endless {
     fn read(&mut self, buf: &mut [u8]) -> io::Result<usize> {
         buf.fill(7);
         Ok(buf.len())
+    }
+}
+
+impl dl_input::Source for Endless {
+    fn read_next(&mut self, buffer: &mut [u8]) -> io::Result<usize> {
+        self.read(buffer)
     }
 }
 
@@ -84,6 +96,12 @@ impl Read for Repeated<'_> {
         buf[..n].copy_from_slice(&self.rest[..n]);
         self.rest = &self.rest[n..];
         Ok(n)
+    }
+}
+
+impl dl_input::Source for Repeated<'_> {
+    fn read_next(&mut self, buffer: &mut [u8]) -> io::Result<usize> {
+        self.read(buffer)
     }
 }
 
@@ -124,5 +142,11 @@ impl Read for Hoarding<'_> {
         }
         self.given = self.given.saturating_add(1);
         Ok(1)
+    }
+}
+
+impl dl_input::Source for Hoarding<'_> {
+    fn read_next(&mut self, buffer: &mut [u8]) -> io::Result<usize> {
+        self.read(buffer)
     }
 }

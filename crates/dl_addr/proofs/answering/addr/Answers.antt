@@ -1,14 +1,16 @@
-use Rattle.std.proofs.Common.{sym, subst}
+use Rattle.std.proofs.Common.{◌∙◌, sym, subst}
 use Rattle.std.proofs.KnownBytes.{Appends-nil}
 use Rattle.dl_memory.specs.Refusals.{WasRefused}
 use Rattle.dl_run.specs.Commands.{strings_in}
 use Rattle.dl_addr.specs.Commands.{Locates}
 use Rattle.dl_addr.specs.Knowing.{Knows}
 use Rattle.dl_addr.proofs.AnsweringLemmas.{is_told}
+use Rattle.dl_run.proofs.BlameLemmas.{blames_where}
+use Rattle.dl_addr.proofs.BlameLemmas.{never_read, told_read}
 use Rattle.dl_addr.proofs.answering.addr.Goals as goal
 
-pub returns : goal.returns
-returns g c =
+pub returns-clause-ran : goal.returns-clause-ran
+returns-clause-ran g c =
     let options = c.args.options.now in
     let q = c.args.question.now in
     let s = strings_in options in
@@ -17,7 +19,7 @@ returns g c =
     let mid = g.W.Write.contents c.read_units-ended.new.output in
     let now = g.W.Write.contents c.print_all-printed.new.output in
     let left = g.R.Read.remaining c.read_units-ended.new.input in
-    let read = c.read_units-ended.ensures in
+    let read = c.read_units-ended.ensures.ran in
     let ran = read.2 (c.in-Ok.ensures.begins start) (Appends-nil start) in
     let new = c.read_units-ended.new.visitor in
     let knows = subst (Knows first q) c.new-strings.ensures c.in-Ok.ensures.knows in
@@ -31,3 +33,15 @@ returns g c =
       subst (Locates (refuses c.args.memory.now) options.dialect s q options.limit read.0 left start now)
           (sym c.told.ensures) locates,
     )
+
+pub returns-clause-blames : goal.returns-clause-blames
+returns-clause-blames g c =
+    let start = g.W.Write.contents c.args.output.now in
+    blames_where c.read_units-ended.ensures.blames (λ e. (
+      record {
+        tells = c.in-Ok.ensures.begins start;
+        out = Appends-nil start;
+        never = never_read c.in-Ok.locator;
+      },
+      told_read c.read_units-ended.result c.print_all-printed.result (sym c.told.ensures ∙ e),
+    ))

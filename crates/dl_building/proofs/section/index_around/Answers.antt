@@ -5,7 +5,7 @@ use Rattle.dl_building.proofs.section.index_around.Goals as goal
 
 pub returns-in-Ok : goal.returns-in-Ok
 returns-in-Ok c =
-    let read = c.in-Ok.ensures in
+    let read = c.in-Ok.ensures.ran in
     let rest = c.make_index_around.new.input.now in
     let o = c.args.options.now in
     let made = c.in-Ok.made in
@@ -14,7 +14,7 @@ returns-in-Ok c =
 
 pub returns-in-Err : goal.returns-in-Err
 returns-in-Err c =
-    let read = c.in-Err.ensures in
+    let read = c.in-Err.ensures.ran in
     let rest = c.make_index_around.new.input.now in
     let o = c.args.options.now in
     let fault = c.in-Err.fault in

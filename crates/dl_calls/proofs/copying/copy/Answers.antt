@@ -10,7 +10,7 @@ returns-in-Ok c =
     let ran = runs c.dialect_of.result (dialect_of c.args.how) c.dialect_of.ensures c.args.section.now
     c.copy.new.output.items
     c.new-copied.result.items c.new-copied.ensures.items (Some c.copy.new.input.now)
-    (Ok c.in-Ok.field-0) c.in-Ok.ensures in
+    (Ok c.in-Ok.field-0) c.in-Ok.ensures.ran in
     put_is (dialect_of c.args.how) c.args.section.now c.copy.new.output.items c.args.room.now c.put.new.room
     c.args.len.now c.put.new.len c.args.fault.now c.in-Ok.field-0 c.put.result ran
     (subst (λ (v : List ℕ). Puts v c.args.room.now c.put.new.room c.put.new.len c.put.result) c.as_slice.ensures.value
@@ -22,7 +22,7 @@ returns-in-Err-Damage c = (
   c.in-Err-Damage.field-0,
   runs c.dialect_of.result (dialect_of c.args.how) c.dialect_of.ensures c.args.section.now c.copy.new.output.items
       c.new-copied.result.items c.new-copied.ensures.items (Some c.copy.new.input.now)
-      (Err c.in-Err-Damage.field-0) c.in-Err-Damage.ensures,
+      (Err c.in-Err-Damage.field-0) c.in-Err-Damage.ensures.ran,
   subst (λ (x : RunFault). TellsFault x c.of.result) (sym c.in-Err-Damage.field-0-is) c.of.ensures,
   refl,
   refl,
@@ -34,7 +34,7 @@ returns-in-Err-Emit c = (
   c.in-Err-Emit.field-0,
   runs c.dialect_of.result (dialect_of c.args.how) c.dialect_of.ensures c.args.section.now c.copy.new.output.items
       c.new-copied.result.items c.new-copied.ensures.items (Some c.copy.new.input.now)
-      (Err c.in-Err-Emit.field-0) c.in-Err-Emit.ensures,
+      (Err c.in-Err-Emit.field-0) c.in-Err-Emit.ensures.ran,
   subst (λ (x : RunFault). TellsFault x c.of-in-Err-Emit.result) (sym c.in-Err-Emit.field-0-is)
       c.of-in-Err-Emit.ensures,
   refl,
@@ -49,7 +49,7 @@ returns-in-Err-ForeignUnit c = (
       c.in-Err-ForeignUnit.field-0-is (runs c.dialect_of.result (dialect_of c.args.how) c.dialect_of.ensures
       c.args.section.now c.copy.new.output.items
       c.new-copied.result.items c.new-copied.ensures.items (Some c.copy.new.input.now)
-      (Err c.in-Err-ForeignUnit.field-0) c.in-Err-ForeignUnit.ensures),
+      (Err c.in-Err-ForeignUnit.field-0) c.in-Err-ForeignUnit.ensures.ran),
   refl,
   refl,
   refl,
@@ -61,7 +61,7 @@ returns-in-Err-NoMemory c = (
   c.in-Err-NoMemory.field-0,
   runs c.dialect_of.result (dialect_of c.args.how) c.dialect_of.ensures c.args.section.now c.copy.new.output.items
       c.new-copied.result.items c.new-copied.ensures.items (Some c.copy.new.input.now) (Err c.in-Err-NoMemory.field-0)
-      c.in-Err-NoMemory.ensures,
+      c.in-Err-NoMemory.ensures.ran,
   subst (λ (x : RunFault). IsWant x) (sym c.in-Err-NoMemory.field-0-is) tt,
   refl,
   refl,
@@ -74,7 +74,7 @@ returns-in-Err-Read c = (
   c.in-Err-Read.field-0,
   runs c.dialect_of.result (dialect_of c.args.how) c.dialect_of.ensures c.args.section.now c.copy.new.output.items
       c.new-copied.result.items c.new-copied.ensures.items (Some c.copy.new.input.now) (Err c.in-Err-Read.field-0)
-      c.in-Err-Read.ensures,
+      c.in-Err-Read.ensures.ran,
   subst (λ (x : RunFault). IsWant x) (sym c.in-Err-Read.field-0-is) tt,
   refl,
   refl,
@@ -87,7 +87,7 @@ returns-in-Err-Write c = (
   c.in-Err-Write.field-0,
   runs c.dialect_of.result (dialect_of c.args.how) c.dialect_of.ensures c.args.section.now c.copy.new.output.items
       c.new-copied.result.items c.new-copied.ensures.items (Some c.copy.new.input.now) (Err c.in-Err-Write.field-0)
-      c.in-Err-Write.ensures,
+      c.in-Err-Write.ensures.ran,
   subst (λ (x : RunFault). IsWant x) (sym c.in-Err-Write.field-0-is) tt,
   refl,
   refl,
@@ -100,7 +100,7 @@ returns-in-Err-SectionTooLong c = (
   c.in-Err-SectionTooLong.field-0,
   runs c.dialect_of.result (dialect_of c.args.how) c.dialect_of.ensures c.args.section.now c.copy.new.output.items
       c.new-copied.result.items c.new-copied.ensures.items (Some c.copy.new.input.now)
-      (Err c.in-Err-SectionTooLong.field-0) c.in-Err-SectionTooLong.ensures,
+      (Err c.in-Err-SectionTooLong.field-0) c.in-Err-SectionTooLong.ensures.ran,
   subst (λ (x : RunFault). IsWant x) (sym c.in-Err-SectionTooLong.field-0-is) tt,
   refl,
   refl,
@@ -113,7 +113,7 @@ returns c = (
   c.in-Err-NotFound.field-0,
   runs c.dialect_of.result (dialect_of c.args.how) c.dialect_of.ensures c.args.section.now c.copy.new.output.items
       c.new-copied.result.items c.new-copied.ensures.items (Some c.copy.new.input.now) (Err c.in-Err-NotFound.field-0)
-      c.in-Err-NotFound.ensures,
+      c.in-Err-NotFound.ensures.ran,
   subst (λ (x : RunFault). IsWant x) (sym c.in-Err-NotFound.field-0-is) tt,
   refl,
   refl,

@@ -1,5 +1,6 @@
-use Rattle.std.proofs.Common.{ℕ, List, Option}
+use Rattle.std.proofs.Common.{ℕ, ◌≤◌, List, length, Option}
 use Rattle.std.specs.Io.KnownBytes.{Consumes}
+use Rattle.dl_input.specs.Failing.{Became}
 use Rattle.dl_addr.specs.Location.{Location}
 use Rattle.dl_dialogue.specs.Answers.{Determines}
 use Rattle.dl_dialogue.specs.Dialogues.{Talks}
@@ -13,3 +14,5 @@ invariant-loop g l =
     × ((f : ℕ → Option Location) → Determines (g.T.Tell.tells l.initial.teller) f
     → Talks (record { style = l.style; base = l.base; told = f }) l.hex (g.W.Write.contents l.initial.output)
     (g.W.Write.contents l.output) bs l.printer l.dialogue)
+    × (l.counter ≤ length bs)
+    × ((first : _) → Became g.R.Source.follows first l.initial.input → Became g.R.Source.follows first l.input)

@@ -5,12 +5,14 @@ use Rattle.dl_run.proofs.Names.{err_from_is_err_and}
 use Rattle.dl_run.specs.Commands.{strings_in}
 use Rattle.dl_making.proofs.MakerLemmas.{begins}
 use Rattle.dl_making.proofs.MakingLemmas.{Knows, fails_around, makes_around, was_told_around}
+use Rattle.dl_run.proofs.BlameLemmas.{blames_where, same_answer}
+use Rattle.dl_making.proofs.BlameLemmas.{never_read}
 use Rattle.dl_making.proofs.making.make_index_around.Goals as goal
 
-pub returns-in_err-survey : goal.returns-in_err-survey
-returns-in_err-survey g c =
+pub returns-in_err-survey-clause-ran : goal.returns-in_err-survey-clause-ran
+returns-in_err-survey-clause-ran g c =
     let p = err_from_is_err_and c.from_residual.result c.from_residual.ensures.1 in
-    let read = c.in_err-survey.ensures in
+    let read = c.in_err-survey.ensures.ran in
     let maker = c.new-maker.ensures in
     let options = c.args.options.now in
     let first = c.new-maker.result in
@@ -24,9 +26,9 @@ returns-in_err-survey g c =
           (read.2 (begins first None maker.runs maker.names (Appends-nil None)) (Appends-nil None)),
     )
 
-pub returns-in-Ok : goal.returns-in-Ok
-returns-in-Ok g c =
-    let read = c.in_ok-survey.ensures in
+pub returns-in-Ok-clause-ran : goal.returns-in-Ok-clause-ran
+returns-in-Ok-clause-ran g c =
+    let read = c.in_ok-survey.ensures.ran in
     let maker = c.new-maker.ensures in
     let options = c.args.options.now in
     let first = c.new-maker.result in
@@ -44,9 +46,24 @@ returns-in-Ok g c =
 
 pub told_index-requires : goal.told_index-requires
 told_index-requires g c =
-    let read = c.in_ok-survey.ensures in
+    let read = c.in_ok-survey.ensures.ran in
     let maker = c.new-maker.ensures in
     let options = c.args.options.now in
     let first = c.new-maker.result in
     was_told_around options.dialect first options.limit read.0 (g.R.Read.remaining c.read_units_around.new.input) c.read_units_around.new.visitor
     None None c.in_ok-survey.survey (read.2 (begins first None maker.runs maker.names (Appends-nil None)) (Appends-nil None))
+
+pub returns-in_err-survey-clause-blames : goal.returns-in_err-survey-clause-blames
+returns-in_err-survey-clause-blames g c =
+    let p = err_from_is_err_and c.from_residual.result c.from_residual.ensures.1 in
+    let maker = c.new-maker.ensures in
+    rw (p.1, p.2) (blames_where c.in_err-survey.ensures.blames (λ e. (
+      never_read c.new-maker.result (begins c.new-maker.result None maker.runs maker.names (Appends-nil None)),
+      same_answer _ e,
+    )))
+
+pub returns-in-Ok-clause-blames : goal.returns-in-Ok-clause-blames
+returns-in-Ok-clause-blames g c = blames_where c.in_ok-survey.ensures.blames (λ e. absurd cc)
+
+pub returns-clause-blames : goal.returns-clause-blames
+returns-clause-blames g c = blames_where c.in_ok-survey.ensures.blames (λ e. absurd cc)

@@ -6,11 +6,13 @@ use Rattle.dl_making.specs.Until.{is_refused}
 use Rattle.dl_making.proofs.MakerLemmas.{begins}
 use Rattle.dl_making.proofs.MakingLemmas.{Knows}
 use Rattle.dl_making.proofs.UntilLemmas.{told_until, until, refused_by}
+use Rattle.dl_run.proofs.BlameLemmas.{blames_where}
+use Rattle.dl_making.proofs.BlameLemmas.{never_read}
 use Rattle.dl_making.proofs.until.make_index_until.Goals as goal
 
-pub returns : goal.returns
-returns g c =
-    let read = c.read_units-ended.ensures in
+pub returns-clause-ran : goal.returns-clause-ran
+returns-clause-ran g c =
+    let read = c.read_units-ended.ensures.ran in
     let maker = c.new-maker.ensures in
     let options = c.args.options.now in
     let first = c.new-maker.result in
@@ -28,7 +30,7 @@ returns g c =
 
 pub index_until-requires : goal.index_until-requires
 index_until-requires g c =
-    let read = c.read_units-ended.ensures in
+    let read = c.read_units-ended.ensures.ran in
     let maker = c.new-maker.ensures in
     let first = c.new-maker.result in
     let ended = c.read_units-ended.result in
@@ -36,3 +38,11 @@ index_until-requires g c =
     (g.R.Read.remaining c.read_units-ended.new.input) c.read_units-ended.new.visitor None None ended
     (ap is_refused (sym c.err.ensures.value) ∙ some)
     (read.2 (begins first None maker.runs maker.names (Appends-nil None)) (Appends-nil None))
+
+pub returns-clause-blames : goal.returns-clause-blames
+returns-clause-blames g c =
+    let maker = c.new-maker.ensures in
+    blames_where c.read_units-ended.ensures.blames (λ e. (
+      never_read c.new-maker.result (begins c.new-maker.result None maker.runs maker.names (Appends-nil None)),
+      e,
+    ))

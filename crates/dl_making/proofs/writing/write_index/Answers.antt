@@ -4,12 +4,13 @@ use Rattle.std.proofs.lemmas.Result.{err_from_is_err_and}
 use Rattle.dl_print.specs.Output.{TellsOut}
 use Rattle.dl_run.specs.Commands.{strings_in}
 use Rattle.dl_making.proofs.WritingLemmas.{keeps_same, lost, not_made, written}
+use Rattle.dl_run.proofs.BlameLemmas.{blames_where, same_answer}
 use Rattle.dl_making.proofs.writing.write_index.Goals as goal
 
-pub returns-in_err-made : goal.returns-in_err-made
-returns-in_err-made g c =
+pub returns-in_err-made-clause-ran : goal.returns-in_err-made-clause-ran
+returns-in_err-made-clause-ran g c =
     let p = err_from_is_err_and c.from_residual.result c.from_residual.ensures.1 in
-    let read = c.in_err-made.ensures in
+    let read = c.in_err-made.ensures.ran in
     let options = c.args.options.now in
     rw (p.1, p.2) (
       read.0,
@@ -19,9 +20,9 @@ returns-in_err-made g c =
           (g.W.Write.contents c.args.output.now) _ read.2 (keeps_same (g.W.Write.contents c.args.output.now)),
     )
 
-pub returns-in-Ok : goal.returns-in-Ok
-returns-in-Ok g c =
-    let read = c.in_ok-made.ensures in
+pub returns-in-Ok-clause-ran : goal.returns-in-Ok-clause-ran
+returns-in-Ok-clause-ran g c =
+    let read = c.in_ok-made.ensures.ran in
     let options = c.args.options.now in
     let old = g.W.Write.contents c.args.output.now in
     let new = g.W.Write.contents c.put_bytes.new.output in (
@@ -32,9 +33,9 @@ returns-in-Ok g c =
           (subst (Appends old new) c.as_slice.ensures.value c.in-Ok.ensures),
     )
 
-pub returns : goal.returns
-returns g c =
-    let read = c.in_ok-made.ensures in
+pub returns-clause-ran : goal.returns-clause-ran
+returns-clause-ran g c =
+    let read = c.in_ok-made.ensures.ran in
     let options = c.args.options.now in
     let old = g.W.Write.contents c.args.output.now in
     let new = g.W.Write.contents c.put_bytes.new.output in (
@@ -44,3 +45,14 @@ returns g c =
           (g.R.Read.remaining c.make_index.new.input) old new c.in_ok-made.made c.in-Err.lost read.2
           (subst (λ text. TellsOut old new text c.in-Err.lost) c.as_slice.ensures.value c.in-Err.ensures),
     )
+
+pub returns-in_err-made-clause-blames : goal.returns-in_err-made-clause-blames
+returns-in_err-made-clause-blames g c =
+    let p = err_from_is_err_and c.from_residual.result c.from_residual.ensures.1 in
+    rw (p.1, p.2) (blames_where c.in_err-made.ensures.blames (λ e. same_answer _ e))
+
+pub returns-in-Ok-clause-blames : goal.returns-in-Ok-clause-blames
+returns-in-Ok-clause-blames g c = blames_where c.in_ok-made.ensures.blames (λ e. absurd cc)
+
+pub returns-clause-blames : goal.returns-clause-blames
+returns-clause-blames g c = blames_where c.in_ok-made.ensures.blames (λ e. absurd cc)

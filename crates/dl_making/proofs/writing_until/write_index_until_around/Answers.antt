@@ -1,7 +1,14 @@
+use Rattle.dl_run.proofs.BlameLemmas.{blames_where}
+use Rattle.dl_making.proofs.BlameLemmas.{made_read}
 use Rattle.dl_making.proofs.writing_until.write_index_until_around.Goals as goal
 
-pub returns : goal.returns
-returns g c =
-    let read = c.make_index_until_around-made.ensures in
+pub returns-clause-ran : goal.returns-clause-ran
+returns-clause-ran g c =
+    let read = c.make_index_until_around-made.ensures.ran in
     let made = c.make_index_until_around-made.result in
     (read.0, read.1, (made.ended, made.index, read.2, c.put_made.ensures))
+
+pub returns-clause-blames : goal.returns-clause-blames
+returns-clause-blames g c =
+    let made = c.make_index_until_around-made.result in
+    blames_where c.make_index_until_around-made.ensures.blames (made_read made.ended made.index _ _ c.put_made.result c.put_made.ensures)

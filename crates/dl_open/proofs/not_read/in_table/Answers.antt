@@ -9,7 +9,7 @@ use Rattle.dl_open.proofs.not_read.in_table.Goals as goal
 
 pub returns : goal.returns
 returns g c t given =
-    let (read, consumes, passes) = c.passed_over.ensures in
+    let (read, consumes, passes) = c.passed_over.ensures.ran in
     let left = line_remaining g.S.ReadAt.all_bytes c.passed_over.new.input in (
       read,
       left,

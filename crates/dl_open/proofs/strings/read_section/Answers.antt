@@ -3,6 +3,7 @@ use Rattle.dl_open.proofs.strings.read_section.Goals as goal
 
 pub returns : goal.returns
 returns g c content given =
-    section_stops {S = g.row.S.Denot} g.S.ReadAt.all_bytes c.args.path.now c.args.section c.in-Some.section content
-    c.stream_name-stream.result _ c.in-Err.fault c.at.result c.in-Some.is given c.stream_name-stream.ensures
-    c.in-Err.ensures c.at.ensures
+    section_stops {S = g.row.S.Denot} g.S.ReadAt.all_bytes g.S.ReadAt.fails_with c.args.path.now c.args.section
+    c.in-Some.section c.read_strings.new.input content c.stream_name-stream.result c.in-Err.fault c.at.result c.in-Some.is
+    given c.stream_name-stream.ensures c.in-Err.ensures.ran c.read_strings.ensures.blames
+    (rw c.last_fault.ensures at c.at.ensures)

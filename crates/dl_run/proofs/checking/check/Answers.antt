@@ -1,30 +1,40 @@
-use Rattle.dl_run.proofs.Names.{[], err_from_is_err_and, HasPrinted-out, summary_line}
-use Rattle.dl_run.proofs.CheckingLemmas.{failed, line_lost, line_out, nothing_printed}
+use Rattle.dl_run.proofs.Names.{[], Appends-nil, err_from_is_err_and, HasPrinted-out, summary_line}
+use Rattle.dl_run.proofs.CheckingLemmas.{begins, failed, line_lost, line_out, nothing_printed}
+use Rattle.dl_run.proofs.BlameLemmas.{blames_where}
 use Rattle.dl_run.proofs.checking.check.Goals as goal
 
 pub returns-in_err-summary : goal.returns-in_err-summary
 returns-in_err-summary g c =
     let p = err_from_is_err_and c.from_residual.result c.from_residual.ensures.1 in
-    rw (p.1, p.2) (failed _ _ _ _ _ _ _ _ _ tt _ c.in_err-summary.ensures)
+    rw (p.1, p.2) (record {
+      ran = failed _ _ _ _ _ _ _ _ _ tt _ c.in_err-summary.ensures.ran;
+      blames = blames_where c.in_err-summary.ensures.blames (λ e. (record { tells = begins tt; out = Appends-nil _; never = λ visits no. no }, e));
+    })
 
 pub returns-in_err-summary-2 : goal.returns-in_err-summary-2
 returns-in_err-summary-2 g c =
     let p = err_from_is_err_and c.from_residual-in_err-summary-2.result c.from_residual-in_err-summary-2.ensures.1 in
     let new = c.new-printer in
-    let nothing = nothing_printed _ _ _ _ _ _ _ _ _ tt _ c.in_ok-summary.ensures new.result new.ensures.nothing_pending
+    let nothing = nothing_printed _ _ _ _ _ _ _ _ _ tt _ c.in_ok-summary.ensures.ran new.result new.ensures.nothing_pending
     new.ensures.nothing_out in
-    rw (p.1, p.2) (line_lost _ _ _ _ _ _ _ _ _ tt _ c.in_ok-summary.ensures (g.W.Write.contents c.summary.new.output) _
-    (c.in_err-summary-2.ensures.printed _ [] nothing))
+    rw (p.1, p.2) (record {
+      ran = line_lost _ _ _ _ _ _ _ _ _ tt _ c.in_ok-summary.ensures.ran (g.W.Write.contents c.summary.new.output) _
+          (c.in_err-summary-2.ensures.printed _ [] nothing);
+      blames = blames_where c.in_ok-summary.ensures.blames (λ e. absurd cc);
+    })
 
 pub returns-in_err-flush : goal.returns-in_err-flush
 returns-in_err-flush g c =
     let p = err_from_is_err_and c.from_residual-in_err-flush.result c.from_residual-in_err-flush.ensures.1 in
     let new = c.new-printer in
-    let nothing = nothing_printed _ _ _ _ _ _ _ _ _ tt _ c.in_ok-summary.ensures new.result new.ensures.nothing_pending
+    let nothing = nothing_printed _ _ _ _ _ _ _ _ _ tt _ c.in_ok-summary.ensures.ran new.result new.ensures.nothing_pending
     new.ensures.nothing_out in
-    rw (p.1, p.2) (line_lost _ _ _ _ _ _ _ _ _ tt _ c.in_ok-summary.ensures (g.W.Write.contents c.flush.new.output) _
-    (c.in_err-flush.ensures.printed _ (summary_line c.in_ok-summary.summary)
-    (c.in_ok-summary-2.ensures.printed _ [] nothing)))
+    rw (p.1, p.2) (record {
+      ran = line_lost _ _ _ _ _ _ _ _ _ tt _ c.in_ok-summary.ensures.ran (g.W.Write.contents c.flush.new.output) _
+          (c.in_err-flush.ensures.printed _ (summary_line c.in_ok-summary.summary)
+          (c.in_ok-summary-2.ensures.printed _ [] nothing));
+      blames = blames_where c.in_ok-summary.ensures.blames (λ e. absurd cc);
+    })
 
 pub returns : goal.returns
 returns g c =
@@ -32,8 +42,11 @@ returns g c =
     let start = g.W.Write.contents c.args.output.now in
     let now = g.W.Write.contents c.flush.new.output in
     let line = summary_line c.in_ok-summary.summary in
-    let nothing = nothing_printed _ _ _ _ _ _ _ _ _ tt _ c.in_ok-summary.ensures new.result new.ensures.nothing_pending
+    let nothing = nothing_printed _ _ _ _ _ _ _ _ _ tt _ c.in_ok-summary.ensures.ran new.result new.ensures.nothing_pending
     new.ensures.nothing_out in
     let printed = c.in_ok-flush.ensures.printed start line (c.in_ok-summary-2.ensures.printed start [] nothing) in
-    line_out _ _ _ _ _ _ _ _ _ tt _ c.in_ok-summary.ensures now
-    (HasPrinted-out start now line c.flush.new.self printed c.in_ok-flush.ensures.empty)
+    record {
+      ran = line_out _ _ _ _ _ _ _ _ _ tt _ c.in_ok-summary.ensures.ran now
+          (HasPrinted-out start now line c.flush.new.self printed c.in_ok-flush.ensures.empty);
+      blames = blames_where c.in_ok-summary.ensures.blames (λ e. absurd cc);
+    }

@@ -5,19 +5,30 @@ use Rattle.dl_run.proofs.CopierLemmas.{begins}
 use Rattle.dl_run.proofs.CopyingAnswers.{copies}
 use Rattle.dl_run.proofs.PlainCopies.{copies_plainly}
 use Rattle.dl_run.proofs.RangeLemmas.{KeepsRanges, standard_keeps}
+use Rattle.dl_run.proofs.BlameLemmas.{blames_where, copies_never_read}
 use Rattle.dl_run.proofs.copying.copy.Goals as goal
 
 pub returns : goal.returns
 returns g c =
     let copier = c.new-copier in
     let dialect = version_5 c.args.options.now.dialect.order in
-    let read = c.read_units.ensures in
+    let read = c.read_units.ensures.ran in
     let ran = rw c.version_5.ensures at
     (read.2 (begins copier.result _ copier.ensures.nothing_pending copier.ensures.nothing_out) (Appends-nil _)) in
     let keeps : KeepsRanges dialect (made_by copier.result.becomes) =
-    rw copier.ensures.becomes (standard_keeps dialect (λ h w is. own_version dialect h w refl is)) in (
-      read.0,
-      read.1,
-      copies_plainly _ _ _ _ _ _ _
-          (rw copier.ensures.becomes at (copies _ _ _ _ copier.result _ _ _ copier.ensures.order keeps _ ran)),
-    )
+    rw copier.ensures.becomes (standard_keeps dialect (λ h w is. own_version dialect h w refl is)) in record {
+      ran = (
+        read.0,
+        read.1,
+        copies_plainly _ _ _ _ _ _ _
+            (rw copier.ensures.becomes at (copies _ _ _ _ copier.result _ _ _ copier.ensures.order keeps _ ran)),
+      );
+      blames = blames_where c.read_units.ensures.blames (λ e. (
+        record {
+          tells = begins copier.result _ copier.ensures.nothing_pending copier.ensures.nothing_out;
+          out = Appends-nil _;
+          never = copies_never_read copier.result;
+        },
+        e,
+      ));
+    }

@@ -3,6 +3,7 @@ use Rattle.dl_print.specs.declared.output.string_sections.StringSections.{String
 use Rattle.dl_run.proofs.Names.{Appends-nil, err_from_is_err_and, false, Place, Printed, refl, Seeker}
 use Rattle.dl_run.proofs.SeekerLemmas.{begins}
 use Rattle.dl_run.proofs.FindingAnswers.{failed, found, not_found}
+use Rattle.dl_run.proofs.BlameLemmas.{blames_where}
 use Rattle.dl_run.proofs.finding.find.Goals as goal
 
 -- the seeker that reads the section
@@ -16,27 +17,39 @@ returns-in_err-summary g c =
     let first = first_of c.args.place c.new.result c.new-strings.result c.new-2.result in
     let begun = begins first (g.W.Write.contents c.args.output.now) c.new.ensures.nothing_pending
     c.new.ensures.nothing_out refl c.new-2.ensures in
-    let read = c.in_err-summary.ensures in
-    rw (p.1, p.2) (read.0, read.1, failed _ _ _ _ _ first _ _ _ c.new-strings.ensures _ (read.2 begun (Appends-nil _)))
+    let read = c.in_err-summary.ensures.ran in
+    rw (p.1, p.2) (record {
+      ran = (read.0, read.1, failed _ _ _ _ _ first _ _ _ c.new-strings.ensures _ (read.2 begun (Appends-nil _)));
+      blames = blames_where c.in_err-summary.ensures.blames (λ e. (
+        record { tells = begun; out = Appends-nil _; never = λ visits no. no },
+        e,
+      ));
+    })
 
 pub returns-then-seeker : goal.returns-then-seeker
 returns-then-seeker g c =
     let first = first_of c.args.place c.new.result c.new-strings.result c.new-2.result in
     let begun = begins first (g.W.Write.contents c.args.output.now) c.new.ensures.nothing_pending
     c.new.ensures.nothing_out refl c.new-2.ensures in
-    let read = c.in_ok-summary.ensures in (
-      read.0,
-      read.1,
-      found _ _ _ _ _ first _ _ _ c.new-strings.ensures _ c.if-seeker.true (read.2 begun (Appends-nil _)),
-    )
+    let read = c.in_ok-summary.ensures.ran in record {
+      ran = (
+        read.0,
+        read.1,
+        found _ _ _ _ _ first _ _ _ c.new-strings.ensures _ c.if-seeker.true (read.2 begun (Appends-nil _)),
+      );
+      blames = blames_where c.in_ok-summary.ensures.blames (λ e. absurd cc);
+    }
 
 pub returns-else-seeker : goal.returns-else-seeker
 returns-else-seeker g c =
     let first = first_of c.args.place c.new.result c.new-strings.result c.new-2.result in
     let begun = begins first (g.W.Write.contents c.args.output.now) c.new.ensures.nothing_pending
     c.new.ensures.nothing_out refl c.new-2.ensures in
-    let read = c.in_ok-summary.ensures in (
-      read.0,
-      read.1,
-      not_found _ _ _ _ _ first _ _ _ c.new-strings.ensures _ c.if-seeker.false (read.2 begun (Appends-nil _)),
-    )
+    let read = c.in_ok-summary.ensures.ran in record {
+      ran = (
+        read.0,
+        read.1,
+        not_found _ _ _ _ _ first _ _ _ c.new-strings.ensures _ c.if-seeker.false (read.2 begun (Appends-nil _)),
+      );
+      blames = blames_where c.in_ok-summary.ensures.blames (λ e. absurd cc);
+    }

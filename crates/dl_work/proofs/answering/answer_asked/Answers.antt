@@ -14,7 +14,7 @@ returns-then-is_empty g c =
     let u = c.args.understood.now in
     let none : vec_len u.asked ≡ 0 = eqb-true (vec_len u.asked) 0 (sym c.is_empty.ensures ∙ c.if-is_empty.true) in
     let empty : length u.asked.items ≡ 0 = first_of (omega arith, search rules, grind (arith, common_steps)) in
-    let e = c.answer_lines.ensures in
+    let e = c.answer_lines.ensures.answers in
     let start = g.W.Write.contents c.args.output.now in (
       e.0,
       e.1,

@@ -39,7 +39,7 @@ pub returns : goal.returns
 returns g c =
     let told = c.in_ok-base.ensures in
     let q = c.question-question.ensures in
-    let e = c.on_input-answer.ensures in
+    let e = c.on_input-answer.ensures.ran in
     let asked = c.in_ok-base.field-0.asked in
     let len : vec_len asked ≡ length asked.items = first_of (omega arith, search rules, grind (arith, common_steps)) in (
       e.0,

@@ -1,4 +1,4 @@
-use Rattle.std.proofs.Common.{Some, refl, subst, sym}
+use Rattle.std.proofs.Common.{None, Some, refl, subst, sym}
 use Rattle.dl_file.specs.LineTable.{Content}
 use Rattle.dl_open.specs.Stops.{StopsAt}
 use Rattle.dl_open.specs.Tables.{stream_of}
@@ -7,7 +7,7 @@ use Rattle.dl_work.proofs.over_file.on_kept.Goals as goal
 
 pub returns-in-Err : goal.returns-in-Err
 returns-in-Err g c units t line ordered whole untold =
-    let does = c.in-Err.ensures in
+    let does = c.in-Err.ensures.ran in
     ran _ _ _ t _ _ _ (Some c.args.bytes.now) (g.D.DamageSink.hears c.args.damages.now c.run.new.damages) _ _ _ _ _ _
     (λ read.
     plain_known t.line c.args.bytes.now (Some c.run.new.input.now) read line) whole ordered refl
@@ -15,5 +15,5 @@ returns-in-Err g c units t line ordered whole untold =
       c.at.result,
       refl,
       subst (λ (content : Content). StopsAt c.args.path.now (stream_of content) c.in-Err.fault c.at.result) (sym line)
-          c.at.ensures,
+          (c.at.ensures None refl tt),
     )

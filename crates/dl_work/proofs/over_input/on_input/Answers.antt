@@ -1,10 +1,27 @@
-use Rattle.std.proofs.Common.{[], inr, refl}
+use Rattle.std.proofs.Common.{◌∙◌, [], inr, refl, subst, sym}
 use Rattle.std.proofs.KnownBytes.{Consumes-nil, Keeps-refl}
+use Rattle.dl_open.specs.Files.{FilesStop}
+use Rattle.dl_run.proofs.BlameLemmas.{blames_where}
+use Rattle.dl_run.specs.declared.fault.RunFault.{RunFault}
+use Rattle.dl_work.specs.Held.{section_seen}
+use Rattle.dl_work.proofs.BlameLemmas.{same_stop, stopped_read}
 use Rattle.dl_work.proofs.over_input.on_input.Goals as goal
 
-pub returns-in-Err : goal.returns-in-Err
-returns-in-Err g c = (
+pub returns-in-Err-clause-ran : goal.returns-in-Err-clause-ran
+returns-in-Err-clause-ran g c = (
   [],
   Consumes-nil _,
   λ untold. inr (c.in-Err.fault, c.in-Err.ensures, ((refl, refl, Keeps-refl _), untold)),
 )
+
+pub returns-in-Err-clause-blames : goal.returns-in-Err-clause-blames
+returns-in-Err-clause-blames g c first is = (
+  is,
+  λ e. absurd (e.2 (subst (λ (f : RunFault). FilesStop (g.F.FileSource.held c.args.files.now)
+      (section_seen c.args.section).line_str (section_seen c.args.section).strings f) (same_stop c.in-Err.fault e.1)
+      c.in-Err.ensures)),
+)
+
+pub returns-in-Ok-clause-blames : goal.returns-in-Ok-clause-blames
+returns-in-Ok-clause-blames g c =
+    blames_where c.run.ensures.blames (λ e. (e.0, stopped_read c.run.result (sym c.stopped.ensures ∙ e.1)))

@@ -4,11 +4,13 @@ use Rattle.dl_cmd.specs.Job.{request_made}
 use Rattle.dl_work.specs.Asked.{command_seen}
 use Rattle.dl_work.specs.Held.{section_seen}
 use Rattle.dl_work.proofs.WorkLemmas.{works_on_input, works_on_named}
+use Rattle.dl_run.proofs.BlameLemmas.{blames_where}
+use Rattle.dl_work.proofs.BlameLemmas.{blamed_input, file_named, not_understood}
 use Rattle.dl_work.proofs.working.work.Goals as goal
 
-pub returns : goal.returns
-returns g c =
-    let done = c.on_input.ensures in (
+pub returns-clause-ran : goal.returns-clause-ran
+returns-clause-ran g c =
+    let done = c.on_input.ensures.ran in (
       done.0,
       done.1,
       λ untold. works_on_input (g.F.FileSource.held c.args.files.now) (g.F.FileSource.fails_with c.args.files.now) _
@@ -17,8 +19,8 @@ returns g c =
           ∙ ap (option_map command_seen) c.in-Some-of.is) (sym c.in-None.ensures) c.section.ensures (done.2 untold),
     )
 
-pub returns-in-Some-file : goal.returns-in-Some-file
-returns-in-Some-file g c = (
+pub returns-in-Some-file-clause-ran : goal.returns-in-Some-file-clause-ran
+returns-in-Some-file-clause-ran g c = (
   [],
   Consumes-nil _,
   λ untold. works_on_named (g.F.FileSource.held c.args.files.now) (g.F.FileSource.fails_with c.args.files.now) _
@@ -27,17 +29,39 @@ returns-in-Some-file g c = (
       c.file_units.ensures c.part_name.ensures c.over_file.ensures (c.on_named.ensures untold),
 )
 
-pub returns-in_default : goal.returns-in_default
-returns-in_default g c = (
+pub returns-in_default-clause-ran : goal.returns-in_default-clause-ran
+returns-in_default-clause-ran g c = (
   [],
   Consumes-nil _,
   λ untold. rw c.in_default.is ((refl, refl, Keeps-refl _), untold),
 )
 
-pub returns-in_default-of : goal.returns-in_default-of
-returns-in_default-of g c =
+pub returns-in_default-of-clause-ran : goal.returns-in_default-of-clause-ran
+returns-in_default-of-clause-ran g c =
     let none = sym c.of.ensures ∙ ap (option_map command_seen) c.in_default-of.is in (
       [],
       Consumes-nil _,
       λ untold. rw (c.in-Some.is, none) ((refl, refl, Keeps-refl _), untold),
     )
+
+pub returns-clause-blames : goal.returns-clause-blames
+returns-clause-blames g c =
+    blames_where c.on_input.ensures.blames (λ e. (
+      e.0,
+      blamed_input (g.F.FileSource.held c.args.files.now) (request_made c.in-Some.job) _ (section_seen c.section.result)
+          c.on_input.result (ap (option_map request_made) c.in-Some.is) c.section.ensures e.1,
+    ))
+
+pub returns-in-Some-file-clause-blames : goal.returns-in-Some-file-clause-blames
+returns-in-Some-file-clause-blames g c first is = (
+  is,
+  λ e. absurd (file_named (g.F.FileSource.held c.args.files.now) (request_made c.in-Some.job) _ _ c.over_file.result
+      (ap (option_map request_made) c.in-Some.is) (sym c.in-Some-file.ensures) e.1),
+)
+
+pub returns-in_default-clause-blames : goal.returns-in_default-clause-blames
+returns-in_default-clause-blames g c first is = (is, λ e. absurd (not_understood (g.F.FileSource.held c.args.files.now) _ e.1))
+
+pub returns-in_default-of-clause-blames : goal.returns-in_default-of-clause-blames
+returns-in_default-of-clause-blames g c first is =
+    (is, λ e. absurd (not_understood (g.F.FileSource.held c.args.files.now) _ e.1))

@@ -1,8 +1,10 @@
 //! The input, read through one buffer.
-ghost use Rattle.std.specs.Prelude.{◌≡◌, ◌<◌, ◌≤◌, [], length, take, IfOk, OnErr};
+ghost use Rattle.std.specs.Prelude.{◌≡◌, ◌<◌, ◌≤◌, [], length, take, IfOk, IsErr, OnErr};
 ghost use Rattle.std.specs.Io.KnownBytes.{Consumes, Keeps, IsAtEnd};
+ghost use Rattle.dl_input.specs.Failing.{Blames};
 
-use std::io::{ErrorKind, Read};
+use crate::source::Source;
+use std::io::ErrorKind;
 
 /// How many interruptions of a read in a row are borne; the next one is a failure.
 pub const INTERRUPTIONS: u32 = 1000;
@@ -15,25 +17,27 @@ const READ: usize = 4096;
 pub struct ReadFailed;
 
 /// One read, which is repeated where it was interrupted. It answers how many bytes it gave.
-fn read_some<R: Read>(reader: &mut R, buffer: &mut [u8]) -> Result<usize, ReadFailed>
+fn read_some<R: Source>(reader: &mut R, buffer: &mut [u8]) -> Result<usize, ReadFailed>
     ensures within { IfOk result (λ n. n ≤ length buffer.new) }
     ensures ok { IfOk result (λ n.
         Consumes (R.remaining reader.old) (R.remaining reader.new) (take n buffer.new)) }
     ensures end { IfOk result (λ n.
         n ≡ 0 → 0 < length buffer.new → IsAtEnd (R.remaining reader.new)) }
     ensures err { OnErr result (Keeps (R.remaining reader.old) (R.remaining reader.new)) }
+    ensures blames { Blames R.follows R.fails reader.old reader.new (IsErr result) }
 {
-    for _ in 0..=INTERRUPTIONS {
-        match reader.read(buffer) {
+    let mut interrupted = 0;
+    loop {
+        match reader.read_next(buffer) {
             Ok(n) => return Ok(n),
             Err(error) => {
-                if error.kind() != ErrorKind::Interrupted {
+                if error.kind() != ErrorKind::Interrupted || interrupted == INTERRUPTIONS {
                     return Err(ReadFailed);
                 }
             }
         }
+        interrupted += 1;
     }
-    Err(ReadFailed)
 }
 
 /// The buffer through which an input is read.
@@ -49,13 +53,14 @@ impl Input {
     }
 
     /// The next bytes of the input, up to 4,096; none at its end.
-    pub fn next_piece<R: Read>(&mut self, reader: &mut R) -> Result<&[u8], ReadFailed>
+    pub fn next_piece<R: Source>(&mut self, reader: &mut R) -> Result<&[u8], ReadFailed>
         ensures ok { IfOk result (λ piece.
             Consumes (R.remaining reader.old) (R.remaining reader.new) piece.now) }
         ensures end { IfOk result (λ piece.
             piece.now ≡ [] → IsAtEnd (R.remaining reader.new)) }
         ensures short { IfOk result (λ piece. length piece.now ≤ 4096) }
         ensures err { OnErr result (Keeps (R.remaining reader.old) (R.remaining reader.new)) }
+        ensures blames { Blames R.follows R.fails reader.old reader.new (IsErr result) }
     {
         let n = read_some(reader, &mut self.buffer)?;
         Ok(&self.buffer[..n])

@@ -1,0 +1,31 @@
+-- Which reads are blamed.
+use Rattle.std.proofs.Common.{◌≡◌, Result, Ok, Err}
+use Rattle.dl_print.specs.declared.fault.WriteFault.{WriteFault}
+use Rattle.dl_print.specs.declared.summary.Summary.{Summary}
+use Rattle.dl_run.specs.declared.around.Survey.{Survey}
+use Rattle.dl_run.specs.declared.fault.RunFault.{RunFault}
+use Rattle.dl_run.specs.declared.fault.RunFault.TheVariants as fault
+use Rattle.dl_run.specs.Section.{Visit}
+use Rattle.dl_run.proofs.BlameLemmas.{same_answer}
+use Rattle.dl_addr.specs.declared.question.Found.{Found}
+use Rattle.dl_addr.specs.declared.locating.Locator.{Locator}
+use Rattle.dl_addr.specs.Locating.{StopsAt}
+use Rattle.dl_addr.specs.Printing.{told, told_around}
+use Rattle.std.specs.Prelude.{List}
+
+-- memory is wanted, and no read failed
+pub never_read : (first : Locator) (visits : List Visit) → ¬ StopsAt first visits fault.Read
+never_read first visits stops = let is = stops.is in absurd cc
+
+-- a failed read that is told is the one that ended the reading
+pub told_read : (ended : Result Summary RunFault) (printed : Result Found WriteFault) → told ended printed ≡ Err fault.Read
+    → ended ≡ Err fault.Read
+told_read ended (Err lost) e = absurd cc
+told_read (Ok summary) (Ok found) e = absurd cc
+told_read (Err f) (Ok found) e = same_answer f e
+
+pub told_around_read : (ended : Result Survey RunFault) (printed : Result Found WriteFault)
+    → told_around ended printed ≡ Err fault.Read → ended ≡ Err fault.Read
+told_around_read ended (Err lost) e = absurd cc
+told_around_read (Ok survey) (Ok found) e = absurd cc
+told_around_read (Err f) (Ok found) e = same_answer f e
