@@ -24,16 +24,16 @@ returns-in_default-extend_from_slice g c =
         l.bytes.items ++ piece,
         Consumes-trans _ _ _ _ _ l.invariant.read c.in-Ok.ensures.ok,
         (
-        omega (
-          arith,
-          c.if-limit-len.false,
-          c.len.ensures,
-          l.bytes.ok.0,
-          l.invariant.within,
-          length-append l.bytes.items piece,
-        ),
-        subst (g.M.Memory.refuses c.args.memory.now) (sym (length-append l.bytes.items piece))
-            c.in_default-extend_from_slice.ensures.refused,
+          omega (
+            arith,
+            c.if-limit-len.false,
+            c.len.ensures,
+            l.bytes.ok.0,
+            l.invariant.within,
+            length-append l.bytes.items piece,
+          ),
+          subst (g.M.Memory.refuses c.args.memory.now) (sym (length-append l.bytes.items piece))
+              c.in_default-extend_from_slice.ensures.refused,
         ),
       );
       blames = blames_next _ l.invariant.follows c.next_piece.ensures.blames (λ e. absurd cc);
