@@ -1,5 +1,5 @@
 -- Which reads are blamed.
-use Rattle.std.proofs.Common.{◌≡◌, ◌∙◌, ℕ, List, subst, sym, None, Some, Option, Result, Ok, Err}
+use Rattle.std.proofs.Common.{◌≡◌, ℕ, List, subst, sym, None, Some, Option, Result, Ok, Err}
 use Rattle.dl_addr.specs.declared.question.FoundAround.{FoundAround}
 use Rattle.dl_addr.specs.declared.question.Found.{Found}
 use Rattle.dl_addr.specs.declared.question.Found.TheVariants as found
@@ -62,7 +62,7 @@ pub file_named : {A : Type 0} (held : Text → Option (List ℕ)) (request : Req
 file_named held request asked path result is named blamed =
     let none = (subst (λ (r : Option Request). BlamesInput held r result) is blamed).1 in absurd cc
 
-pub not_understood : {A : Type 0} (held : Text → Option (List ℕ)) (asked : Option Request)
-    → ¬ BlamesInput {A = A} held asked (Err NotUnderstood)
+pub not_understood : (held : Text → Option (List ℕ)) (asked : Option Request)
+    → ¬ BlamesInput {A = Survey} held asked (Err NotUnderstood)
 not_understood held None blamed = blamed
 not_understood held (Some request) blamed = let is = blamed.0 in absurd cc

@@ -46,11 +46,10 @@ returns-in_default-of-clause-ran g c =
 
 pub returns-clause-blames : goal.returns-clause-blames
 returns-clause-blames g c =
-    blames_where c.on_input.ensures.blames (λ e. (
-      e.0,
-      blamed_input (g.F.FileSource.held c.args.files.now) (request_made c.in-Some.job) _ (section_seen c.section.result)
-          c.on_input.result (ap (option_map request_made) c.in-Some.is) c.section.ensures e.1,
-    ))
+    blames_where c.on_input.ensures.blames (λ e.
+    let input = blamed_input (g.F.FileSource.held c.args.files.now) (request_made c.in-Some.job) _
+    (section_seen c.section.result) c.on_input.result (ap (option_map request_made) c.in-Some.is) c.section.ensures e.1 in
+    (e.0, input.0, input.1))
 
 pub returns-in-Some-file-clause-blames : goal.returns-in-Some-file-clause-blames
 returns-in-Some-file-clause-blames g c first is = (
@@ -60,8 +59,10 @@ returns-in-Some-file-clause-blames g c first is = (
 )
 
 pub returns-in_default-clause-blames : goal.returns-in_default-clause-blames
-returns-in_default-clause-blames g c first is = (is, λ e. absurd (not_understood (g.F.FileSource.held c.args.files.now) _ e.1))
+returns-in_default-clause-blames g c first is = (is, λ e. absurd (not_understood (g.F.FileSource.held c.args.files.now)
+    (option_map request_made c.args.job) e.1))
 
 pub returns-in_default-of-clause-blames : goal.returns-in_default-of-clause-blames
 returns-in_default-of-clause-blames g c first is =
-    (is, λ e. absurd (not_understood (g.F.FileSource.held c.args.files.now) _ e.1))
+    (is, λ e. absurd (not_understood (g.F.FileSource.held c.args.files.now)
+    (option_map request_made c.args.job) e.1))
