@@ -54,7 +54,7 @@ pub fn answered<R: dl_input::Source, W: Write>(
 ) -> End {
     let memory = System::new(alloc);
     match open(INDEX) {
-        Ok(index) => end_of(answer_lines(&memory, &index, STYLE, 0, false, input, output)),
+        Ok(mut index) => end_of(answer_lines(&memory, &mut index, STYLE, 0, false, input, output)),
         Err(_) => End::Tell,
     }
 }

@@ -14,7 +14,8 @@ use Rattle.dl_addr.specs.Printing.{told, told_around}
 use Rattle.std.specs.Prelude.{List}
 
 -- memory is wanted, and no read failed
-pub never_read : (first : Locator) (visits : List Visit) → ¬ StopsAt first visits fault.Read
+pub never_read : {M : Type 0} {Refused : M → Type 0} (first : Locator M) (visits : List Visit)
+    → ¬ StopsAt Refused first visits fault.Read
 never_read first visits stops = let is = stops.is in absurd cc
 
 -- a failed read that is told is the one that ended the reading
