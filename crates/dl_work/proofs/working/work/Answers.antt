@@ -59,10 +59,15 @@ returns-in-Some-file-clause-blames g c first is = (
 )
 
 pub returns-in_default-clause-blames : goal.returns-in_default-clause-blames
-returns-in_default-clause-blames g c first is = (is, λ e. absurd (not_understood (g.F.FileSource.held c.args.files.now)
-    (option_map request_made c.args.job) e.1))
+returns-in_default-clause-blames g c first is = (
+  is,
+  λ e. absurd (not_understood (g.F.FileSource.held c.args.files.now)
+      (option_map request_made c.args.job) e.1),
+)
 
 pub returns-in_default-of-clause-blames : goal.returns-in_default-of-clause-blames
-returns-in_default-of-clause-blames g c first is =
-    (is, λ e. absurd (not_understood (g.F.FileSource.held c.args.files.now)
-    (option_map request_made c.args.job) e.1))
+returns-in_default-of-clause-blames g c first is = (
+  is,
+  λ e. absurd (not_understood (g.F.FileSource.held c.args.files.now)
+      (option_map request_made c.args.job) e.1),
+)
