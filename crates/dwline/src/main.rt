@@ -8,7 +8,6 @@ use dl_addr::Found;
 use dl_cmd::{Job, read_job, word_status};
 use dl_elf::ReadAt;
 use dl_index::IndexFault;
-use dl_memory::System;
 use dl_open::{FileSource, FileUnits, Shown, units_not_read};
 use dl_run::{RunFault, read_strings};
 use dl_work::{DamageLines, Stop, file_units, locate, looked_into, with_debug_file, work};
@@ -117,7 +116,7 @@ impl FileSource for System<'_> {
 
     fn read_file(&self, alloc: Global, path: &str, limit: u64) -> Result<Vec<u8>, RunFault> {
         match File::open(self.rt, path) {
-            Ok(mut file) => read_strings(&System::new(alloc), &mut file, limit),
+            Ok(mut file) => read_strings(&dl_memory::System::new(alloc), &mut file, limit),
             Err(_) => Err(RunFault::Read),
         }
     }
