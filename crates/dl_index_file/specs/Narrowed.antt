@@ -1,4 +1,4 @@
--- Among which starts the last one is that isn't above a number. No promise rests on how this is said.
+-- Among which starts the last one is that isn't above a number. No promise rests on this file.
 use Rattle.std.specs.Prelude.{ℕ, ◌+◌, ◌<◌, ◌≤◌}
 use Rattle.dl_index.specs.LookUp.{Rise}
 
