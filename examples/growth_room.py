@@ -37,11 +37,11 @@ def streams():
         (["dump"], nothing, 0), (["check"], nothing, 0), (["find", NONE], nothing, 1), (["copy"], nothing, 0),
         (["copy", "--to-5"], nothing, 0), (["addr", "-", FIRST], nothing, 0),
     ])
-    # Of a part an index has 16 stretches, a file and a text, in at most 256 bytes. While it is made, at most 110 bytes are
+    # Of a part an index has 16 stretches, a file and a text, in at most 256 bytes. While it is made, at most 44 bytes are
     # held beside it for each of the 17 rows, and 200 for the sequence. Where lines are asked of it, it may be read whole if it
     # has at most 2^24 bytes.
     index = 256
-    making = 17 * 110 + 200 + index
+    making = 17 * 44 + 200 + index
     yield Room("a file", 1024, 64, lambda n: {"input": lines([FIRST]), **elf(wide_units(n))}, [
         (["dump", "elf"], nothing, 0), (["check", "elf"], nothing, 0), (["find", NONE, "elf"], nothing, 1),
         (["copy", "elf"], nothing, 0), (ADDR, nothing, 0), (MAKE, lambda n: n * making, 0), (LINES, lambda n: n * making, 0),
