@@ -45,7 +45,7 @@ fn few_are_made(rt: HostRuntime) -> Result<(), Fail> {
     Ok(())
 }
 
-/// How many reads an address takes after another one, both so far above the first start.
+/// How many reads an address takes after another one.
 fn reads_after(
     file: &IndexFile<'_, Source<'_>>,
     source: &Source<'_>,
@@ -53,9 +53,9 @@ fn reads_after(
     second: u64,
 ) -> Result<u32, Fail> {
     let mut finder = FileFinder::of(file);
-    let _first = finder.find(BASE + first)?;
+    let _first = finder.find(first)?;
     let _reads = source.reads();
-    let _second = finder.find(BASE + second)?;
+    let _second = finder.find(second)?;
     Ok(source.reads())
 }
 
@@ -63,13 +63,13 @@ fn reads_after(
 /// some 3,000 addresses long.
 const NEAR: &[(u64, u64, u32)] = &[
     // Of the same stretch.
-    (53, 54, 0),
+    (BASE + 53, BASE + 54, 0),
     // Of another one in the piece: the numbers and rows of that alone.
-    (53, 61, 9),
-    (61, 53, 9),
+    (BASE + 53, BASE + 61, 9),
+    (BASE + 61, BASE + 53, 9),
     // Of another piece.
-    (53, 90_000, 15),
-    (90_000, 53, 15),
+    (BASE + 53, BASE + 90_000, 15),
+    (BASE + 90_000, BASE + 53, 15),
 ];
 
 #[test]
@@ -79,7 +79,7 @@ fn fewer_are_made_where_addresses_are_near(rt: HostRuntime) -> Result<(), Fail> 
     let file = open_index(&source)?;
     for (first, second, most) in NEAR {
         let reads = reads_after(&file, &source, *first, *second)?;
-        assert!(rt; reads <= *most, "{first} {second}: {reads}");
+        assert!(rt; reads <= *most, "{first:#x} {second:#x}: {reads}");
     }
     Ok(())
 }
