@@ -7,12 +7,12 @@ use Rattle.dl_work.specs.declared.stop.Stop.{Stop}
 use Rattle.dl_building.specs.FileBuilding.{file_words}
 
 -- what it does for these words, and an output that held nothing
-pub indexed : (f : List ℕ) (all keep_going : Bool) (w : IndexTexts) (start now : List ℕ) (r : Result Survey Stop)
+pub indexed : (refuses : ℕ → Type 0) (f : List ℕ) (all keep_going : Bool) (w : IndexTexts) (start now : List ℕ) (r : Result Survey Stop)
     → w ≡ file_words all keep_going → start ≡ []
-    → IndexesFor (λ path. Some f) (λ path error. ⊥) w (Some start) (Some now) r
-    → IndexesFile (λ path. Some f) (λ path error. ⊥) [] (file_words all keep_going) (Some []) (Some now) r
-indexed f all keep_going w start now r told none does =
+    → IndexesFor refuses (λ path. Some f) (λ path error. ⊥) w (Some start) (Some now) r
+    → IndexesFile refuses (λ path. Some f) (λ path error. ⊥) [] (file_words all keep_going) (Some []) (Some now) r
+indexed refuses f all keep_going w start now r told none does =
     subst
-    (λ (s : List ℕ). IndexesFor (λ path. Some f) (λ path error. ⊥) (file_words all keep_going) (Some s) (Some now) r)
+    (λ (s : List ℕ). IndexesFor refuses (λ path. Some f) (λ path error. ⊥) (file_words all keep_going) (Some s) (Some now) r)
     none
-    (subst (λ (x : IndexTexts). IndexesFor (λ path. Some f) (λ path error. ⊥) x (Some start) (Some now) r) told does)
+    (subst (λ (x : IndexTexts). IndexesFor refuses (λ path. Some f) (λ path error. ⊥) x (Some start) (Some now) r) told does)

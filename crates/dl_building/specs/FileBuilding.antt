@@ -1,5 +1,5 @@
 -- What the call answers that makes the index of an ELF file. f: the bytes of the file; all: all sequences count; keep_going:
--- damaged units are gone around.
+-- damaged units are gone around; refuses: for how many items memory is refused.
 use Rattle.std.specs.Prelude.{◌≡◌, ◌⊎◌, ℕ, Bool, false, List, [], Option, Some, None, unwrap_or, Result, Ok, Err}
 use Rattle.dl_calls.specs.declared.record.FaultRecord.{FaultRecord}
 use Rattle.dl_calls.specs.declared.status.Status.{Status}
@@ -24,19 +24,19 @@ file_words all keep_going = record {
 }
 
 -- the program over a file of these bytes, which no read fails of: what it writes, or why it stops
-abbrev pub IsFileBuilt : (f : List ℕ) (all keep_going : Bool) → Result Built Stop → Type 0
-IsFileBuilt f all keep_going (Ok built) =
-    IndexesFile (λ path. Some f) (λ path error. ⊥) [] (file_words all keep_going) (Some []) (Some built.index.items)
+abbrev pub IsFileBuilt : (refuses : ℕ → Type 0) (f : List ℕ) (all keep_going : Bool) → Result Built Stop → Type 0
+IsFileBuilt refuses f all keep_going (Ok built) =
+    IndexesFile refuses (λ path. Some f) (λ path error. ⊥) [] (file_words all keep_going) (Some []) (Some built.index.items)
     (Ok built.survey)
-IsFileBuilt f all keep_going (Err stop) =
+IsFileBuilt refuses f all keep_going (Err stop) =
     (now : Option (List ℕ))
-    × IndexesFile (λ path. Some f) (λ path error. ⊥) [] (file_words all keep_going) (Some []) now (Err stop)
+    × IndexesFile refuses (λ path. Some f) (λ path error. ⊥) [] (file_words all keep_going) (Some []) now (Err stop)
 
 -- `build_file`: of a room, a length and a fault, p, m and g before it, and q, n and h after it, only what the status says is
 -- written
-abbrev pub BuildsFile : (f : List ℕ) (all keep_going : Bool) (p q : List ℕ) (m n : ℕ) (g h : FaultRecord) → Status → Type 0
-BuildsFile f all keep_going p q m n g h end =
-    ((built : Built) × IsFileBuilt f all keep_going (Ok built)
+abbrev pub BuildsFile : (refuses : ℕ → Type 0) (f : List ℕ) (all keep_going : Bool) (p q : List ℕ) (m n : ℕ) (g h : FaultRecord) → Status → Type 0
+BuildsFile refuses f all keep_going p q m n g h end =
+    ((built : Built) × IsFileBuilt refuses f all keep_going (Ok built)
     × PutsIndex built.index.items built.survey.damaged p q n g h end)
-    ⊎ ((stop : Stop) × IsFileBuilt f all keep_going (Err stop) × (q ≡ p) × (n ≡ m)
+    ⊎ ((stop : Stop) × IsFileBuilt refuses f all keep_going (Err stop) × (q ≡ p) × (n ≡ m)
     × (h ≡ unwrap_or (stop_record stop) g) × (end ≡ status_by (stop_record stop)))

@@ -9,9 +9,9 @@ use crate::one_file::OneFile;
 use crate::room::put;
 use dl_calls::{FaultRecord, Status};
 use dl_cmd::{IndexWords, UnitWords};
+use dl_memory::Memory;
 use dl_run::Survey;
 use dl_work::{Stop, index};
-use std::alloc::Global;
 
 /// The index of a file.
 #[derive(Drop)]
@@ -42,18 +42,18 @@ fn words(all: bool, keep_going: bool) -> IndexWords<'static>
 }
 
 /// Makes the index of the ELF file that bytes are, as the program does.
-fn index_of_file(
-    alloc: Global,
+fn index_of_file<M: Memory>(
+    memory: &M,
     file: &[u8],
     all: bool,
     keep_going: bool,
 ) -> Result<Built, Stop<'static>>
-    ensures { IsFileBuilt file.now all keep_going result }
+    ensures { IsFileBuilt (M.refuses memory.now) file.now all keep_going result }
 {
     let words = words(all, keep_going);
     let files = OneFile { bytes: file };
-    let mut made = Vec::new(alloc);
-    match index(alloc, &words, &files, &mut made) {
+    let mut made = Vec::new(memory.alloc());
+    match index(memory, &words, &files, &mut made) {
         Ok(survey) => Ok(Built {
             index: made,
             survey,
@@ -68,8 +68,8 @@ fn index_of_file(
 /// Done: the index stands in the room's first bytes, and how many these are is told. NoRoom: this alone is told. Fault: the
 /// fault is told; and where units are damaged that are gone around, the index too. NoMemory: also where the index would
 /// have 2^32 texts. What isn't told stays as it was.
-pub fn build_file(
-    alloc: Global,
+pub fn build_file<M: Memory>(
+    memory: &M,
     file: &[u8],
     all: bool,
     keep_going: bool,
@@ -77,9 +77,9 @@ pub fn build_file(
     len: &mut usize,
     fault: &mut FaultRecord,
 ) -> Status
-    ensures { BuildsFile file.now all keep_going room.old room.new len.old len.new fault.old fault.new result }
+    ensures { BuildsFile (M.refuses memory.now) file.now all keep_going room.old room.new len.old len.new fault.old fault.new result }
 {
-    match index_of_file(alloc, file, all, keep_going) {
+    match index_of_file(memory, file, all, keep_going) {
         Ok(built) => put(
             built.index.as_slice(),
             built.survey.damaged,

@@ -136,9 +136,9 @@ pub extern "C" fn boxantrel_copy(
     fault: &mut FaultRecord,
 ) -> u32
     ensures { (status : Status) × (result ≡ status_code status)
-        × Copies (dialect_of how) section.now room.old room.new len.old len.new fault.old fault.new status }
+        × Copies (λ n. Unit {0}) (dialect_of how) section.now room.old room.new len.old len.new fault.old fault.new status }
 {
-    dl_calls::copy(alloc, section, how, room, len, fault).code()
+    dl_calls::copy(&System::new(alloc), section, how, room, len, fault).code()
 }
 
 /// As `dl_calls::path_at`.
@@ -303,9 +303,18 @@ pub extern "C" fn boxantrel_index_build(
     fault: &mut FaultRecord,
 ) -> u32
     ensures { (status : Status) × (result ≡ status_code status)
-        × BuildsFile file.now all keep_going room.old room.new len.old len.new fault.old fault.new status }
+        × BuildsFile (λ n. Unit {0}) file.now all keep_going room.old room.new len.old len.new fault.old fault.new status }
 {
-    dl_building::build_file(alloc, file, all, keep_going, room, len, fault).code()
+    dl_building::build_file(
+        &System::new(alloc),
+        file,
+        all,
+        keep_going,
+        room,
+        len,
+        fault,
+    )
+    .code()
 }
 
 /// As `dl_building::build_section`.

@@ -1,4 +1,5 @@
--- What the call that writes all units anew answers. s: the bytes of a section. DWARF 5, section 6.2.4.
+-- What the call that writes all units anew answers. s: the bytes of a section. refuses: for how many items memory is
+-- refused. DWARF 5, section 6.2.4.
 use Rattle.std.specs.Prelude.{◌≡◌, ◌<◌, ◌≤◌, ◌^◌, ⊤, ℕ, List, [], length, Option, Some, Result, Ok, Err}
 use Rattle.std.specs.Io.KnownBytes.{Consumes}
 use Rattle.dl_head.specs.declared.dialect.Dialect.{Dialect}
@@ -15,10 +16,10 @@ use Rattle.dl_calls.specs.Records.{record_of}
 use Rattle.dl_calls.specs.UnitCalls.{written_over}
 
 -- the command `copy` over a reader that gives s, and a writer that holds v at the end
-abbrev pub Runs : Dialect → (s v : List ℕ) → Result Summary RunFault → Type 0
-Runs dialect s v result =
+abbrev pub Runs : (refuses : ℕ → Type 0) → Dialect → (s v : List ℕ) → Result Summary RunFault → Type 0
+Runs refuses dialect s v result =
     (bytes : List ℕ) × (left : Option (List ℕ)) × Consumes (Some s) left bytes
-    × commands.Copies (version_5 dialect.order) (2 ^ 44) bytes left (Some []) (Some v) result
+    × commands.Copies refuses (version_5 dialect.order) (2 ^ 44) bytes left (Some []) (Some v) result
 
 -- `put`: of a room and a length, p before it, and q and n after it; v is the copy
 abbrev pub Puts : (v p q : List ℕ) (n : ℕ) → Status → Type 0
@@ -32,24 +33,24 @@ TellsFault (run.Damage offset kind) g = g ≡ record_of offset kind
 TellsFault (run.Emit offset f) g = g ≡ record_of offset UnitTooLong
 TellsFault other g = ⊥
 
--- a fault of the command by which memory, or the section's length, is to blame
+-- a fault of the command for which memory, or the section's length, is to blame
 abbrev pub IsWant : RunFault → Type 0
-IsWant (run.Damage offset kind) = ⊥
-IsWant (run.Emit offset f) = ⊥
-IsWant (run.ForeignUnit offset) = ⊥
-IsWant other = ⊤
+IsWant run.NoMemory = ⊤
+IsWant (run.Write out) = ⊤
+IsWant run.SectionTooLong = ⊤
+IsWant other = ⊥
 
 -- `copy`: of a room, a length and a fault, p, m and f before it, and q, n and g after it, only what the status says is
 -- written
-abbrev pub Copies : Dialect → (s p q : List ℕ) (m n : ℕ) (f g : FaultRecord) → Status → Type 0
-Copies dialect s p q m n f g status.Done =
-    (v : List ℕ) × (summary : Summary) × Runs dialect s v (Ok summary) × Puts v p q n status.Done × (g ≡ f)
-Copies dialect s p q m n f g status.NoRoom =
-    (v : List ℕ) × (summary : Summary) × Runs dialect s v (Ok summary) × Puts v p q n status.NoRoom × (g ≡ f)
-Copies dialect s p q m n f g status.Fault =
-    (v : List ℕ) × (r : RunFault) × Runs dialect s v (Err r) × TellsFault r g × (q ≡ p) × (n ≡ m)
-Copies dialect s p q m n f g status.OtherVersion =
-    (v : List ℕ) × (offset : ℕ) × Runs dialect s v (Err (run.ForeignUnit offset)) × (q ≡ p) × (n ≡ m) × (g ≡ f)
-Copies dialect s p q m n f g status.NoMemory =
-    (v : List ℕ) × (r : RunFault) × Runs dialect s v (Err r) × IsWant r × (q ≡ p) × (n ≡ m) × (g ≡ f)
-Copies dialect s p q m n f g status.NoAnswer = ⊥
+abbrev pub Copies : (refuses : ℕ → Type 0) → Dialect → (s p q : List ℕ) (m n : ℕ) (f g : FaultRecord) → Status → Type 0
+Copies refuses dialect s p q m n f g status.Done =
+    (v : List ℕ) × (summary : Summary) × Runs refuses dialect s v (Ok summary) × Puts v p q n status.Done × (g ≡ f)
+Copies refuses dialect s p q m n f g status.NoRoom =
+    (v : List ℕ) × (summary : Summary) × Runs refuses dialect s v (Ok summary) × Puts v p q n status.NoRoom × (g ≡ f)
+Copies refuses dialect s p q m n f g status.Fault =
+    (v : List ℕ) × (r : RunFault) × Runs refuses dialect s v (Err r) × TellsFault r g × (q ≡ p) × (n ≡ m)
+Copies refuses dialect s p q m n f g status.OtherVersion =
+    (v : List ℕ) × (offset : ℕ) × Runs refuses dialect s v (Err (run.ForeignUnit offset)) × (q ≡ p) × (n ≡ m) × (g ≡ f)
+Copies refuses dialect s p q m n f g status.NoMemory =
+    (v : List ℕ) × (r : RunFault) × Runs refuses dialect s v (Err r) × IsWant r × (q ≡ p) × (n ≡ m) × (g ≡ f)
+Copies refuses dialect s p q m n f g status.NoAnswer = ⊥

@@ -8,8 +8,34 @@ use crate::record::FaultRecord;
 use crate::room::fill;
 use crate::status::Status;
 use dl_head::FaultKind;
+use dl_memory::{Memory, NoMemory};
 use dl_run::{Options, RunFault, SECTION_LIMIT};
-use std::alloc::Global;
+use std::io;
+use std::io::{ErrorKind, Write};
+
+/// The copy of a section, held in memory.
+#[derive(Drop)]
+struct Held<'m, M> {
+    memory: &'m M,
+    bytes: Vec<u8>,
+}
+
+impl<M: Memory> Write for Held<'_, M> {
+    ghost use Rattle.std.specs.Prelude.{Some};
+
+    ghost contents = { λ held. Some held.bytes.items };
+
+    fn write(&mut self, bytes: &[u8]) -> io::Result<usize> {
+        match self.memory.extend_from_slice(&mut self.bytes, bytes) {
+            Ok(()) => Ok(bytes.len()),
+            Err(NoMemory) => Err(io::Error::from(ErrorKind::OutOfMemory)),
+        }
+    }
+
+    fn flush(&mut self) -> io::Result<()> {
+        Ok(())
+    }
+}
 
 /// Writes all units of a section anew, as `dl_run::copy` does.
 ///
@@ -17,15 +43,15 @@ use std::alloc::Global;
 /// told. OtherVersion: a unit isn't of version 5. Fault: the first fault is told; UnitTooLong also where a
 /// copy would have it, at the unit's offset. NoMemory: also where the section has more than 2^44 bytes. What
 /// isn't told stays as it was. The copy is held in memory until it is whole.
-pub fn copy(
-    alloc: Global,
+pub fn copy<M: Memory>(
+    memory: &M,
     section: &[u8],
     how: u8,
     room: &mut [u8],
     len: &mut usize,
     fault: &mut FaultRecord,
 ) -> Status
-    ensures { Copies (dialect_of how) section.now room.old room.new len.old len.new fault.old fault.new result }
+    ensures { Copies (M.refuses memory.now) (dialect_of how) section.now room.old room.new len.old len.new fault.old fault.new result }
 {
     let options = Options {
         dialect: dialect_of(how),
@@ -34,9 +60,12 @@ pub fn copy(
         limit: SECTION_LIMIT,
     };
     let mut input = section;
-    let mut copied = Vec::new(alloc);
-    match dl_run::copy(alloc, &mut input, &mut copied, &options) {
-        Ok(_) => put(copied.as_slice(), room, len),
+    let mut held = Held {
+        memory,
+        bytes: Vec::new(memory.alloc()),
+    };
+    match dl_run::copy(memory, &mut input, &mut held, &options) {
+        Ok(_) => put(held.bytes.as_slice(), room, len),
         Err(RunFault::Damage { offset, kind }) => {
             *fault = FaultRecord::of(offset, kind);
             Status::Fault
@@ -47,10 +76,10 @@ pub fn copy(
         }
         Err(RunFault::ForeignUnit { .. }) => Status::OtherVersion,
         Err(RunFault::NoMemory) => Status::NoMemory,
-        Err(RunFault::Read) => Status::NoMemory,
         Err(RunFault::Write { .. }) => Status::NoMemory,
         Err(RunFault::SectionTooLong) => Status::NoMemory,
-        Err(RunFault::NotFound) => Status::NoMemory,
+        Err(RunFault::Read) => unreachable!(),
+        Err(RunFault::NotFound) => unreachable!(),
     }
 }
 

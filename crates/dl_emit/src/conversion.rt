@@ -1,6 +1,6 @@
 //! Headers of versions 2 to 4, made headers of version 5. Sections 6.2.4 and 6.2.4.1; DWARF 4, section 6.2.4.
 
-ghost use Rattle.std.specs.Prelude.{◌≡◌, ◌++◌, ◌∷◌, [], ◌<◌, length, map, slice_get, None, Some, Option, IfOk, OnOk};
+ghost use Rattle.std.specs.Prelude.{◌≡◌, ◌≢◌, ◌++◌, ◌∷◌, [], ◌<◌, length, map, slice_get, None, Some, Option, IfOk, OnOk, OnErr};
 ghost use Rattle.std.specs.List.{list_any};
 ghost use Rattle.std.specs.Option.{option_copied};
 ghost use Rattle.dl_field.specs.Usable.{IsUsable};
@@ -58,13 +58,15 @@ const TIMED_AND_SIZED: [Pair; 4] = [PATH, DIRECTORY_INDEX, TIMESTAMP, SIZE];
 ///
 /// In version 5 directories and files are numbered from 0, before from 1 on; so each keeps its number. Directory 0 is
 /// the compilation directory, which is cut at its first zero byte, since a text of a table can't have one, and `.` where it
-/// isn't known. File 0 is file 1 again. Times and sizes of files are kept where any isn't 0.
+/// isn't known. File 0 is file 1 again. Times and sizes of files are kept where any isn't 0. Memory is taken for the tables
+/// alone, of a header of another version than 5.
 pub fn into_version_5(
     alloc: Global,
     header: Header,
     directory: Option<&[u8]>,
 ) -> Result<Header, AllocError>
-    ensures { IfOk result (λ h. h ≡ to_version_5 header (option_copied directory.entry)) }
+    ensures value { IfOk result (λ h. h ≡ to_version_5 header (option_copied directory.entry)) }
+    ensures older { OnErr result (header.params.version ≢ 5) }
 {
     if header.params().version == 5 {
         return Ok(header);

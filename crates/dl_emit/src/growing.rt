@@ -1,6 +1,6 @@
 //! The program of a unit, which grows by rows. Section 6.2.5.
 
-ghost use Rattle.std.specs.Prelude.{◌≡◌, ◌≤◌, ◌+◌, ◌++◌, ◌∷◌, [], ℕ, List, length, take, IfOk, IfErr, OnOk};
+ghost use Rattle.std.specs.Prelude.{◌≡◌, ◌≤◌, ◌+◌, ◌++◌, ◌∷◌, [], ℕ, List, length, take, IfOk, IfErr, OnOk, OnErr};
 ghost use Rattle.dl_field.specs.declared.params.Params.{Params};
 ghost use Rattle.dl_field.specs.Layout.{standard_params};
 ghost use Rattle.dl_field.specs.Usable.{IsUsable};
@@ -10,6 +10,7 @@ ghost use Rattle.dl_emit.specs.Grown.{IsGrown};
 ghost use Rattle.dl_head.specs.Dialect.{version_5};
 ghost use Rattle.dl_emit.specs.Laws.{IsUnitAgain};
 ghost use Rattle.dl_emit.specs.Writing.{WritesUnitHeader};
+ghost use Rattle.dl_memory.specs.Refusals.{IsRefused};
 
 use crate::bytes::BUFFER_LEN;
 use crate::conversion::params_of_version_5;
@@ -17,9 +18,10 @@ use crate::fault::EmitFault;
 use crate::program::{ROW, keep, put_row};
 use crate::unit::is_in_range;
 use dl_head::{Format, Header, Params, write_header};
+use dl_memory::{Memory, NoMemory};
 use dl_num::Order;
 use dl_rows::Row;
-use std::alloc::{AllocError, Global};
+use std::alloc::Global;
 use std::io::Write;
 use std::marker::Model;
 
@@ -112,12 +114,14 @@ impl Program {
         self.held = 0;
     }
 
-    /// A row more, or want of memory, and then it is as before.
+    /// A row more, or want of memory for a list of no more bytes than are held, and then it is as before.
     #[inline(never)]
-    pub fn push(&mut self, row: &Row) -> Result<(), AllocError>
+    pub fn push<M: Memory>(&mut self, memory: &M, row: &Row) -> Result<(), NoMemory>
         ensures grown { (h : Params) (rows : List Row) → IsGrown self.old self.old.order h rows
             → OnOk result (IsGrown self.new self.old.order h (rows ++ row.now ∷ [])) }
         ensures kept { IfErr result (λ _. self.new ≡ self.old) }
+        ensures refused { OnErr result
+            (IsRefused (M.refuses memory.now) (length self.old.first + length self.old.last)) }
         ensures order { self.new.order ≡ self.old.order }
     {
         if self.refused.is_some() {
@@ -127,7 +131,7 @@ impl Program {
             self.refused = Some(self.rows);
             return Ok(());
         }
-        let at = gather(&mut self.first, &self.last, self.held)?;
+        let at = gather(memory, &mut self.first, &self.last, self.held)?;
         self.held = put_row(
             &mut self.last,
             at,
@@ -186,15 +190,22 @@ impl Program {
 /// Adds the last bytes to those before them where there is no room beside them for a row, and answers how many last
 /// bytes there are then.
 #[inline(always)]
-fn gather(first: &mut Vec<u8>, last: &[u8; BUFFER_LEN], held: usize) -> Result<usize, AllocError>
+fn gather<M: Memory>(
+    memory: &M,
+    first: &mut Vec<u8>,
+    last: &[u8; BUFFER_LEN],
+    held: usize,
+) -> Result<usize, NoMemory>
     requires { held ≤ BUFFER_LEN }
     ensures items { IfOk result (λ n. first.new.items ++ take n last.now ≡ first.old.items ++ take held last.now) }
     ensures room { IfOk result (λ n. n + ROW ≤ BUFFER_LEN) }
     ensures first { IfErr result (λ _. first.new.items ≡ first.old.items) }
+    ensures refused { OnErr result
+        (M.refuses memory.now (length first.old.items + length (take held last.now))) }
 {
     if BUFFER_LEN - held >= ROW {
         return Ok(held);
     }
-    first.extend_from_slice(&last[..held])?;
+    memory.extend_from_slice(first, &last[..held])?;
     Ok(0)
 }

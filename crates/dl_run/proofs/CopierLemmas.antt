@@ -14,7 +14,7 @@ use Rattle.dl_run.proofs.HeadersTold.{header_told-append}
 -- ---- the program of the current unit
 
 -- it grew by these rows, under the header that visits tell
-abbrev pub Grows : Copier → List Visit → List Row → Type 0
+abbrev pub Grows : {M : Type 0} → Copier M → List Visit → List Row → Type 0
 Grows c visits rows = (h : HeaderData) → header_told None visits ≡ Some h
     → IsGrown c.program c.program.order (made_by c.becomes c.unit h).params rows
 
@@ -29,14 +29,14 @@ own_order p order h rows g = record {
 }
 
 -- a header was told
-pub grows_from : (visits : List Visit) (offset : ℕ) (g : HeaderData) (c : Copier) (order : Order)
+pub grows_from : {M : Type 0} (visits : List Visit) (offset : ℕ) (g : HeaderData) (c : Copier M) (order : Order)
     → IsGrown c.program order (made_by c.becomes c.unit g).params [] → Grows c (visits ++ of_header offset g ∷ []) []
 grows_from visits offset g c order grown h told =
     let same : g ≡ h = value_same g h (sym (header_told-append None visits (of_header offset g ∷ [])) ∙ told) in
     rw (← same) (own_order c.program order (made_by c.becomes c.unit g).params [] grown)
 
 -- a row was told
-pub grows_by : (visits : List Visit) (r : Row) (old new : Copier) (rows : List Row) → new.becomes ≡ old.becomes
+pub grows_by : {M : Type 0} (visits : List Visit) (r : Row) (old new : Copier M) (rows : List Row) → new.becomes ≡ old.becomes
     → new.unit ≡ old.unit → Grows old visits rows
     → ((h : Params) (rows : List Row) → IsGrown old.program old.program.order h rows
     → IsGrown new.program old.program.order h (rows ++ r ∷ []))
@@ -47,12 +47,12 @@ grows_by visits r old new rows becomes unit before grows h told =
     (grows params rows (before h (sym (header_told-append None visits (of_row r ∷ [])) ∙ told))))
 
 -- an open sequence was told
-pub grows_past_open : (visits : List Visit) (c : Copier) (rows : List Row) → Grows c visits rows
+pub grows_past_open : {M : Type 0} (visits : List Visit) (c : Copier M) (rows : List Row) → Grows c visits rows
     → Grows c (visits ++ of_open ∷ []) rows
 grows_past_open visits c rows before h told = before h (sym (header_told-append None visits (of_open ∷ [])) ∙ told)
 
 -- after an end there is no current unit
-pub grows_no_more : (visits : List Visit) (g : Option HeaderData) (c : Copier) → Grows c (visits ++ of_end g ∷ []) []
+pub grows_no_more : {M : Type 0} (visits : List Visit) (g : Option HeaderData) (c : Copier M) → Grows c (visits ++ of_end g ∷ []) []
 grows_no_more visits g c h told =
     absurd (none_is_some (sym (header_told-append None visits (of_end g ∷ [])) ∙ told))
 
@@ -74,13 +74,12 @@ front_stops old new before after refused offset part rest unit (fault.Write out)
   λ start text has. rw (← whole p.0)
       (TellsOut-front start new text part rest (record { out = out }) (p.1 start text has)),
 )
-front_stops old new before after refused offset part rest unit fault.NoMemory whole p = p
 front_stops old new before after refused offset part rest unit (fault.Emit n f) whole p = p
 front_stops old new before after refused offset part rest unit f whole p = absurd p
 
 -- ---- the copier
 
-module _ {first old : Copier} {start held : Option (List ℕ)} {visits : List Visit}
+module _ {M : Type 0} {first old : Copier M} {start held : Option (List ℕ)} {visits : List Visit}
     (s : Copying first old start held visits) where
   pub told_more : (visit : Visit) → told_to first (visits ++ visit ∷ [])
       ≡ visited (made_by first.becomes) first.program.order (goes old.unit s.rows s.text) visit
@@ -91,16 +90,17 @@ module _ {first old : Copier} {start held : Option (List ℕ)} {visits : List Vi
       ) refl
 
   -- it was told a visit at which it doesn't stop
-  pub copies_on : (new : Copier) (after : Option (List ℕ)) (visit : Visit) (rows : List Row) (text : List ℕ)
-      → new.becomes ≡ old.becomes → new.program.order ≡ old.program.order
+  pub copies_on : (new : Copier M) (after : Option (List ℕ)) (visit : Visit) (rows : List Row) (text : List ℕ)
+      → new.memory.now ≡ old.memory.now → new.becomes ≡ old.becomes → new.program.order ≡ old.program.order
       → visited (made_by first.becomes) first.program.order (goes old.unit s.rows s.text) visit
       ≡ goes new.unit rows text
       → Grows new (visits ++ visit ∷ []) rows → HasPrinted start after text new.printer
       → Copying first new start after (visits ++ visit ∷ [])
-  copies_on new after visit rows text becomes order comes grown printed = record {
+  copies_on new after visit rows text memory becomes order comes grown printed = record {
     rows = rows;
     text = text;
     becomes = becomes ∙ s.becomes;
+    memory = memory ∙ s.memory;
     order = order ∙ s.order;
     told = told_more visit ∙ comes;
     grown = grown;
@@ -108,12 +108,14 @@ module _ {first old : Copier} {start held : Option (List ℕ)} {visits : List Vi
   }
 
   -- it stands as before
-  pub still : (new : Copier) → new.becomes ≡ old.becomes → new.program ≡ old.program → new.unit ≡ old.unit
-      → new.printer ≡ old.printer → Copying first new start held visits
-  still new becomes program unit printer = record {
+  pub still : (new : Copier M) → new.memory.now ≡ old.memory.now → new.becomes ≡ old.becomes
+      → new.program ≡ old.program → new.unit ≡ old.unit → new.printer ≡ old.printer
+      → Copying first new start held visits
+  still new memory becomes program unit printer = record {
     rows = s.rows;
     text = s.text;
     becomes = becomes ∙ s.becomes;
+    memory = memory ∙ s.memory;
     order = ap (λ (p : ProgramData). p.order) program ∙ s.order;
     told = rw unit s.told;
     grown = rw (becomes, program, unit) s.grown;
@@ -121,9 +123,10 @@ module _ {first old : Copier} {start held : Option (List ℕ)} {visits : List Vi
   }
 
   -- it stops at a visit
-  pub stops_at_version : (offset version : ℕ)
-      → StopsIn copy_story first old start held visits (of_version offset version ∷ []) (fault.ForeignUnit offset)
-  stops_at_version offset version = (
+  pub stops_at_version : (Refused : M → Type 0) (offset version : ℕ)
+      → StopsIn (copy_story Refused) first old start held visits (of_version offset version ∷ [])
+      (fault.ForeignUnit offset)
+  stops_at_version Refused offset version = (
     of_version offset version ∷ [],
     [],
     refl,
@@ -131,16 +134,19 @@ module _ {first old : Copier} {start held : Option (List ℕ)} {visits : List Vi
   )
 
 -- a growth was refused at the next visit
-pub stops_for_memory : {first new : Copier} {start after : Option (List ℕ)} {visits : List Visit}
-    → Copying first new start after visits → (visit : Visit) → IsGrowth visit
-    → StopsIn copy_story first new start after visits (visit ∷ []) fault.NoMemory
-stops_for_memory {first} {new} {start} {after} {visits} s visit growth =
-    (visit ∷ [], [], refl, (visits, visit, refl, s, (visits, visit, refl, growth)))
+pub stops_for_memory : {M : Type 0} (Refused : M → Type 0) {first new : Copier M} {start after : Option (List ℕ)}
+    {visits : List Visit} → Copying first new start after visits → (visit : Visit)
+    → IsGrowth (Refused new.memory.now) new.becomes visit
+    → StopsIn (copy_story Refused) first new start after visits (visit ∷ []) fault.NoMemory
+stops_for_memory Refused {first} {new} {start} {after} {visits} s visit growth =
+    let reason = rw (s.memory, s.becomes) at growth in
+    (visit ∷ [], [], refl, (visits, visit, refl, s, (visits, visit, refl, reason)))
 
 -- a unit ended that has the header h
-module _ {first old : Copier} {start held : Option (List ℕ)} {visits : List Visit}
+module _ {M : Type 0} {first old : Copier M} {start held : Option (List ℕ)} {visits : List Visit}
     (s : Copying first old start held visits) (h std : HeaderData) (same : std ≡ made_by old.becomes old.unit h)
-    (new : Copier) (after : Option (List ℕ)) (becomes : new.becomes ≡ old.becomes) (program : new.program ≡ old.program)
+    (new : Copier M) (after : Option (List ℕ)) (memory : new.memory.now ≡ old.memory.now)
+    (becomes : new.becomes ≡ old.becomes) (program : new.program ≡ old.program)
     (unit_is : new.unit ≡ old.unit) where
   abbrev its_header : HeaderData
   its_header = made_by first.becomes old.unit h
@@ -160,20 +166,18 @@ module _ {first old : Copier} {start held : Option (List ℕ)} {visits : List Vi
       → Copying first new start after (visits ++ of_end (Some h) ∷ [])
   copies_unit unit_printed =
       let printed = in_its_order (Ok tt) unit_printed in
-      copies_on s new after (of_end (Some h)) [] (s.text ++ unit) becomes (ap (λ (p : ProgramData). p.order) program)
+      copies_on s new after (of_end (Some h)) [] (s.text ++ unit) memory becomes (ap (λ (p : ProgramData). p.order) program)
       (rw (printed.0, unit_is) refl) (grows_no_more visits (Some h) new) (printed.1 start s.text s.printed)
 
-  stops_by : (f : RunFault) → Printing first.program.order its_header (Err f)
-      → StopsIn copy_story first new start after visits (of_end (Some h) ∷ []) f
-  stops_by (fault.Write out) printed = (
+  stops_by : (Refused : M → Type 0) (f : RunFault) → Printing first.program.order its_header (Err f)
+      → StopsIn (copy_story Refused) first new start after visits (of_end (Some h) ∷ []) f
+  stops_by Refused (fault.Write out) printed = (
     of_end (Some h) ∷ [],
     [],
     refl,
     rw (told_more s (of_end (Some h)), printed.0) (printed.1 start s.text s.printed),
   )
-  stops_by fault.NoMemory printed =
-      stops_for_memory (rw printed.1.0 (still s new becomes program unit_is printed.1.1)) (of_end (Some h)) tt
-  stops_by (fault.Emit offset f) printed = (
+  stops_by Refused (fault.Emit offset f) printed = (
     of_end (Some h) ∷ [],
     [],
     refl,
@@ -181,23 +185,24 @@ module _ {first old : Copier} {start held : Option (List ℕ)} {visits : List Vi
       visits,
       of_end (Some h),
       refl,
-      rw printed.2.0 (still s new becomes program unit_is printed.2.1),
+      rw printed.2.0 (still s new memory becomes program unit_is printed.2.1),
       rw (told_more s (of_end (Some h)), printed.1, printed.0) refl,
     ),
   )
-  stops_by f printed = absurd printed
+  stops_by Refused f printed = absurd printed
 
-  pub stops_at_unit : (f : RunFault) → Printing old.program.order std (Err f)
-      → StopsIn copy_story first new start after visits (of_end (Some h) ∷ []) f
-  stops_at_unit f printed = stops_by f (in_its_order (Err f) printed)
+  pub stops_at_unit : (Refused : M → Type 0) (f : RunFault) → Printing old.program.order std (Err f)
+      → StopsIn (copy_story Refused) first new start after visits (of_end (Some h) ∷ []) f
+  stops_at_unit Refused f printed = stops_by Refused f (in_its_order (Err f) printed)
 
 -- no visit was told yet
-pub begins : (first : Copier) (start : Option (List ℕ)) → first.printer.pending ≡ [] → first.printer.out ≡ 0
+pub begins : {M : Type 0} (first : Copier M) (start : Option (List ℕ)) → first.printer.pending ≡ [] → first.printer.out ≡ 0
     → Copying first first start start []
 begins first start pending out = record {
   rows = [];
   text = [];
   becomes = refl;
+  memory = refl;
   order = refl;
   told = refl;
   grown = λ h told. absurd (none_is_some told);

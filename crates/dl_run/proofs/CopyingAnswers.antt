@@ -8,7 +8,7 @@ use Rattle.dl_run.proofs.Names.{stop_in, stopped, StopsAt, Summary, sym, take, T
 use Rattle.dl_run.proofs.Names.{units_as, Visit, visited, VisitorStops, WithinUnit, Write, zero-add, ℕ}
 use Rattle.dl_run.proofs.Names.fault
 use Rattle.dl_run.proofs.CopierLemmas.{told_more}
-use Rattle.dl_run.proofs.CopyingSections.{StopIs, Now, Heard, heard_of}
+use Rattle.dl_run.proofs.CopyingSections.{StopIs, Now, Heard, heard_of, WantsBy}
 use Rattle.dl_run.proofs.Fronts.{none_is_some, value_same}
 use Rattle.dl_run.proofs.RangeLemmas.{KeepsRanges, too_long}
 use Rattle.dl_run.proofs.SectionLemmas.{has_front}
@@ -25,22 +25,29 @@ stop_adds made order offset rows text own (of_end (Some h)) f e =
       by unit (Some g) e = cc
 stop_adds made order offset rows text own visit f e = cc
 
-module _ (dialect : Dialect) (limit : ℕ) (bytes : List ℕ) (left : Option (List ℕ))
-    (first new : Copier) (start now : Option (List ℕ)) (own : first.program.order ≡ dialect.order)
+module _ {M : Type 0} (Refused : M → Type 0) (dialect : Dialect) (limit : ℕ) (bytes : List ℕ) (left : Option (List ℕ))
+    (first new : Copier M) (start now : Option (List ℕ)) (own : first.program.order ≡ dialect.order)
     (ranges : KeepsRanges dialect (made_by first.becomes)) where
   abbrev made : Made
   made = made_by first.becomes
 
+  -- memory is wanted for the copy of these bytes
+  abbrev Wants : List ℕ → Type 0
+  Wants = WantsBy (Refused first.memory.now) first.becomes dialect
+
   abbrev Copied : Result Summary RunFault → Type 0
-  Copied result = CopiesAs made dialect limit bytes left start now result
+  Copied result = CopiesAs made Wants dialect limit bytes left start now result
+
+  abbrev HeardSo : (n : ℕ) (units : List (List ℕ)) (b : List ℕ) (more : List Visit) (text : List ℕ) → Progress → Type 0
+  HeardSo = Heard (Refused first.memory.now) first.becomes made dialect
 
   abbrev s : List ℕ
   s = take limit bytes
 
   heard_in : (units : List (List ℕ)) (b : List ℕ) (heard more : List Visit) → AllByRecursion (IsUnit dialect) units
-      → section_visits dialect units b ≡ heard ++ more → Heard made dialect 0 units b more [] (told_to first heard)
+      → section_visits dialect units b ≡ heard ++ more → HeardSo 0 units b more [] (told_to first heard)
   heard_in units b heard more each e =
-      rw own (heard_of made dialect 0 first.unit (length (concat units)) [] units b heard more each (omega arith) e)
+      rw own (heard_of (Refused first.memory.now) first.becomes made dialect 0 first.unit (length (concat units)) [] units b heard more each (omega arith) e)
 
   -- these units are copied, and their copies are out
   abbrev HasMade : List (List ℕ) → Type 0
@@ -48,7 +55,7 @@ module _ (dialect : Dialect) (limit : ℕ) (bytes : List ℕ) (left : Option (Li
 
   -- without a fault all units are copied, and b isn't of another version
   all_copied : (units : List (List ℕ)) (b : List ℕ) → AllByRecursion (IsUnit dialect) units
-      → Settled copy_story first start now (section_visits dialect units b) (Copying first new start now)
+      → Settled (copy_story Refused) first start now (section_visits dialect units b) (Copying first new start now)
       → (foreign_in dialect b ≡ None) × HasMade units
   all_copied units b each settled =
       let f = heard_in units b (section_visits dialect units b) [] each (simp append-nil) in
@@ -58,7 +65,7 @@ module _ (dialect : Dialect) (limit : ℕ) (bytes : List ℕ) (left : Option (Li
       (all.1, rw same (f.copied, rw (settled.tells.told, is.0) at settled.out))
 
   text_is : {units : List (List ℕ)} {b : List ℕ} {more : List Visit} (p : Progress)
-      (h : Heard made dialect 0 units b more [] p) → text_in p ≡ units_as made dialect 0 h.done
+      (h : HeardSo 0 units b more [] p) → text_in p ≡ units_as made dialect 0 h.done
   text_is (goes offset rows t) h = h.now.0
   text_is (stopped t f) h = h.now.0
 
@@ -75,7 +82,7 @@ module _ (dialect : Dialect) (limit : ℕ) (bytes : List ℕ) (left : Option (Li
       )
 
   module _ (units : List (List ℕ)) (b back : List ℕ) (begun : HasBegun dialect s units b back) (f : RunFault)
-      (stops : VisitorStops copy_story first new start now (section_visits dialect units b) f) where
+      (stops : VisitorStops (copy_story Refused) first new start now (section_visits dialect units b) f) where
     has : HasUnits dialect s units (b ++ back)
     has = begun.has
 
@@ -90,7 +97,7 @@ module _ (dialect : Dialect) (limit : ℕ) (bytes : List ℕ) (left : Option (Li
         cc (append_assoc (concat after) b back, append_assoc c tail back) in
         record { has = rw rest at (has_front dialect s units done after (b ++ back) all has); in_unit = within }
 
-    no_memory : Sound dialect b → StopsAt first (stops.before ++ stops.visit ∷ []) fault.NoMemory
+    no_memory : Sound dialect b → StopsAt Refused first (stops.before ++ stops.visit ∷ []) fault.NoMemory
         → Copied (Err fault.NoMemory)
     no_memory sound (before, visit, same, growth) =
         let h = heard_in units b stops.before (stops.visit ∷ stops.more) has.each stops.whole in
@@ -103,14 +110,14 @@ module _ (dialect : Dialect) (limit : ℕ) (bytes : List ℕ) (left : Option (Li
           after_units h.done h.after a.c a.tail h.whole a.whole a.within,
           a.sound,
           a.not_foreign,
-          inr a.grows,
+          inr a.wants,
           (h.copied, rw is.0 at out_before),
         )
 
     abbrev heard : List Visit
     heard = stops.before ++ stops.visit ∷ []
 
-    told : Heard made dialect 0 units b stops.more [] (told_to first heard)
+    told : HeardSo 0 units b stops.more [] (told_to first heard)
     told = heard_in units b heard stops.more has.each (stops.whole ∙ simp append_assoc)
 
     by_stop : HasMade told.done → (g : RunFault) → StopIs made dialect told.place told.after b g → Copied (Err g)
@@ -143,7 +150,7 @@ module _ (dialect : Dialect) (limit : ℕ) (bytes : List ℕ) (left : Option (Li
         by (told_to first heard) (sym (told_more stops.tells stops.visit)) told.now reason where
           by : (p : Progress)
               → visited made first.program.order (goes new.unit stops.tells.rows stops.tells.text) stops.visit ≡ p
-              → Now made dialect told.place told.after b stops.more (units_as made dialect 0 told.done) p
+              → Now (Refused first.memory.now) first.becomes made dialect told.place told.after b stops.more (units_as made dialect 0 told.done) p
               → stop_in p ≡ Some f → Copied (Err f)
           by (goes offset rows text) at is reason = absurd (none_is_some reason)
           by (stopped text g) at is reason =
@@ -154,7 +161,7 @@ module _ (dialect : Dialect) (limit : ℕ) (bytes : List ℕ) (left : Option (Li
 
   settled : (units : List (List ℕ)) (b back : List ℕ) (f : RunFault)
       → EndsAs dialect limit bytes left units b back (Err f)
-      → Settled copy_story first start now (section_visits dialect units b) (Copying first new start now)
+      → Settled (copy_story Refused) first start now (section_visits dialect units b) (Copying first new start now)
       → Copied (Err f)
   settled units b back fault.NoMemory ends s =
       let (no_version, all) = all_copied units b ends.0.has.each s in
@@ -166,7 +173,7 @@ module _ (dialect : Dialect) (limit : ℕ) (bytes : List ℕ) (left : Option (Li
   settled units b back f ends s =
       let (no_version, all) = all_copied units b ends.0.each s in (units, b, back, ends, no_version, all)
 
-  pub copies : (result : Result Summary RunFault) → Ran copy_story dialect limit bytes left first new start now result
+  pub copies : (result : Result Summary RunFault) → Ran (copy_story Refused) dialect limit bytes left first new start now result
       → Copied result
   copies (Ok summary) (inl (units, ends, is)) = (units, ends, (all_copied units [] ends.0.each is).1)
   copies (Ok summary) (inr (_, _, _, _, is)) = absurd is.tells

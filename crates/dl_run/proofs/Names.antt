@@ -111,9 +111,9 @@ pub use Rattle.dl_dirs.specs.Compilation.{directory_by}
 pub use Rattle.dl_run.specs.Checking.{check_story}
 pub use Rattle.dl_run.specs.Commands.{AreCopied, AreMade, Checks, copied_unit, copied_units, Copies, CopiesAs}
 pub use Rattle.dl_run.specs.Commands.{CopiesBy, Dumps, Finds, found_text, IsCopied, IsFound, IsMade, Made}
-pub use Rattle.dl_run.specs.Commands.{NoneAnswers, to_5, unit_as, units_as}
+pub use Rattle.dl_run.specs.Commands.{NoneAnswers, to_5, unit_as, units_as, WantsForRows, IsOlder}
 pub use Rattle.dl_run.specs.CopyLaws.{AreNewer, CopiesAreNewer, CopiesAreUnits, IsAnew, IsNewer}
-pub use Rattle.dl_run.specs.Copying.{comes_to, copy_story, Copying, ended_as, goes, IsGrowth, made_by, Progress}
+pub use Rattle.dl_run.specs.Copying.{comes_to, copy_story, Copying, ended_as, goes, IsGrowth, made_by, Progress, RenewsTables}
 pub use Rattle.dl_run.specs.Copying.{stop_in, stopped, StopsAt, text_in, told_to, visited}
 pub use Rattle.dl_run.specs.Dumping.{dump_story, HasDumped}
 pub use Rattle.dl_run.specs.Finding.{answer_under, find_story, finds, HasFound, Search, search_of, Seeks, seeks, seen}
@@ -133,6 +133,7 @@ pub use Rattle.dl_run.specs.UnitPrinted.{PrintsPart}
 pub use Rattle.dl_run.specs.UnitsRead.{counted, is_foreign, row_told, rows_told, UnitsAre}
 pub use Rattle.dl_run.specs.Visiting.{header_told, Hears, Ran, Settled, StopsIn, Story, VisitorStops}
 pub use Rattle.dl_run.specs.declared.checking.Checker.{Checker}
+pub use Rattle.dl_run.specs.declared.copying.Becomes.{Becomes}
 pub use Rattle.dl_run.specs.declared.copying.Copier.{Copier}
 pub use Rattle.dl_run.specs.declared.dumping.Dumper.{Dumper}
 pub use Rattle.dl_run.specs.declared.fault.RunFault.{RunFault}

@@ -1,12 +1,12 @@
 -- What `copy` and `copy_to_5` answer and write of bytes is one thing alone.
 use Rattle.dl_run.proofs.Names.{◌++◌, ◌+◌, ◌∙◌, ◌∷◌, ◌≡◌, [], add-zero, answer, ap, append-nil, append_assoc, Appends}
-use Rattle.dl_run.proofs.Names.{AreMade, arith, concat, CopiesAs, CopyIsFront, CopyTo5IsFront, Dialect, directory_by}
+use Rattle.dl_run.proofs.Names.{◌⊎◌, AreMade, arith, Bool, concat, CopiesAs, CopyIsFront, CopyTo5IsFront, Dialect, directory_by}
 use Rattle.dl_run.proofs.Names.{EmitFault, EndsAs, Err, foreign_in, foreign_is_not_refused, foreign_known}
 use Rattle.dl_run.proofs.Names.{foreign_no_header, foreign_on, fronts, HasBegun, HasUnits, header_in, header_of}
-use Rattle.dl_run.proofs.Names.{header_on, HeaderData, inl, inr, IsMade, IsOfBytes, IsUnit, length, length-append}
+use Rattle.dl_run.proofs.Names.{header_on, HeaderData, inl, inr, IsMade, IsOfBytes, IsOlder, IsUnit, length, length-append}
 use Rattle.dl_run.proofs.Names.{List, Made, nil_from_length, None, Ok, OneCopy, OneCopying, OneCopyingTo5, OneCopyTo5}
 use Rattle.dl_run.proofs.Names.{Option, refl, refusal, refused_in_header, Result, RunFault, Some, Summary, sym, take}
-use Rattle.dl_run.proofs.Names.{TellsOut, to_5, TooLong, unit_rows, units_as, Write, zero-add, ℕ}
+use Rattle.dl_run.proofs.Names.{TellsOut, to_5, TooLong, true, unit_rows, units_as, WantsForRows, Write, zero-add, ℕ}
 use Rattle.dl_run.proofs.Names.fault
 use Rattle.dl_run.proofs.CopyingAnswers.{copies}
 use Rattle.dl_run.proofs.EventLemmas.{header_parts}
@@ -68,17 +68,17 @@ module _ (made : Made) (dialect : Dialect) (limit : ℕ) (bytes : List ℕ) wher
       (units : List (List ℕ)) × AreMade made dialect 0 units × Appends start now (units_as made dialect 0 units)
       × Stops units result
 
-  copied_of : (left start now : Option (List ℕ)) (result : Result Summary RunFault) → IsOfBytes result
-      → CopiesAs made dialect limit bytes left start now result → Copied start now result
-  copied_of left start now (Ok summary) of (units, ends, out) =
+  copied_of : (Wants : List ℕ → Type 0) (left start now : Option (List ℕ)) (result : Result Summary RunFault)
+      → IsOfBytes result → CopiesAs made Wants dialect limit bytes left start now result → Copied start now result
+  copied_of Wants left start now (Ok summary) of (units, ends, out) =
       (units, out.0, out.1, at_end (left, [], [], of, ends, refl))
-  copied_of left start now (Err (fault.ForeignUnit offset)) of (units, b, back, v, has, place, foreign, out) =
+  copied_of Wants left start now (Err (fault.ForeignUnit offset)) of (units, b, back, v, has, place, foreign, out) =
       (units, out.0, out.1, at_version (b, back, v, has, foreign) (rw place refl))
-  copied_of left start now (Err (fault.Emit offset f)) of (units, u, back, h, has, place, header, is, long, out) =
+  copied_of Wants left start now (Err (fault.Emit offset f)) of (units, u, back, h, has, place, header, is, long, out) =
       (units, out.0, out.1, at_unit (u, back, h, f, has, header, rw place at is) (rw (place, long) refl))
-  copied_of left start now (Err fault.NoMemory) of copies = absurd of
-  copied_of left start now (Err (fault.Write n)) of copies = absurd of
-  copied_of left start now (Err f) of c = (c.0, c.5.0, c.5.1, at_end (left, c.1, c.2, of, c.3, c.4))
+  copied_of Wants left start now (Err fault.NoMemory) of copies = absurd of
+  copied_of Wants left start now (Err (fault.Write n)) of copies = absurd of
+  copied_of Wants left start now (Err f) of c = (c.0, c.5.0, c.5.1, at_end (left, c.1, c.2, of, c.3, c.4))
 
   -- ---- what two of these say of the same bytes
 
@@ -191,33 +191,33 @@ module _ (made : Made) (dialect : Dialect) (limit : ℕ) (bytes : List ℕ) wher
       cc (fewer.1, nothing, append-nil units)
 
 -- where what becomes of headers is known
-module _ (made : Made) (dialect : Dialect) (limit : ℕ) (bytes : List ℕ) (left left2 start start2 now now2 : Option
-    (List ℕ)) where
+module _ (made : Made) (Wants Wants2 : List ℕ → Type 0) (dialect : Dialect) (limit : ℕ) (bytes : List ℕ)
+    (left left2 start start2 now now2 : Option (List ℕ)) where
   one_answer : (result result2 : Result Summary RunFault) → IsOfBytes result → IsOfBytes result2
-      → CopiesAs made dialect limit bytes left start now result
-      → CopiesAs made dialect limit bytes left2 start2 now2 result2 → result ≡ result2
+      → CopiesAs made Wants dialect limit bytes left start now result
+      → CopiesAs made Wants2 dialect limit bytes left2 start2 now2 result2 → result ≡ result2
   one_answer result result2 of of2 copies copies2 =
-      let c = copied_of made dialect limit bytes left start now result of copies in
-      let c2 = copied_of made dialect limit bytes left2 start2 now2 result2 of2 copies2 in
+      let c = copied_of made dialect limit bytes Wants left start now result of copies in
+      let c2 = copied_of made dialect limit bytes Wants2 left2 start2 now2 result2 of2 copies2 in
       let same = same_units made dialect limit bytes result result2 c.0 c2.0 c.1 c2.1 c.3 c2.3 in
       same_answer made dialect limit bytes c.0 result result2 c.3 (rw (← same) at c2.3)
 
   one_text : (result result2 : Result Summary RunFault) → IsOfBytes result → IsOfBytes result2
-      → CopiesAs made dialect limit bytes left start now result
-      → CopiesAs made dialect limit bytes left2 start2 now2 result2
+      → CopiesAs made Wants dialect limit bytes left start now result
+      → CopiesAs made Wants2 dialect limit bytes left2 start2 now2 result2
       → (text : List ℕ) × Appends start now text × Appends start2 now2 text
   one_text result result2 of of2 copies copies2 =
-      let c = copied_of made dialect limit bytes left start now result of copies in
-      let c2 = copied_of made dialect limit bytes left2 start2 now2 result2 of2 copies2 in
+      let c = copied_of made dialect limit bytes Wants left start now result of copies in
+      let c2 = copied_of made dialect limit bytes Wants2 left2 start2 now2 result2 of2 copies2 in
       let same = same_units made dialect limit bytes result result2 c.0 c2.0 c.1 c2.1 c.3 c2.3 in
       (units_as made dialect 0 c.0, c.2, rw same c2.2)
 
   text_is_front : (out : ℕ) (result2 : Result Summary RunFault) → IsOfBytes result2
-      → CopiesAs made dialect limit bytes left start now (Err (fault.Write out))
-      → CopiesAs made dialect limit bytes left2 start2 now2 result2
+      → CopiesAs made Wants dialect limit bytes left start now (Err (fault.Write out))
+      → CopiesAs made Wants2 dialect limit bytes left2 start2 now2 result2
       → (text : List ℕ) × TellsOut start now text (fault.Write out) × Appends start2 now2 text
   text_is_front out result2 of2 (units, back, has, copied, tells) copies2 =
-      let c2 = copied_of made dialect limit bytes left2 start2 now2 result2 of2 copies2 in
+      let c2 = copied_of made dialect limit bytes Wants2 left2 start2 now2 result2 of2 copies2 in
       let fewer = fewer_copies made dialect limit bytes units c2.0 back result2 has copied c2.3 in
       let text = ap (units_as made dialect 0) fewer.1 ∙ units_as-append made dialect 0 units fewer.0 in (
         units_as made dialect 0 c2.0,
@@ -226,26 +226,42 @@ module _ (made : Made) (dialect : Dialect) (limit : ℕ) (bytes : List ℕ) (lef
         c2.2,
       )
 
+-- memory was refused
+abbrev Refused : (ℕ → Bool) → ℕ → Type 0
+Refused test k = test k ≡ true
+
+abbrev ForRows : (ℕ → Bool) → Dialect → List ℕ → Type 0
+ForRows test = WantsForRows (Refused test)
+
+abbrev For5 : (ℕ → Bool) → Dialect → List ℕ → Type 0
+For5 test dialect b = ForRows test dialect b ⊎ IsOlder dialect b
+
 pub one_copying : OneCopying
-one_copying dialect limit bytes left left2 start start2 now now2 result result2 of of2 copies copies2 =
-    one_answer standard dialect limit bytes left left2 start start2 now now2 result result2 of of2
-    (copies_as _ _ _ _ _ _ _ copies) (copies_as _ _ _ _ _ _ _ copies2)
+one_copying r r2 dialect limit bytes left left2 start start2 now now2 result result2 of of2 copies copies2 =
+    one_answer standard (ForRows r dialect) (ForRows r2 dialect) dialect limit bytes left left2 start start2 now now2
+    result result2 of of2 (copies_as dialect (Refused r) limit bytes left start now result copies)
+    (copies_as dialect (Refused r2) limit bytes left2 start2 now2 result2 copies2)
 
 pub one_copy : OneCopy
-one_copy dialect limit bytes left left2 start start2 now now2 result result2 of of2 copies copies2 =
-    one_text standard dialect limit bytes left left2 start start2 now now2 result result2 of of2
-    (copies_as _ _ _ _ _ _ _ copies) (copies_as _ _ _ _ _ _ _ copies2)
+one_copy r r2 dialect limit bytes left left2 start start2 now now2 result result2 of of2 copies copies2 =
+    one_text standard (ForRows r dialect) (ForRows r2 dialect) dialect limit bytes left left2 start start2 now now2
+    result result2 of of2 (copies_as dialect (Refused r) limit bytes left start now result copies)
+    (copies_as dialect (Refused r2) limit bytes left2 start2 now2 result2 copies2)
 
 pub copy_is_front : CopyIsFront
-copy_is_front dialect limit bytes left left2 start start2 now now2 out result2 of2 copies copies2 =
-    text_is_front standard dialect limit bytes left left2 start start2 now now2 out result2 of2
-    (copies_as dialect limit bytes left start now (Err (fault.Write out)) copies) (copies_as _ _ _ _ _ _ _ copies2)
+copy_is_front r r2 dialect limit bytes left left2 start start2 now now2 out result2 of2 copies copies2 =
+    text_is_front standard (ForRows r dialect) (ForRows r2 dialect) dialect limit bytes left left2 start start2 now now2
+    out result2 of2 (copies_as dialect (Refused r) limit bytes left start now (Err (fault.Write out)) copies)
+    (copies_as dialect (Refused r2) limit bytes left2 start2 now2 result2 copies2)
 
 pub one_copying_to_5 : OneCopyingTo5
-one_copying_to_5 directories = one_answer (to_5 (directory_by directories))
+one_copying_to_5 r r2 directories dialect =
+    one_answer (to_5 (directory_by directories)) (For5 r dialect) (For5 r2 dialect) dialect
 
 pub one_copy_to_5 : OneCopyTo5
-one_copy_to_5 directories = one_text (to_5 (directory_by directories))
+one_copy_to_5 r r2 directories dialect =
+    one_text (to_5 (directory_by directories)) (For5 r dialect) (For5 r2 dialect) dialect
 
 pub copy_to_5_is_front : CopyTo5IsFront
-copy_to_5_is_front directories = text_is_front (to_5 (directory_by directories))
+copy_to_5_is_front r r2 directories dialect =
+    text_is_front (to_5 (directory_by directories)) (For5 r dialect) (For5 r2 dialect) dialect

@@ -1,7 +1,11 @@
 -- Where what becomes of a header doesn't depend on the place of its unit, as in `copy`, copies are told by units alone.
+use Rattle.dl_memory.specs.Refusals.{WasRefused}
+use Rattle.dl_run.specs.declared.copying.Becomes.TheVariants as becomes
 use Rattle.dl_run.proofs.Names.{◌+◌, ◌∷◌, ◌≡◌, [], AreCopied, AreMade, copied_units, Copies, CopiesAs, CopiesBy}
-use Rattle.dl_run.proofs.Names.{Dialect, IsCopied, length, List, Made, Option, refl, Result, RunFault, subst, Summary}
-use Rattle.dl_run.proofs.Names.{sym, units_as, with_standard_opcodes, ℕ}
+use Rattle.dl_run.proofs.Names.{Dialect, Err, inl, inr, IsCopied, length, List, Made, Ok, Option, refl, Result, RunFault}
+use Rattle.dl_run.proofs.Names.{subst, Summary, sym, units_as, WantsForRows, with_standard_opcodes, ℕ}
+use Rattle.dl_run.proofs.Names.fault
+use Rattle.dl_run.proofs.CopyingSections.{WantsBy}
 
 abbrev pub standard : Made
 standard offset h = with_standard_opcodes h
@@ -15,17 +19,37 @@ module _ (dialect : Dialect) where
   same_units offset [] = refl
   same_units offset (u ∷ units) = λ i. IsCopied dialect u × same_units (offset + length u) units i
 
-  module _ (limit : ℕ) (bytes : List ℕ) (left start now : Option (List ℕ)) (result : Result Summary RunFault) where
-    one_thing : CopiesAs standard dialect limit bytes left start now result
-        ≡ Copies dialect limit bytes left start now result
-    one_thing = λ i.
-        CopiesBy (λ units. same_units 0 units i) (λ units. same_text 0 units i) standard dialect limit bytes left start
-        now result
+  module _ (refuses : ℕ → Type 0) (limit : ℕ) (bytes : List ℕ) (left start now : Option (List ℕ)) where
+    one_thing : (result : Result Summary RunFault)
+        → CopiesAs standard (WantsForRows refuses dialect) dialect limit bytes left start now result
+        ≡ Copies refuses dialect limit bytes left start now result
+    one_thing result = λ i.
+        CopiesBy (λ units. same_units 0 units i) (λ units. same_text 0 units i) standard (WantsForRows refuses dialect)
+        dialect limit bytes left start now result
 
-    pub copies_plainly : CopiesAs standard dialect limit bytes left start now result
-        → Copies dialect limit bytes left start now result
-    copies_plainly = subst (λ (T : Type 0). T) one_thing
+    -- no tables are made anew
+    of_rows : (b : List ℕ) → WantsBy (WasRefused refuses) becomes.Itself dialect b → WantsForRows refuses dialect b
+    of_rows b (inl wants) = wants
+    of_rows b (inr (is, h, header, renews)) = absurd renews
 
-    pub copies_as : Copies dialect limit bytes left start now result
-        → CopiesAs standard dialect limit bytes left start now result
-    copies_as = subst (λ (T : Type 0). T) (sym one_thing)
+    by_rows : (result : Result Summary RunFault)
+        → CopiesAs standard (WantsBy (WasRefused refuses) becomes.Itself dialect) dialect limit bytes left start now result
+        → CopiesAs standard (WantsForRows refuses dialect) dialect limit bytes left start now result
+    by_rows (Err fault.NoMemory) (units, b, back, begun, sound, own, inl cell, copied) =
+        (units, b, back, begun, sound, own, inl cell, copied)
+    by_rows (Err fault.NoMemory) (units, b, back, begun, sound, own, inr wants, copied) =
+        (units, b, back, begun, sound, own, inr (of_rows b wants), copied)
+    by_rows (Err (fault.Write out)) is = is
+    by_rows (Err (fault.ForeignUnit offset)) is = is
+    by_rows (Err (fault.Emit offset f)) is = is
+    by_rows (Err f) is = is
+    by_rows (Ok summary) is = is
+
+    pub copies_plainly : (result : Result Summary RunFault)
+        → CopiesAs standard (WantsBy (WasRefused refuses) becomes.Itself dialect) dialect limit bytes left start now result
+        → Copies refuses dialect limit bytes left start now result
+    copies_plainly result is = subst (λ (T : Type 0). T) (one_thing result) (by_rows result is)
+
+    pub copies_as : (result : Result Summary RunFault) → Copies refuses dialect limit bytes left start now result
+        → CopiesAs standard (WantsForRows refuses dialect) dialect limit bytes left start now result
+    copies_as result = subst (λ (T : Type 0). T) (sym (one_thing result))

@@ -5,6 +5,7 @@ use Rattle.std.specs.Prelude.{Result, Ok, Err}
 use Rattle.std.specs.List.{AllByRecursion, concat}
 use Rattle.std.specs.Option.{option_copied, option_map_or}
 use Rattle.std.specs.Io.KnownBytes.{Appends, Keeps}
+use Rattle.dl_memory.specs.Refusals.{WasRefused}
 use Rattle.dl_head.specs.declared.dialect.Dialect.{Dialect}
 use Rattle.dl_head.specs.Built.{with_standard_opcodes}
 use Rattle.dl_head.specs.Header.{foreign_in}
@@ -116,10 +117,9 @@ IsCopied dialect u =
 abbrev pub AreCopied : Dialect → List (List ℕ) → Type 0
 AreCopied dialect units = AllByRecursion (IsCopied dialect) units
 
--- memory grows: for a cell of b's header, which the byte after b adds; for a row; or for the copy of a unit that is
--- whole
-abbrev pub Grows : Dialect → (b back : List ℕ) → Type 0
-Grows dialect b back = AddsCell dialect b back ⊎ ((unit_rows dialect b ≢ []) ⊎ IsUnit dialect b)
+-- memory was refused for the copy of b's rows
+abbrev pub WantsForRows : (refuses : ℕ → Type 0) → Dialect → List ℕ → Type 0
+WantsForRows refuses dialect b = (unit_rows dialect b ≢ []) × WasRefused refuses
 
 -- these units are copied, and their copies are out
 abbrev pub HasCopied : (are : List (List ℕ) → Type 0) (text : List (List ℕ) → List ℕ) → List (List ℕ)
@@ -128,42 +128,43 @@ HasCopied are text units start now = are units × Appends start now (text units)
 
 -- Copies of all units, or of those before the fault. A unit of a version that isn't read is a fault, also where it is
 -- cut off, and so is a whole unit whose copy would be too long. The fault's offset is that of the unit.
--- are: these units have copies; text: the copies; made: what becomes of a unit's header
-abbrev pub CopiesBy : (are : List (List ℕ) → Type 0) (text : List (List ℕ) → List ℕ) → Made → Dialect
-    → (limit : ℕ) (bytes : List ℕ) (left start now : Option (List ℕ)) → Result Summary RunFault → Type 0
-CopiesBy are text made dialect limit bytes left start now (Ok summary) =
+-- are: these units have copies; text: the copies; made: what becomes of a unit's header; Wants: memory is wanted for the
+-- copy of these bytes, the front of a unit or one
+abbrev pub CopiesBy : (are : List (List ℕ) → Type 0) (text : List (List ℕ) → List ℕ) → Made
+    → (Wants : List ℕ → Type 0) → Dialect → (limit : ℕ) (bytes : List ℕ) (left start now : Option (List ℕ)) → Result Summary RunFault → Type 0
+CopiesBy are text made Wants dialect limit bytes left start now (Ok summary) =
     (units : List (List ℕ)) × EndsAs dialect limit bytes left units [] [] (Ok summary)
     × HasCopied are text units start now
-CopiesBy are text made dialect limit bytes left start now (Err (fault.ForeignUnit offset)) =
+CopiesBy are text made Wants dialect limit bytes left start now (Err (fault.ForeignUnit offset)) =
     (units : List (List ℕ)) × (b : List ℕ) × (back : List ℕ) × (version : ℕ)
     × HasBegun dialect (take limit bytes) units b back
     × (offset ≡ length (concat units)) × (foreign_in dialect b ≡ Some version) × HasCopied are text units start now
-CopiesBy are text made dialect limit bytes left start now (Err (fault.Emit offset f)) =
+CopiesBy are text made Wants dialect limit bytes left start now (Err (fault.Emit offset f)) =
     (units : List (List ℕ)) × (u : List ℕ) × (back : List ℕ) × (h : HeaderData)
     × HasUnits dialect (take limit bytes) (units ++ u ∷ []) back
     × (offset ≡ length (concat units)) × (header_of dialect u ≡ Some h)
     × (refusal (made offset h) (unit_rows dialect u) ≡ Some f) × (f ≡ TooLong)
     × HasCopied are text units start now
--- a growth was refused for b, which is in no other way at fault
-CopiesBy are text made dialect limit bytes left start now (Err fault.NoMemory) =
+-- memory is wanted for a cell of b's header, which the byte after b adds, or for b's copy; b is in no other way at fault
+CopiesBy are text made Wants dialect limit bytes left start now (Err fault.NoMemory) =
     (units : List (List ℕ)) × (b : List ℕ) × (back : List ℕ) × HasBegun dialect (take limit bytes) units b back
     × Sound dialect b × (foreign_in dialect b ≡ None)
-    × Grows dialect b back × HasCopied are text units start now
-CopiesBy are text made dialect limit bytes left start now (Err (fault.Write out)) =
+    × (AddsCell dialect b back ⊎ Wants b) × HasCopied are text units start now
+CopiesBy are text made Wants dialect limit bytes left start now (Err (fault.Write out)) =
     (units : List (List ℕ)) × (back : List ℕ) × HasUnits dialect (take limit bytes) units back × are units
     × TellsOut start now (text units) (fault.Write out)
 -- b isn't the front of a unit of another version
-CopiesBy are text made dialect limit bytes left start now (Err f) =
+CopiesBy are text made Wants dialect limit bytes left start now (Err f) =
     (units : List (List ℕ)) × (b : List ℕ) × (back : List ℕ) × EndsAs dialect limit bytes left units b back (Err f)
     × (foreign_in dialect b ≡ None)
     × HasCopied are text units start now
 
 -- `copy`: each unit under its header with standard opcodes
-abbrev pub Copies : Dialect → (limit : ℕ) (bytes : List ℕ) (left start now : Option (List ℕ)) → Result Summary RunFault
-    → Type 0
-Copies dialect limit bytes left start now result =
-    CopiesBy (AreCopied dialect) (copied_units dialect) (λ offset h. with_standard_opcodes h) dialect limit bytes left
-    start now result
+abbrev pub Copies : (refuses : ℕ → Type 0) → Dialect → (limit : ℕ) (bytes : List ℕ) (left start now : Option (List ℕ))
+    → Result Summary RunFault → Type 0
+Copies refuses dialect limit bytes left start now result =
+    CopiesBy (AreCopied dialect) (copied_units dialect) (λ offset h. with_standard_opcodes h)
+    (WantsForRows refuses dialect) dialect limit bytes left start now result
 
 -- ---- copies under headers that are made by the offsets of their units
 
@@ -187,13 +188,24 @@ AreMade made dialect offset [] = ⊤
 AreMade made dialect offset (u ∷ units) = IsMade made dialect offset u × AreMade made dialect (offset + length u) units
 
 -- the units of a section, each under the header that is made of its own
-abbrev pub CopiesAs : Made → Dialect → (limit : ℕ) (bytes : List ℕ) (left start now : Option (List ℕ))
-    → Result Summary RunFault → Type 0
-CopiesAs made dialect limit bytes left start now result =
-    CopiesBy (AreMade made dialect 0) (units_as made dialect 0) made dialect limit bytes left start now result
+abbrev pub CopiesAs : Made → (Wants : List ℕ → Type 0) → Dialect → (limit : ℕ) (bytes : List ℕ)
+    (left start now : Option (List ℕ)) → Result Summary RunFault → Type 0
+CopiesAs made Wants dialect limit bytes left start now result =
+    CopiesBy (AreMade made dialect 0) (units_as made dialect 0) made Wants dialect limit bytes left start now result
 
 -- ---- `copy_to_5`
 
 -- the header in version 5, with the compilation directory of the unit at the offset, and standard opcodes
 abbrev pub to_5 : (directories : ℕ → Option (List ℕ)) → Made
 to_5 directories offset h = with_standard_opcodes (to_version_5 h (directories offset))
+
+-- u is a unit of another version than 5, for whose header tables are made
+abbrev pub IsOlder : Dialect → List ℕ → Type 0
+IsOlder dialect u =
+    IsUnit dialect u × (h : HeaderData) × (header_of dialect u ≡ Some h) × (h.params.version ≢ 5)
+
+abbrev pub CopiesTo5 : (refuses : ℕ → Type 0) (directories : ℕ → Option (List ℕ)) → Dialect → (limit : ℕ)
+    (bytes : List ℕ) (left start now : Option (List ℕ)) → Result Summary RunFault → Type 0
+CopiesTo5 refuses directories dialect limit bytes left start now result =
+    CopiesAs (to_5 directories) (λ b. WantsForRows refuses dialect b ⊎ IsOlder dialect b) dialect limit bytes left start
+    now result

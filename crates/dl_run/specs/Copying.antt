@@ -1,5 +1,5 @@
 -- What `copy` and `copy_to_5` are told and write. No promise rests on this file.
-use Rattle.std.specs.Prelude.{⊤, ◌≡◌, ℕ, List, [], ◌∷◌, ◌++◌, Option, Some, None, fold}
+use Rattle.std.specs.Prelude.{◌≡◌, ◌≢◌, ℕ, List, [], ◌∷◌, ◌++◌, Option, Some, None, fold}
 use Rattle.dl_num.specs.declared.fixed.Order.{Order}
 use Rattle.dl_head.specs.Built.{with_standard_opcodes}
 use Rattle.dl_dirs.specs.Compilation.{directory_by}
@@ -66,37 +66,44 @@ abbrev pub made_by : Becomes → Made
 made_by becomes.Itself offset h = with_standard_opcodes h
 made_by (becomes.Version5 directories) offset h = to_5 (directory_by directories) offset h
 
-abbrev pub told_to : Copier → List Visit → Progress
+abbrev pub told_to : {M : Type 0} → Copier M → List Visit → Progress
 told_to first visits = comes_to (made_by first.becomes) first.program.order (goes first.unit [] []) visits
 
 -- each unit so far is printed, and the program of the current one grew by the rows since its header
-pub record Copying (first now : Copier) (start held : Option (List ℕ)) (visits : List Visit) : Type 0 where
+pub record Copying {M : Type 0} (first now : Copier M) (start held : Option (List ℕ)) (visits : List Visit) : Type 0 where
   pub rows : List Row
   pub text : List ℕ
   pub becomes : now.becomes ≡ first.becomes
+  pub memory : now.memory.now ≡ first.memory.now
   pub order : now.program.order ≡ first.program.order
   pub told : told_to first visits ≡ goes now.unit rows text
   pub grown : (h : HeaderData) → header_told None visits ≡ Some h
       → IsGrown now.program now.program.order (made_by now.becomes now.unit h).params rows
   pub printed : HasPrinted start held text now.printer
 
--- memory grows for a row, and for the header of a unit that is written
-abbrev pub IsGrowth : Visit → Type 0
-IsGrowth (of_row r) = ⊤
-IsGrowth (of_end (Some h)) = ⊤
-IsGrowth other = ⊥
+-- the tables of the header are made anew
+abbrev pub RenewsTables : Becomes → HeaderData → Type 0
+RenewsTables becomes.Itself h = ⊥
+RenewsTables (becomes.Version5 directories) h = h.params.version ≢ 5
+
+-- memory grows: for a row, where it was refused; or for the tables of the header of a unit that is whole
+abbrev pub IsGrowth : (Refused : Type 0) → Becomes → Visit → Type 0
+IsGrowth Refused becomes (of_row r) = Refused
+IsGrowth Refused becomes (of_end (Some h)) = RenewsTables becomes h
+IsGrowth Refused becomes other = ⊥
 
 -- a growth is refused at the last visit
-abbrev pub StopsAt : (first : Copier) (visits : List Visit) → RunFault → Type 0
-StopsAt first visits fault.NoMemory =
-    (before : List Visit) × (visit : Visit) × (visits ≡ before ++ visit ∷ []) × IsGrowth visit
-StopsAt first visits f = stop_in (told_to first visits) ≡ Some f
+abbrev pub StopsAt : {M : Type 0} → (Refused : M → Type 0) (first : Copier M) (visits : List Visit) → RunFault → Type 0
+StopsAt Refused first visits fault.NoMemory =
+    (before : List Visit) × (visit : Visit) × (visits ≡ before ++ visit ∷ [])
+    × IsGrowth (Refused first.memory.now) first.becomes visit
+StopsAt Refused first visits f = stop_in (told_to first visits) ≡ Some f
 
 -- unit after unit
-abbrev pub copy_story : Story Copier
-copy_story = record {
+abbrev pub copy_story : {M : Type 0} → (Refused : M → Type 0) → Story (Copier M)
+copy_story Refused = record {
   text = λ first visits. text_in (told_to first visits);
   tells = Copying;
   is_done = λ first new start now visits. ⊥;
-  refuses = StopsAt;
+  refuses = StopsAt Refused;
 }

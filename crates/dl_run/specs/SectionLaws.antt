@@ -1,6 +1,6 @@
 -- Laws of the definitions of sections. Each holds in every dialect, which is the same throughout a law. DWARF 5,
 -- section 6.2.4.
-use Rattle.std.specs.Prelude.{◌≡◌, ◌≢◌, ℕ, List, Option, Result, Err, ◌++◌}
+use Rattle.std.specs.Prelude.{◌≡◌, ◌≢◌, ℕ, Bool, true, List, Option, Result, Err, ◌++◌}
 use Rattle.std.specs.Io.KnownBytes.{Appends}
 use Rattle.dl_head.specs.declared.dialect.Dialect.{Dialect}
 use Rattle.dl_field.specs.HeaderData.{HeaderData}
@@ -12,7 +12,7 @@ use Rattle.dl_run.specs.declared.passing_over.PassedOver.{PassedOver}
 use Rattle.dl_print.specs.declared.summary.Summary.{Summary}
 use Rattle.dl_dirs.specs.declared.compilation.CompilationDirectories.{CompilationDirectories}
 use Rattle.dl_dirs.specs.Compilation.{directory_by}
-use Rattle.dl_run.specs.Commands.{Checks, Dumps, IsFound, Finds, Copies, CopiesAs, to_5}
+use Rattle.dl_run.specs.Commands.{Checks, Dumps, IsFound, Finds, Copies, CopiesTo5}
 use Rattle.dl_run.specs.PassedOver.{PassesOver}
 use Rattle.dl_run.specs.RunOutput.{TellsOut}
 use Rattle.dl_print.specs.ValueText.{Strings}
@@ -113,50 +113,52 @@ DumpIsFront =
 -- what `copy` answers is settled by the bytes and the limit
 abbrev pub OneCopying : Type 0
 OneCopying =
-    (dialect : Dialect) (limit : ℕ) (bytes : List ℕ) (left left2 start start2 now now2 : Option (List ℕ))
+    (refused refused2 : ℕ → Bool) (dialect : Dialect) (limit : ℕ) (bytes : List ℕ) (left left2 start start2 now now2 : Option (List ℕ))
     (result result2 : Result Summary RunFault) → IsOfBytes result → IsOfBytes result2
-    → Copies dialect limit bytes left start now result → Copies dialect limit bytes left2 start2 now2 result2
+    → Copies (λ k. refused k ≡ true) dialect limit bytes left start now result
+    → Copies (λ k. refused2 k ≡ true) dialect limit bytes left2 start2 now2 result2
     → result ≡ result2
 
 -- and so are the bytes that it writes
 abbrev pub OneCopy : Type 0
 OneCopy =
-    (dialect : Dialect) (limit : ℕ) (bytes : List ℕ) (left left2 start start2 now now2 : Option (List ℕ))
+    (refused refused2 : ℕ → Bool) (dialect : Dialect) (limit : ℕ) (bytes : List ℕ) (left left2 start start2 now now2 : Option (List ℕ))
     (result result2 : Result Summary RunFault) → IsOfBytes result → IsOfBytes result2
-    → Copies dialect limit bytes left start now result → Copies dialect limit bytes left2 start2 now2 result2
+    → Copies (λ k. refused k ≡ true) dialect limit bytes left start now result
+    → Copies (λ k. refused2 k ≡ true) dialect limit bytes left2 start2 now2 result2
     → (text : List ℕ) × Appends start now text × Appends start2 now2 text
 
 -- what a failed write leaves of them is the first `out` bytes, not all
 abbrev pub CopyIsFront : Type 0
 CopyIsFront =
-    (dialect : Dialect) (limit : ℕ) (bytes : List ℕ) (left left2 start start2 now now2 : Option (List ℕ)) (out : ℕ)
+    (refused refused2 : ℕ → Bool) (dialect : Dialect) (limit : ℕ) (bytes : List ℕ) (left left2 start start2 now now2 : Option (List ℕ)) (out : ℕ)
     (result2 : Result Summary RunFault) → IsOfBytes result2
-    → Copies dialect limit bytes left start now (Err (fault.Write out))
-    → Copies dialect limit bytes left2 start2 now2 result2
+    → Copies (λ k. refused k ≡ true) dialect limit bytes left start now (Err (fault.Write out))
+    → Copies (λ k. refused2 k ≡ true) dialect limit bytes left2 start2 now2 result2
     → (text : List ℕ) × TellsOut start now text (fault.Write out) × Appends start2 now2 text
 
 -- what `copy_to_5` answers is settled by the bytes, the limit and the directories
 abbrev pub OneCopyingTo5 : Type 0
 OneCopyingTo5 =
-    (directories : CompilationDirectories) (dialect : Dialect) (limit : ℕ) (bytes : List ℕ)
+    (refused refused2 : ℕ → Bool) (directories : CompilationDirectories) (dialect : Dialect) (limit : ℕ) (bytes : List ℕ)
     (left left2 start start2 now now2 : Option (List ℕ)) (result result2 : Result Summary RunFault) → IsOfBytes result
-    → IsOfBytes result2 → CopiesAs (to_5 (directory_by directories)) dialect limit bytes left start now result
-    → CopiesAs (to_5 (directory_by directories)) dialect limit bytes left2 start2 now2 result2 → result ≡ result2
+    → IsOfBytes result2 → CopiesTo5 (λ k. refused k ≡ true) (directory_by directories) dialect limit bytes left start now result
+    → CopiesTo5 (λ k. refused2 k ≡ true) (directory_by directories) dialect limit bytes left2 start2 now2 result2 → result ≡ result2
 
 -- and so are the bytes that it writes
 abbrev pub OneCopyTo5 : Type 0
 OneCopyTo5 =
-    (directories : CompilationDirectories) (dialect : Dialect) (limit : ℕ) (bytes : List ℕ)
+    (refused refused2 : ℕ → Bool) (directories : CompilationDirectories) (dialect : Dialect) (limit : ℕ) (bytes : List ℕ)
     (left left2 start start2 now now2 : Option (List ℕ)) (result result2 : Result Summary RunFault) → IsOfBytes result
-    → IsOfBytes result2 → CopiesAs (to_5 (directory_by directories)) dialect limit bytes left start now result
-    → CopiesAs (to_5 (directory_by directories)) dialect limit bytes left2 start2 now2 result2
+    → IsOfBytes result2 → CopiesTo5 (λ k. refused k ≡ true) (directory_by directories) dialect limit bytes left start now result
+    → CopiesTo5 (λ k. refused2 k ≡ true) (directory_by directories) dialect limit bytes left2 start2 now2 result2
     → (text : List ℕ) × Appends start now text × Appends start2 now2 text
 
 -- what a failed write leaves of them is the first `out` bytes, not all
 abbrev pub CopyTo5IsFront : Type 0
 CopyTo5IsFront =
-    (directories : CompilationDirectories) (dialect : Dialect) (limit : ℕ) (bytes : List ℕ)
+    (refused refused2 : ℕ → Bool) (directories : CompilationDirectories) (dialect : Dialect) (limit : ℕ) (bytes : List ℕ)
     (left left2 start start2 now now2 : Option (List ℕ)) (out : ℕ) (result2 : Result Summary RunFault)
-    → IsOfBytes result2 → CopiesAs (to_5 (directory_by directories)) dialect limit bytes left start now (Err (fault.Write out))
-    → CopiesAs (to_5 (directory_by directories)) dialect limit bytes left2 start2 now2 result2
+    → IsOfBytes result2 → CopiesTo5 (λ k. refused k ≡ true) (directory_by directories) dialect limit bytes left start now (Err (fault.Write out))
+    → CopiesTo5 (λ k. refused2 k ≡ true) (directory_by directories) dialect limit bytes left2 start2 now2 result2
     → (text : List ℕ) × TellsOut start now text (fault.Write out) × Appends start2 now2 text

@@ -1,7 +1,7 @@
 //! The commands that write all units anew.
 
 ghost use Rattle.dl_input.specs.Failing.{Blames};
-ghost use Rattle.std.specs.Prelude.{◌≡◌, ◌≤◌, ◌++◌, ℕ, List, [], None, IfOk};
+ghost use Rattle.std.specs.Prelude.{◌≡◌, ◌≤◌, ◌++◌, ℕ, List, [], None, IfOk, OnErr};
 ghost use Rattle.std.specs.Io.KnownBytes.{Consumes};
 ghost use Rattle.dl_rows.specs.declared.row.Row.{Row};
 ghost use Rattle.dl_emit.specs.Grown.{IsGrown};
@@ -10,8 +10,8 @@ ghost use Rattle.dl_head.specs.Dialect.{version_5};
 ghost use Rattle.dl_head.specs.Written.{header_bytes};
 ghost use Rattle.dl_print.specs.Output.{Prints};
 ghost use Rattle.dl_dirs.specs.Compilation.{directory_by};
-ghost use Rattle.dl_run.specs.Commands.{Copies, CopiesAs, to_5};
-ghost use Rattle.dl_run.specs.Copying.{made_by};
+ghost use Rattle.dl_run.specs.Commands.{Copies, CopiesTo5};
+ghost use Rattle.dl_run.specs.Copying.{made_by, RenewsTables};
 ghost use Rattle.dl_run.specs.UnitPrinted.{PrintsPart};
 
 use crate::fault::RunFault;
@@ -21,6 +21,7 @@ use dl_dirs::CompilationDirectories;
 use dl_emit::{EmitFault, Program, into_version_5};
 use dl_head::{Dialect, Header};
 use dl_input::Source;
+use dl_memory::{Memory, NoMemory};
 use dl_num::Order;
 use dl_print::{Printer, Summary, WriteFault};
 use dl_rows::{Flow, Row};
@@ -31,25 +32,27 @@ use std::io::Write;
 /// How many bytes of what a unit has before its program are held at most: 1 MiB.
 const MOST_HELD: usize = 1 << 20;
 
-/// What a unit has before its program, held up to `MOST_HELD` bytes. Where there are more, a write takes nothing.
+/// What a unit has before its program, held up to `MOST_HELD` bytes. Where there are more, or memory is refused for them, a
+/// write takes nothing.
 #[derive(Drop)]
-struct HeldHeader {
+struct HeldHeader<'m, M> {
+    memory: &'m M,
     bytes: Vec<u8>,
-    /// Whether a write took nothing since there were more.
-    is_full: bool,
 }
 
-impl Write for HeldHeader {
+impl<M: Memory> Write for HeldHeader<'_, M> {
     ghost use Rattle.std.specs.Prelude.{Some};
 
     ghost contents = { λ h. Some h.bytes.items };
 
     fn write(&mut self, bytes: &[u8]) -> io::Result<usize> {
         if MOST_HELD.saturating_sub(self.bytes.len()) < bytes.len() {
-            self.is_full = true;
             return Ok(0);
         }
-        self.bytes.write(bytes)
+        match self.memory.extend_from_slice(&mut self.bytes, bytes) {
+            Ok(()) => Ok(bytes.len()),
+            Err(NoMemory) => Ok(0),
+        }
     }
 
     fn flush(&mut self) -> io::Result<()> {
@@ -80,7 +83,8 @@ impl Becomes<'_> {
 
     /// What becomes of the header of the unit at this offset.
     fn make(&self, alloc: Global, offset: u64, header: Header) -> Result<Header, AllocError>
-        ensures { IfOk result (λ made. made ≡ made_by self.now offset header) }
+        ensures value { IfOk result (λ made. made ≡ made_by self.now offset header) }
+        ensures tables { OnErr result (RenewsTables self.now header) }
     {
         match self {
             Becomes::Itself => Ok(header.with_standard_opcodes()),
@@ -94,8 +98,8 @@ impl Becomes<'_> {
 
 /// Writes each unit where it ends.
 #[derive(Drop)]
-struct Copier<'a> {
-    alloc: Global,
+struct Copier<'a, 'm, M> {
+    memory: &'m M,
     becomes: Becomes<'a>,
     printer: Printer,
     /// The offset of the current unit.
@@ -103,13 +107,14 @@ struct Copier<'a> {
     /// What is written for the rows of the current unit.
     program: Program,
     /// What the current unit has before its program; its room is kept.
-    header: HeldHeader,
+    header: HeldHeader<'m, M>,
 }
 
-impl<W: Write> Visitor<W> for Copier<'_> {
+impl<W: Write, M: Memory> Visitor<W> for Copier<'_, '_, M> {
+    ghost use Rattle.dl_memory.specs.Refusals.{WasRefused};
     ghost use Rattle.dl_run.specs.Copying.{copy_story};
 
-    ghost story = { copy_story };
+    ghost story = { copy_story (λ memory. WasRefused (M.refuses memory)) };
 
     fn header(&mut self, _output: &mut W, offset: u64, header: &Header) -> Result<(), RunFault> {
         self.unit = offset;
@@ -123,9 +128,9 @@ impl<W: Write> Visitor<W> for Copier<'_> {
 
     #[inline(always)]
     fn row(&mut self, _output: &mut W, row: &Row) -> Result<(), RunFault> {
-        match self.program.push(row) {
+        match self.program.push(self.memory, row) {
             Ok(()) => Ok(()),
-            Err(_) => Err(RunFault::NoMemory),
+            Err(NoMemory) => Err(RunFault::NoMemory),
         }
     }
 
@@ -137,7 +142,7 @@ impl<W: Write> Visitor<W> for Copier<'_> {
         let Some(header) = header else {
             return Ok(Flow::On);
         };
-        let Ok(made) = self.becomes.make(self.alloc, self.unit, header) else {
+        let Ok(made) = self.becomes.make(self.memory.alloc(), self.unit, header) else {
             return Err(RunFault::NoMemory);
         };
         self.write(output, &made)?;
@@ -149,23 +154,24 @@ impl<W: Write> Visitor<W> for Copier<'_> {
     }
 }
 
-impl<'a> Copier<'a> {
+impl<'a, 'm, M: Memory> Copier<'a, 'm, M> {
     /// No unit yet, in a section whose numbers stand in this order.
-    fn new(alloc: Global, order: Order, becomes: Becomes<'a>) -> Copier<'a>
+    fn new(memory: &'m M, order: Order, becomes: Becomes<'a>) -> Copier<'a, 'm, M>
+        ensures memory { result.memory.now ≡ memory.now }
         ensures becomes { result.becomes ≡ becomes.entry }
         ensures order { result.program.order ≡ order }
         ensures nothing_pending { result.printer.pending ≡ [] }
         ensures nothing_out { result.printer.out ≡ 0 }
     {
         Copier {
-            alloc,
+            memory,
             becomes,
             printer: Printer::new(),
             unit: 0,
-            program: Program::new(alloc, order),
+            program: Program::new(memory.alloc(), order),
             header: HeldHeader {
-                bytes: Vec::new(alloc),
-                is_full: false,
+                memory,
+                bytes: Vec::new(memory.alloc()),
             },
         }
     }
@@ -179,6 +185,7 @@ impl<'a> Copier<'a> {
         ensures program { self.new.program ≡ self.old.program }
         ensures unit { self.new.unit ≡ self.old.unit }
         ensures becomes { self.new.becomes ≡ self.old.becomes }
+        ensures memory { self.new.memory ≡ self.old.memory }
     {
         self.write_header(output, header)?;
         let first = self.program.first_bytes();
@@ -186,8 +193,8 @@ impl<'a> Copier<'a> {
         Ok(print_parts(&mut self.printer, output, first, last)?)
     }
 
-    /// Prints what the current unit has before its program, once all of it is in memory; where it is long, it is
-    /// written on the output itself.
+    /// Prints what the current unit has before its program, once all of it is in memory; where it is long, or memory is
+    /// refused for it, it is written on the output itself.
     fn write_header<W: Write>(&mut self, output: &mut W, header: &Header) -> Result<(), RunFault>
         ensures printed { (rows : List Row)
             → IsGrown self.old.program self.old.program.order header.now.params rows
@@ -197,13 +204,12 @@ impl<'a> Copier<'a> {
         ensures program { self.new.program ≡ self.old.program }
         ensures unit { self.new.unit ≡ self.old.unit }
         ensures becomes { self.new.becomes ≡ self.old.becomes }
+        ensures memory { self.new.memory ≡ self.old.memory }
     {
         self.header.bytes.clear();
-        self.header.is_full = false;
         match self.program.write_header(&mut self.header, header) {
             Ok(_) => Ok(self.printer.put(output, self.header.bytes.as_slice())?),
-            Err(EmitFault::Write { .. }) if self.header.is_full => self.pass_header(output, header),
-            Err(EmitFault::Write { .. }) => Err(RunFault::NoMemory),
+            Err(EmitFault::Write { .. }) => self.pass_header(output, header),
             Err(fault) => Err(RunFault::Emit {
                 unit: self.unit,
                 fault,
@@ -222,6 +228,7 @@ impl<'a> Copier<'a> {
         ensures program { self.new.program ≡ self.old.program }
         ensures unit { self.new.unit ≡ self.old.unit }
         ensures becomes { self.new.becomes ≡ self.old.becomes }
+        ensures memory { self.new.memory ≡ self.old.memory }
     {
         self.printer.flush(output)?;
         let out = self.printer.out();
@@ -262,27 +269,27 @@ fn print_parts<W: Write>(
 /// rows, its numbers shortest. Units of version 5 alone are read, whatever the dialect is.
 ///
 /// What comes before a fault is written. The faults are those of `RunFault`. What is written for the rows of a unit is
-/// held in memory until the unit ends, and up to 1 MiB of what stands before it; each growth of these, and those of
-/// `Reader::feed`, come before the unit is written.
-pub fn copy<R: Source, W: Write>(
-    alloc: Global,
+/// held in memory until the unit ends: where that is refused, or `Reader::feed` wants memory, nothing of the unit is
+/// written. Up to 1 MiB of what stands before it is held too, where there is memory for that.
+pub fn copy<M: Memory, R: Source, W: Write>(
+    memory: &M,
     input: &mut R,
     output: &mut W,
     options: &Options<'_>,
 ) -> Result<Summary, RunFault>
     requires { options.now.limit ≤ SECTION_LIMIT }
     ensures ran { (bs : List ℕ) × Consumes (R.remaining input.old) (R.remaining input.new) bs
-        × Copies (version_5 options.now.dialect.order) options.now.limit bs (R.remaining input.new)
+        × Copies (M.refuses memory.now) (version_5 options.now.dialect.order) options.now.limit bs (R.remaining input.new)
         (W.contents output.old) (W.contents output.new) result }
     ensures blames { Blames R.follows R.fails input.old input.new
         (result ≡ Err RunFault.Read) }
 {
-    let mut copier = Copier::new(alloc, options.dialect.order, Becomes::Itself);
+    let mut copier = Copier::new(memory, options.dialect.order, Becomes::Itself);
     let own = Options {
         dialect: Dialect::version_5(options.dialect.order),
         ..*options
     };
-    read_units(alloc, input, output, &own, &mut copier)
+    read_units(memory.alloc(), input, output, &own, &mut copier)
 }
 
 /// Writes all units of the input anew as units of version 5, with the same rows. Each file number of a row means the same
@@ -291,8 +298,8 @@ pub fn copy<R: Source, W: Write>(
 /// The header of a unit is made one of version 5 by `into_version_5`, with the compilation directory of the unit, by its
 /// offset, and then has opcode_base 13; all else is as in `copy`. Memory grows for the tables of that header too, before
 /// the unit is written.
-pub fn copy_to_5<R: Source, W: Write>(
-    alloc: Global,
+pub fn copy_to_5<M: Memory, R: Source, W: Write>(
+    memory: &M,
     input: &mut R,
     output: &mut W,
     directories: CompilationDirectories<'_>,
@@ -300,12 +307,12 @@ pub fn copy_to_5<R: Source, W: Write>(
 ) -> Result<Summary, RunFault>
     requires { options.now.limit ≤ SECTION_LIMIT }
     ensures ran { (bs : List ℕ) × Consumes (R.remaining input.old) (R.remaining input.new) bs
-        × CopiesAs (to_5 (directory_by directories.entry)) options.now.dialect options.now.limit bs (R.remaining input.new)
+        × CopiesTo5 (M.refuses memory.now) (directory_by directories.entry) options.now.dialect options.now.limit bs (R.remaining input.new)
         (W.contents output.old) (W.contents output.new) result }
     ensures blames { Blames R.follows R.fails input.old input.new
         (result ≡ Err RunFault.Read) }
 {
     let becomes = Becomes::Version5(directories);
-    let mut copier = Copier::new(alloc, options.dialect.order, becomes);
-    read_units(alloc, input, output, options, &mut copier)
+    let mut copier = Copier::new(memory, options.dialect.order, becomes);
+    read_units(memory.alloc(), input, output, options, &mut copier)
 }

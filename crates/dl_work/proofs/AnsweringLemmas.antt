@@ -10,6 +10,7 @@ use Rattle.dl_addr.specs.declared.style.Style.{Style}
 use Rattle.dl_cmd.specs.Job.{AddrTexts}
 use Rattle.dl_dialogue.specs.Answers.{AnswersAll, Manner}
 use Rattle.dl_dialogue.specs.Dialogues.{AnswersLines}
+use Rattle.dl_dialogue.specs.Faults.{TellFails}
 use Rattle.dl_dialogue.specs.declared.dialogue.Answered.{Answered}
 use Rattle.dl_dialogue.specs.declared.fault.AnswerFault.{AnswerFault}
 use Rattle.dl_index.specs.IsIndex.{IsHeaded}
@@ -18,7 +19,7 @@ use Rattle.dl_index_file.specs.declared.fault.OpenFault.{OpenFault}
 use Rattle.dl_index_file.specs.declared.fault.OpenFault.TheVariants as index
 use Rattle.dl_look.specs.declared.asked.Asked.{Asked}
 use Rattle.dl_work.specs.OverIndex.{IsNotOpened}
-use Rattle.dl_work.specs.Answering.{AnswersAsked, AnswersGiven, IsManner, SystemFails, answered_given}
+use Rattle.dl_work.specs.Answering.{AnswersAsked, AnswersGiven, IsManner, answered_given}
 use Rattle.dl_work.specs.Locate.{form_in}
 use Rattle.dl_work.specs.Understood.{IsUnderstood}
 use Rattle.dl_work.specs.declared.addr_words.AskedWords.{AskedWords}
@@ -41,32 +42,32 @@ manner w u f style understood form basenames section = record {
 }
 
 -- the words have no address
-pub lines_asked : (w : AddrTexts) (u : AskedWords) (f : ℕ → Option Location) (m : Manner) (Fails : Error → Type 0)
+pub lines_asked : {refuses : ℕ → Type 0} (w : AddrTexts) (u : AskedWords) (f : ℕ → Option Location) (m : Manner) (Fails : Error → Type 0)
     (bytes : List ℕ) (left start now : Option (List ℕ)) (result : Result Answered AnswerFault) → IsUnderstood w u
-    → IsManner w f m → length u.asked.items ≡ 0 → AnswersLines m w.hex (SystemFails Fails) bytes left start now result
-    → AnswersAsked w f Fails bytes left start now result
-lines_asked w u f m Fails bytes left start now result understood is none answers = (
+    → IsManner w f m → length u.asked.items ≡ 0 → AnswersLines m w.hex (TellFails Fails refuses) bytes left start now result
+    → AnswersAsked refuses w f Fails bytes left start now result
+lines_asked {refuses} w u f m Fails bytes left start now result understood is none answers = (
   m,
   is,
-  subst (λ given. AnswersGiven w m Fails given bytes left start now result)
+  subst (λ given. AnswersGiven refuses w m Fails given bytes left start now result)
       (sym (no_items u.asked.items none) ∙ understood.asked) answers,
 )
 
 -- the words have some
-pub words_asked : (w : AddrTexts) (u : AskedWords) (f : ℕ → Option Location) (m : Manner) (Fails : Error → Type 0)
+pub words_asked : {refuses : ℕ → Type 0} (w : AddrTexts) (u : AskedWords) (f : ℕ → Option Location) (m : Manner) (Fails : Error → Type 0)
     (left start now : Option (List ℕ)) (found : Result Found AnswerFault) (result : Result Answered AnswerFault)
     (slice : List Asked)
     → IsUnderstood w u → IsManner w f m → (length u.asked.items == 0) ≡ false → slice ≡ u.asked.items
-    → AnswersAll m (SystemFails Fails) slice start now found
-    → result ≡ answered_given found → AnswersAsked w f Fails [] left start now result
-words_asked w u f m Fails left start now found result slice understood is some sliced answers given = (
+    → AnswersAll m (TellFails Fails refuses) slice start now found
+    → result ≡ answered_given found → AnswersAsked refuses w f Fails [] left start now result
+words_asked {refuses} w u f m Fails left start now found result slice understood is some sliced answers given = (
   m,
   is,
-  subst (λ given. AnswersGiven w m Fails given [] left start now result) understood.asked
-      (by u.asked.items some (subst (λ these. AnswersAll m (SystemFails Fails) these start now found) sliced answers)),
+  subst (λ given. AnswersGiven refuses w m Fails given [] left start now result) understood.asked
+      (by u.asked.items some (subst (λ these. AnswersAll m (TellFails Fails refuses) these start now found) sliced answers)),
 ) where
-  by : (items : List Asked) → (length items == 0) ≡ false → AnswersAll m (SystemFails Fails) items start now found
-      → AnswersGiven w m Fails items [] left start now result
+  by : (items : List Asked) → (length items == 0) ≡ false → AnswersAll m (TellFails Fails refuses) items start now found
+      → AnswersGiven refuses w m Fails items [] left start now result
   by [] some answers = absurd (let e : true ≡ false = some in cc)
   by (a ∷ items) some answers = (refl, found, answers, given)
 

@@ -31,12 +31,12 @@ use Rattle.dl_work.specs.declared.stop.Stop.{Stop}
 use Rattle.dl_work.proofs.LocateLemmas.{all_live, is_code-live}
 
 module _ (held : Text → Option (List ℕ)) (fails : Text → Error → Type 0) (path : Text) (w : IndexTexts) where
-  pub index_refused : (start : Option (List ℕ)) (result : Result Survey Stop) (stop : FileStop) (fault : FileFault)
+  pub index_refused : {refuses : ℕ → Type 0} (start : Option (List ℕ)) (result : Result Survey Stop) (stop : FileStop) (fault : FileFault)
       (are_wanted : Bool) → are_wanted ≡ is_none w.comp_dir
       → ForBytes (held path)
       (λ f. RefusesOpening are_wanted (fails path) f fault ⊎ RefusesNaming (fails path) f fault)
-      → IsAt path fault stop → result ≡ Err (stop_of stop) → IndexesFile held fails path w start start result
-  index_refused start result stop fault are_wanted wants refuses at is = λ f known short.
+      → IsAt path fault stop → result ≡ Err (stop_of stop) → IndexesFile refuses held fails path w start start result
+  index_refused {refuses} start result stop fault are_wanted wants refuses at is = λ f known short.
       inl (
         stop,
         fault,
@@ -47,7 +47,7 @@ module _ (held : Text → Option (List ℕ)) (fails : Text → Error → Type 0)
         Keeps-refl start,
       )
 
-  pub index_done : (ranges : Option CodeRanges) (found : Directories) (id : Option (List ℕ)) (table : Table)
+  pub index_done : {refuses : ℕ → Type 0} (ranges : Option CodeRanges) (found : Directories) (id : Option (List ℕ)) (table : Table)
       (command : Command) (start now : Option (List ℕ)) (answer : Result Survey FileStop) (result : Result Survey Stop)
       (are_wanted : Bool) → are_wanted ≡ is_none w.comp_dir
       → ForBytes (held path) (λ f. (code : Code) × IsCode f (Ok code) × AreLive ranges code)
@@ -56,10 +56,10 @@ module _ (held : Text → Option (List ℕ)) (fails : Text → Error → Type 0)
       → ((a : ℕ) → is_code (option_copied table.code) a ≡ (w.all || is_code ranges a))
       → ((n : ℕ) → directory_by table.directories n ≡ compiled_by w.comp_dir (directory_at found) n)
       → table.all ≡ w.all → table.build_id.now ≡ unwrap_or id [] → command ≡ indexing w table
-      → ForBytes (held path) (λ f. OnFile (file_units w.units) (fails path) path w.section command f start now unheard
+      → ForBytes (held path) (λ f. OnFile refuses (file_units w.units) (fails path) path w.section command f start now unheard
       answer)
-      → result ≡ over_file answer → IndexesFile held fails path w start now result
-  index_done ranges found id table command start now answer result are_wanted wants codes are_found named live compiled all
+      → result ≡ over_file answer → IndexesFile refuses held fails path w start now result
+  index_done {refuses} ranges found id table command start now answer result are_wanted wants codes are_found named live compiled all
       kept commanded does is = λ f known short.
       let k = codes f known short in
       inr (
@@ -77,7 +77,7 @@ module _ (held : Text → Option (List ℕ)) (fails : Text → Error → Type 0)
           build_id = kept;
         },
         answer,
-        subst (λ (c : Command). OnFile (file_units w.units) (fails path) path w.section c f start now unheard answer)
+        subst (λ (c : Command). OnFile refuses (file_units w.units) (fails path) path w.section c f start now unheard answer)
             commanded (does f known short),
         is,
       )

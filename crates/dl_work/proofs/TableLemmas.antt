@@ -22,27 +22,27 @@ use Rattle.dl_work.specs.Asked.{Does, WithoutTable, is_copy, looks_up, sections_
 use Rattle.dl_work.specs.Tables.{EndsAt, OnFile, OnFound, OnFoundWhere, OnLines, OnTable, OnTableWhere, RunsOn}
 
 -- it isn't the copy of an object file
-pub not_refused : (units : FileUnits) (path : Text) (command : Command) (t : LineTable) (part : Option Part)
+pub not_refused : {refuses : ℕ → Type 0} (units : FileUnits) (path : Text) (command : Command) (t : LineTable) (part : Option Part)
     (start now : Option (List ℕ)) (hears : List Damage → Type 0)
     (result : Result Survey FileStop) (is_object : Bool) → (is_copy command && is_object) ≡ false
-    → is_object ≡ t.is_object_file → OnTableWhere false units path command t part start now hears result
-    → OnTable units path command t part start now hears result
-not_refused units path command t part start now hears result is_object not_copy object does =
+    → is_object ≡ t.is_object_file → OnTableWhere refuses false units path command t part start now hears result
+    → OnTable refuses units path command t part start now hears result
+not_refused {refuses} units path command t part start now hears result is_object not_copy object does =
     let e : (is_copy command && t.is_object_file) ≡ false =
     ap (λ (b : Bool). is_copy command && b) (sym object) ∙ not_copy in
     rw e does
 
 -- the command ran with these options, over a reader of the line section
-pub ran : (units : FileUnits) (path : Text) (command : Command) (t : LineTable)
+pub ran : {refuses : ℕ → Type 0} (units : FileUnits) (path : Text) (command : Command) (t : LineTable)
     (start now left remaining : Option (List ℕ)) (hears : List Damage → Type 0)
     (s strings : Strings) (dialect : Dialect) (limit : ℕ) (answer : Result Survey RunFault)
     (result : Result Survey FileStop)
     → ((read : List ℕ) → Consumes remaining left read → Consumes (Some (bytes_of t.line)) left read)
     → IsWhole t.line_str t.str s → dialect ≡ file_dialect units t → strings ≡ s → limit ≡ SECTION_LIMIT
     → (read : List ℕ) × Consumes remaining left read
-    × Does (λ n. Unit {0}) command dialect strings limit read left start now hears answer
-    → EndsAt path (stream_of t.line) answer result → RunsOn units path command t start now hears result
-ran units path command t start now left remaining hears s strings dialect limit answer result known whole ordered in_options
+    × Does refuses command dialect strings limit read left start now hears answer
+    → EndsAt path (stream_of t.line) answer result → RunsOn refuses units path command t start now hears result
+ran {refuses} units path command t start now left remaining hears s strings dialect limit answer result known whole ordered in_options
     limited (read, consumes, does) ends =
     record {
       strings = s;
@@ -51,9 +51,9 @@ ran units path command t start now left remaining hears s strings dialect limit 
       left = left;
       bytes = known read consumes;
       answer = answer;
-      done = subst (λ (d : Dialect). Does (λ n. Unit {0}) command d s SECTION_LIMIT read left start now hears answer) ordered
-          (subst (λ (z : Strings). Does (λ n. Unit {0}) command dialect z SECTION_LIMIT read left start now hears answer) in_options
-          (subst (λ (l : ℕ). Does (λ n. Unit {0}) command dialect strings l read left start now hears answer) limited does));
+      done = subst (λ (d : Dialect). Does refuses command d s SECTION_LIMIT read left start now hears answer) ordered
+          (subst (λ (z : Strings). Does refuses command dialect z SECTION_LIMIT read left start now hears answer) in_options
+          (subst (λ (l : ℕ). Does refuses command dialect strings l read left start now hears answer) limited does));
       ends = ends;
     }
 
@@ -64,47 +64,47 @@ plain_known content bytes left read is consumes =
     subst (λ (c : Content). Consumes (Some (bytes_of c)) left read) (sym is) consumes
 
 -- the command is done over the sequences of a part
-pub of_part : (units : FileUnits) (path : Text) (command : Command) (t : LineTable) (part : Part) (chosen : Option Part)
+pub of_part : {refuses : ℕ → Type 0} (units : FileUnits) (path : Text) (command : Command) (t : LineTable) (part : Part) (chosen : Option Part)
     (start now : Option (List ℕ)) (hears : List Damage → Type 0) (result : Result Survey FileStop) → chosen ≡ Some part
-    → OnLines units path command t (Some part) start now hears result
-    → OnLines units path command t chosen start now hears result
-of_part units path command t part chosen start now hears result is done =
-    subst (λ (p : Option Part). OnLines units path command t p start now hears result) (sym is) done
+    → OnLines refuses units path command t (Some part) start now hears result
+    → OnLines refuses units path command t chosen start now hears result
+of_part {refuses} units path command t part chosen start now hears result is done =
+    subst (λ (p : Option Part). OnLines refuses units path command t p start now hears result) (sym is) done
 
 -- it can't be told among which sequences a command looks
-pub found_stops : (units : FileUnits) (fails : Error → Type 0) (path : Text) (name : Option Text) (command : Command) (f : List ℕ)
+pub found_stops : {refuses : ℕ → Type 0} (units : FileUnits) (fails : Error → Type 0) (path : Text) (name : Option Text) (command : Command) (f : List ℕ)
     (t : LineTable) (start now : Option (List ℕ)) (hears : List Damage → Type 0) (stop : FileStop)
     (looks is_object : Bool) → looks ≡ true
     → looks ≡ looks_up command → is_object ≡ t.is_object_file → PartStops fails path f is_object name stop
-    → WithoutTable (λ n. Unit {0}) command start now → hears [] → OnFound units fails path name command f t start now hears (Err stop)
-found_stops units fails path name command f t start now hears stop looks is_object said own object why written untold =
-    subst (λ (looks : Bool). OnFoundWhere looks units fails path name command f t start now hears (Err stop))
+    → WithoutTable refuses command start now → hears [] → OnFound refuses units fails path name command f t start now hears (Err stop)
+found_stops {refuses} units fails path name command f t start now hears stop looks is_object said own object why written untold =
+    subst (λ (looks : Bool). OnFoundWhere refuses looks units fails path name command f t start now hears (Err stop))
     (sym said ∙ own)
     (inl (stop, refl, subst (λ (b : Bool). PartStops fails path f b name stop) object why, written, untold))
 
 -- ---- the errors that opening and reading may give
 
-on_found_weaker : (looks : Bool) (units : FileUnits) (fails wider : Error → Type 0) (path : Text) (name : Option Text) (command : Command)
+on_found_weaker : {refuses : ℕ → Type 0} (looks : Bool) (units : FileUnits) (fails wider : Error → Type 0) (path : Text) (name : Option Text) (command : Command)
     (f : List ℕ) (t : LineTable) (start now : Option (List ℕ)) (hears : List Damage → Type 0)
     (result : Result Survey FileStop)
-    → ((e : Error) → fails e → wider e) → OnFoundWhere looks units fails path name command f t start now hears result
-    → OnFoundWhere looks units wider path name command f t start now hears result
-on_found_weaker false units fails wider path name command f t start now hears result more found = found
-on_found_weaker true units fails wider path name command f t start now hears result more
+    → ((e : Error) → fails e → wider e) → OnFoundWhere refuses looks units fails path name command f t start now hears result
+    → OnFoundWhere refuses looks units wider path name command f t start now hears result
+on_found_weaker {refuses} false units fails wider path name command f t start now hears result more found = found
+on_found_weaker {refuses} true units fails wider path name command f t start now hears result more
     (inl (stop, is, why, written, untold)) =
     inl (stop, is, part_stops_weaker fails wider path f t.is_object_file name stop more why, written, untold)
-on_found_weaker true units fails wider path name command f t start now hears result more (inr found) = inr found
+on_found_weaker {refuses} true units fails wider path name command f t start now hears result more (inr found) = inr found
 
 -- what is done for an open file, by the errors of its source
-pub on_file_weaker : (units : FileUnits) (fails wider : Error → Type 0) (path : Text) (name : Option Text) (command : Command) (f : List ℕ)
+pub on_file_weaker : {refuses : ℕ → Type 0} (units : FileUnits) (fails wider : Error → Type 0) (path : Text) (name : Option Text) (command : Command) (f : List ℕ)
     (start now : Option (List ℕ)) (hears : List Damage → Type 0) (result : Result Survey FileStop)
     → ((e : Error) → fails e → wider e)
-    → OnFile units fails path name command f start now hears result
-    → OnFile units wider path name command f start now hears result
-on_file_weaker units fails wider path name command f start now hears result more
+    → OnFile refuses units fails path name command f start now hears result
+    → OnFile refuses units wider path name command f start now hears result
+on_file_weaker {refuses} units fails wider path name command f start now hears result more
     (inl (stop, is, why, written, untold)) =
     inl (stop, is, table_stops_weaker units fails wider path (sections_of command) f stop more why, written, untold)
-on_file_weaker units fails wider path name command f start now hears result more (inr (t, has, found)) =
+on_file_weaker {refuses} units fails wider path name command f start now hears result more (inr (t, has, found)) =
     inr (
       t,
       has,
@@ -113,11 +113,11 @@ on_file_weaker units fails wider path name command f start now hears result more
     )
 
 -- and by what the words say of its units
-pub on_file_as : (units said : FileUnits) (fails wider : Error → Type 0) (path : Text) (name : Option Text) (command : Command)
+pub on_file_as : {refuses : ℕ → Type 0} (units said : FileUnits) (fails wider : Error → Type 0) (path : Text) (name : Option Text) (command : Command)
     (f : List ℕ) (start now : Option (List ℕ)) (hears : List Damage → Type 0) (result : Result Survey FileStop)
     → units ≡ said
-    → ((e : Error) → fails e → wider e) → OnFile units fails path name command f start now hears result
-    → OnFile said wider path name command f start now hears result
-on_file_as units said fails wider path name command f start now hears result is more does =
-    subst (λ (u : FileUnits). OnFile u wider path name command f start now hears result) is
+    → ((e : Error) → fails e → wider e) → OnFile refuses units fails path name command f start now hears result
+    → OnFile refuses said wider path name command f start now hears result
+on_file_as {refuses} units said fails wider path name command f start now hears result is more does =
+    subst (λ (u : FileUnits). OnFile refuses u wider path name command f start now hears result) is
     (on_file_weaker units fails wider path name command f start now hears result more does)

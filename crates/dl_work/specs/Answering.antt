@@ -37,23 +37,19 @@ abbrev pub answered_given : Result Found AnswerFault → Result Answered AnswerF
 answered_given (Ok found) = Ok (record { found = found; no_address = None })
 answered_given (Err f) = Err f
 
--- why nothing is told by what fails with such errors; the system may refuse any memory
-abbrev pub SystemFails : (Fails : Error → Type 0) → TellFault → Type 0
-SystemFails Fails = TellFails Fails (λ n. Unit {0})
-
 -- those that were given are answered; where there are none, those that the whole input says
-abbrev pub AnswersGiven : AddrTexts → Manner → (Fails : Error → Type 0) → List Asked → (bytes : List ℕ)
+abbrev pub AnswersGiven : (refuses : ℕ → Type 0) → AddrTexts → Manner → (Fails : Error → Type 0) → List Asked → (bytes : List ℕ)
     (left start now : Option (List ℕ)) → Result Answered AnswerFault → Type 0
-AnswersGiven w m Fails [] bytes left start now result = AnswersLines m w.hex (SystemFails Fails) bytes left start now result
-AnswersGiven w m Fails (a ∷ asked) bytes left start now result =
-    (bytes ≡ []) × (found : Result Found AnswerFault) × AnswersAll m (SystemFails Fails) (a ∷ asked) start now found
+AnswersGiven refuses w m Fails [] bytes left start now result = AnswersLines m w.hex (TellFails Fails refuses) bytes left start now result
+AnswersGiven refuses w m Fails (a ∷ asked) bytes left start now result =
+    (bytes ≡ []) × (found : Result Found AnswerFault) × AnswersAll m (TellFails Fails refuses) (a ∷ asked) start now found
     × (result ≡ answered_given found)
 
 -- what the words ask for is answered by what f tells
-abbrev pub AnswersAsked : AddrTexts → (f : ℕ → Option Location) → (Fails : Error → Type 0) → (bytes : List ℕ)
+abbrev pub AnswersAsked : (refuses : ℕ → Type 0) → AddrTexts → (f : ℕ → Option Location) → (Fails : Error → Type 0) → (bytes : List ℕ)
     (left start now : Option (List ℕ)) → Result Answered AnswerFault → Type 0
-AnswersAsked w f Fails bytes left start now result =
-    (m : Manner) × IsManner w f m × AnswersGiven w m Fails (asked_in_words w) bytes left start now result
+AnswersAsked refuses w f Fails bytes left start now result =
+    (m : Manner) × IsManner w f m × AnswersGiven refuses w m Fails (asked_in_words w) bytes left start now result
 
 -- why the program stops then, of an index at this path
 abbrev pub stop_of_answer : Bor Text → AnswerFault → Stop

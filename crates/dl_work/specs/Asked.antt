@@ -19,7 +19,7 @@ use Rattle.dl_run.specs.declared.around.DamagedUnits.{DamagedUnits}
 use Rattle.dl_run.specs.declared.around.Survey.{Survey}
 use Rattle.dl_print.specs.declared.summary.Summary.{Summary}
 use Rattle.dl_cmd.specs.Address.{address_in}
-use Rattle.dl_run.specs.Commands.{Checks, Copies, CopiesAs, Dumps, Finds, to_5}
+use Rattle.dl_run.specs.Commands.{Checks, Copies, CopiesTo5, Dumps, Finds}
 use Rattle.dl_run.specs.AroundCommands.{ChecksAround, DumpsAround}
 use Rattle.dl_cmd.specs.Job.{Request, Text, addr, check, copy, dump, find, index}
 use Rattle.dl_print.specs.ValueText.{Strings}
@@ -219,11 +219,12 @@ Does refuses Check dialect s limit bytes left start now = EndsThere (Checks dial
 Does refuses CheckAround dialect s limit bytes left start now = ChecksAround dialect limit bytes left start now
 Does refuses (Find place) dialect s limit bytes left start now = EndsThere (Finds dialect s place limit bytes left start now)
 -- units of version 5 alone are copied
-Does refuses Copy dialect s limit bytes left start now = EndsThere (Copies (version_5 dialect.order) limit bytes left start now)
+Does refuses Copy dialect s limit bytes left start now = EndsThere
+    (Copies refuses (version_5 dialect.order) limit bytes left start now)
 -- under headers of version 5, with the directory that is said
 Does refuses (CopyTo5 comp_dir) dialect s limit bytes left start now = EndsThere (λ answer.
     (d : CompilationDirectories) × ((unit : ℕ) → directory_by d unit ≡ option_copied comp_dir)
-    × CopiesAs (to_5 (directory_by d)) dialect limit bytes left start now answer)
+    × CopiesTo5 refuses (directory_by d) dialect limit bytes left start now answer)
 Does refuses (Addr question) dialect s limit bytes left start now = EndsThere (λ answer.
     (found : Result Found RunFault) × (answer ≡ answered found)
     × Locates refuses dialect s question limit bytes left start now found)

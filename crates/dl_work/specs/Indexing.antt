@@ -54,9 +54,9 @@ RefusesNaming fails f other = ⊥
 
 -- over the ELF file of a path: it can't be told where it has code, where its units were compiled, or which build it is, and
 -- nothing is written; or the command is done
-abbrev pub IndexesFile : (held : Text → Option (List ℕ)) (fails : Text → Error → Type 0) → Text → IndexTexts
+abbrev pub IndexesFile : (refuses : ℕ → Type 0) → (held : Text → Option (List ℕ)) (fails : Text → Error → Type 0) → Text → IndexTexts
     → (start now : Option (List ℕ)) → Result Survey Stop → Type 0
-IndexesFile held fails path w start now result = ForBytes (held path) (λ f.
+IndexesFile refuses held fails path w start now result = ForBytes (held path) (λ f.
     ((stop : FileStop) × (fault : FileFault)
     × (RefusesOpening (is_none w.comp_dir) (fails path) f fault ⊎ RefusesNaming (fails path) f fault)
     × IsAt path fault stop × (result ≡ Err (stop_of stop)) × Keeps start now)
@@ -65,12 +65,12 @@ IndexesFile held fails path w start now result = ForBytes (held path) (λ f.
     × (id : Option (List ℕ)) × IsBuildId f id
     × (table : Table) × IsMadeWith w code found id table
     × (answer : Result Survey FileStop)
-    × OnFile (file_units w.units) (fails path) path w.section (indexing w table) f start now unheard answer
+    × OnFile refuses (file_units w.units) (fails path) path w.section (indexing w table) f start now unheard answer
     × (result ≡ over_file answer)))
 
 -- by the words
-abbrev pub IndexesFor : (held : Text → Option (List ℕ)) (fails : Text → Error → Type 0) → IndexTexts
+abbrev pub IndexesFor : (refuses : ℕ → Type 0) → (held : Text → Option (List ℕ)) (fails : Text → Error → Type 0) → IndexTexts
     → (start now : Option (List ℕ)) → Result Survey Stop → Type 0
-IndexesFor held fails w start now result =
+IndexesFor refuses held fails w start now result =
     MatchOption (file_indexed w) ((result ≡ Err NotUnderstood) × Keeps start now)
-    (λ path. IndexesFile held fails path w start now result)
+    (λ path. IndexesFile refuses held fails path w start now result)

@@ -1,10 +1,11 @@
 -- What the program does for the words of `addr`. bytes: what was read of the input, which has `left` left. start, now:
 -- what the output held at first, and holds now. held: what the file of a path holds, where that is known; fails: the
--- errors that opening and reading it may give.
-use Rattle.std.specs.Prelude.{◌≡◌, ◌≢◌, ◌⊎◌, ℕ, Bool, true, false, not, ◌&&◌, List, [], ◌∷◌, ◌++◌, map}
+-- errors that opening and reading it may give. refuses: for how many items memory is refused.
+use Rattle.std.specs.Prelude.{◌≡◌, ◌≢◌, ◌⊎◌, ℕ, Bool, true, false, not, ◌&&◌, List, [], ◌∷◌, ◌++◌, length, map}
 use Rattle.std.specs.Prelude.{if◌then◌else◌, option_to_list, Option, Some, None, is_none, is_some, Result}
 use Rattle.std.specs.List.{list_all}
 use Rattle.std.specs.Option.{option_copied, option_map_or}
+use Rattle.dl_memory.specs.Refusals.{IsRefused}
 use Rattle.dl_cmd.specs.Job.{AddrTexts, Text, addr}
 use Rattle.dl_run.specs.declared.fault.RunFault.TheVariants as fault
 use Rattle.dl_run.specs.declared.around.Survey.{Survey}
@@ -78,15 +79,15 @@ IsFirstOther hex words (NotAddress word) = first_other hex words ≡ Some word.n
 IsFirstOther hex words other = ⊥
 
 -- it does, or memory is refused for these words
-abbrev pub AddressesStop : (hex : Bool) → List Text → Stop → Type 0
-AddressesStop hex words (Run fault.NoMemory) = words ≢ []
-AddressesStop hex words stop = IsFirstOther hex words stop
+abbrev pub AddressesStop : (refuses : ℕ → Type 0) → (hex : Bool) → List Text → Stop → Type 0
+AddressesStop refuses hex words (Run fault.NoMemory) = (words ≢ []) × IsRefused refuses (length words)
+AddressesStop refuses hex words stop = IsFirstOther hex words stop
 
 -- a word isn't an address, or memory is refused for the addresses
-abbrev pub WordsStop : AddrTexts → Stop → Type 0
-WordsStop w (NotAddress word) = first_other w.hex (address_words w) ≡ Some word.now
-WordsStop w (Run fault.NoMemory) = w.addresses ≢ []
-WordsStop w other = ⊥
+abbrev pub WordsStop : (refuses : ℕ → Type 0) → AddrTexts → Stop → Type 0
+WordsStop refuses w (NotAddress word) = first_other w.hex (address_words w) ≡ Some word.now
+WordsStop refuses w (Run fault.NoMemory) = (w.addresses ≢ []) × IsRefused refuses (length w.addresses)
+WordsStop refuses w other = ⊥
 
 -- ---- the section on the input, which wants an address among the words
 
@@ -100,14 +101,14 @@ suits_input w =
 abbrev pub IsNoQuestion : AddrTexts → Type 0
 IsNoQuestion w = (suits_input w ≡ false) ⊎ (w.addresses ≡ [])
 
-abbrev pub LocatesInSection : (held : Text → Option (List ℕ)) → AddrTexts
+abbrev pub LocatesInSection : (refuses : ℕ → Type 0) → (held : Text → Option (List ℕ)) → AddrTexts
     → (bytes : List ℕ) (left start now : Option (List ℕ)) → Result Located Stop → Type 0
-LocatesInSection held w bytes left start now result =
-    ((stop : Stop) × (WordsStop w stop ⊎ (IsNoQuestion w × (stop ≡ NotUnderstood)))
+LocatesInSection refuses held w bytes left start now result =
+    ((stop : Stop) × (WordsStop refuses w stop ⊎ (IsNoQuestion w × (stop ≡ NotUnderstood)))
     × StopsBefore bytes start now result stop)
     ⊎ ((q : Question) × (answer : Result Survey Stop) × (IsNoQuestion w → ⊥) × Asks w (asked_in_words w) (λ a. true)
     (said_directory w) q
-    × OnInput held (section_of (addr w)) (asking w q) bytes left start now unheard answer
+    × OnInput refuses held (section_of (addr w)) (asking w q) bytes left start now unheard answer
     × (result ≡ located answer None))
 
 -- ---- the ELF file of a path. f: its bytes

@@ -20,29 +20,29 @@ use Rattle.dl_work.specs.declared.stop.Stop.TheVariants.{File, NotUnderstood}
 
 -- over the file of a path: a word is wrong; the file can't be opened, and no address has an answer; it begins as an index
 -- does, and is looked into as one; or as an ELF file
-abbrev pub LocatesInFile : (held : Text → Option (List ℕ)) (fails : Text → Error → Type 0) → (path : Bor Text) → AddrTexts
+abbrev pub LocatesInFile : (refuses : ℕ → Type 0) → (held : Text → Option (List ℕ)) (fails : Text → Error → Type 0) → (path : Bor Text) → AddrTexts
     → (bytes : List ℕ) (left start now : Option (List ℕ)) → Result Located Stop → Type 0
-LocatesInFile held fails path w bytes left start now result = ForBytes (held path.now) (λ f.
-    ((stop : Stop) × (WordsStop w stop ⊎ ((suits_file w ≡ false) × (stop ≡ NotUnderstood)))
+LocatesInFile refuses held fails path w bytes left start now result = ForBytes (held path.now) (λ f.
+    ((stop : Stop) × (WordsStop refuses w stop ⊎ ((suits_file w ≡ false) × (stop ≡ NotUnderstood)))
     × StopsBefore bytes start now result stop)
     ⊎ ((fault : FileFault) × (suits_file w ≡ true) × IsNotOpen (fails path.now) fault
-    × (result ≡ Err (File path fault)) × Unanswered w bytes left start now)
+    × (result ≡ Err (File path fault)) × Unanswered refuses w bytes left start now)
     ⊎ ((suits_file w ≡ true) × HasMagic f
-    × LocatesInIndex held fails (fails path.now) path w f bytes left start now result)
+    × LocatesInIndex refuses held fails (fails path.now) path w f bytes left start now result)
     ⊎ ((suits_file w ≡ true) × (¬ (HasMagic f))
-    × LocatesInElfFile (fails path.now) path w f bytes left start now result))
+    × LocatesInElfFile refuses (fails path.now) path w f bytes left start now result))
 
 -- by the words; a path `-` stands for a section on the input
 
-abbrev pub LocatesWhere : (is_input : Bool) → (held : Text → Option (List ℕ)) (fails : Text → Error → Type 0) → Bor Text
+abbrev pub LocatesWhere : (refuses : ℕ → Type 0) → (is_input : Bool) → (held : Text → Option (List ℕ)) (fails : Text → Error → Type 0) → Bor Text
     → AddrTexts → (bytes : List ℕ) (left start now : Option (List ℕ)) → Result Located Stop → Type 0
-LocatesWhere true held fails path w bytes left start now result = LocatesInSection held w bytes left start now result
-LocatesWhere false held fails path w bytes left start now result =
-    LocatesInFile held fails path w bytes left start now result
+LocatesWhere refuses true held fails path w bytes left start now result = LocatesInSection refuses held w bytes left start now result
+LocatesWhere refuses false held fails path w bytes left start now result =
+    LocatesInFile refuses held fails path w bytes left start now result
 
-abbrev pub LocatesFor : (held : Text → Option (List ℕ)) (fails : Text → Error → Type 0) → AddrTexts
+abbrev pub LocatesFor : (refuses : ℕ → Type 0) → (held : Text → Option (List ℕ)) (fails : Text → Error → Type 0) → AddrTexts
     → (bytes : List ℕ) (left start now : Option (List ℕ)) → Result Located Stop → Type 0
-LocatesFor held fails w bytes left start now result =
+LocatesFor refuses held fails w bytes left start now result =
     MatchOption w.file (StopsBefore bytes start now result NotUnderstood)
     (λ text. (path : Bor Text) × (path.now ≡ text)
-    × LocatesWhere (bytes_eq text (codes "-")) held fails path w bytes left start now result)
+    × LocatesWhere refuses (bytes_eq text (codes "-")) held fails path w bytes left start now result)

@@ -38,9 +38,9 @@ use Rattle.dl_work.specs.declared.stop.Stop.{Stop}
 use Rattle.dl_work.specs.declared.stop.Stop.TheVariants.{File, NotUnderstood}
 
 -- no address has an answer
-abbrev pub Unanswered : AddrTexts → (bytes : List ℕ) (left start now : Option (List ℕ)) → Type 0
-Unanswered w bytes left start now =
-    (answered : Result Answered AnswerFault) × AnswersAsked w (λ a. None) (λ _. ⊥) bytes left start now answered
+abbrev pub Unanswered : (refuses : ℕ → Type 0) → AddrTexts → (bytes : List ℕ) (left start now : Option (List ℕ)) → Type 0
+Unanswered refuses w bytes left start now =
+    (answered : Result Answered AnswerFault) × AnswersAsked refuses w (λ a. None) (λ _. ⊥) bytes left start now answered
 
 -- where there is code: a sequence counts that begins there, or each one where all are asked for
 abbrev pub counts : AddrTexts → Option CodeRanges → ℕ → Bool
@@ -48,11 +48,11 @@ counts w code a = w.all || is_code code a
 
 -- ---- addresses among the words, in one pass over the line table
 
-abbrev pub LocatesGiven : (reads : Error → Type 0) → (path : Bor Text) → AddrTexts → (f : List ℕ) → Option CodeRanges
+abbrev pub LocatesGiven : (refuses : ℕ → Type 0) → (reads : Error → Type 0) → (path : Bor Text) → AddrTexts → (f : List ℕ) → Option CodeRanges
     → (found : ℕ → Option (List ℕ)) → (start now : Option (List ℕ)) → Result Located Stop → Type 0
-LocatesGiven reads path w f code found start now result =
+LocatesGiven refuses reads path w f code found start now result =
     (q : Question) × (answer : Result Survey FileStop) × Asks w (asked_in_words w) (counts w code) (compiled_by w.comp_dir found) q
-    × OnFile (file_units w.units) reads path.now w.section (asking w q) f start now unheard answer
+    × OnFile refuses (file_units w.units) reads path.now w.section (asking w q) f start now unheard answer
     × (result ≡ located (over_file answer) None)
 
 -- ---- addresses on the input, from an index that is made first
@@ -69,10 +69,10 @@ is_refused (Err (at.Run (Write out))) = true
 is_refused other = false
 
 -- the index answers; where there is none, no address has an answer
-pub record AnswersMade (w : AddrTexts) (index : List ℕ) (bytes : List ℕ) (left start now : Option (List ℕ))
+pub record AnswersMade (refuses : ℕ → Type 0) (w : AddrTexts) (index : List ℕ) (bytes : List ℕ) (left start now : Option (List ℕ))
     (answered : Result Answered AnswerFault) : Type 0 where
-  pub made : IsIndex index → AnswersAsked w (location_in index) (λ _. ⊥) bytes left start now answered
-  pub none : index ≡ [] → AnswersAsked w (λ a. None) (λ _. ⊥) bytes left start now answered
+  pub made : IsIndex index → AnswersAsked refuses w (location_in index) (λ _. ⊥) bytes left start now answered
+  pub none : index ≡ [] → AnswersAsked refuses w (λ a. None) (λ _. ⊥) bytes left start now answered
 
 -- what came of the reading of the table, and then of the answers, whose fault comes first
 abbrev pub after_answers : Result Survey Stop → Answered → Result Located Stop
@@ -83,26 +83,26 @@ abbrev pub located_after : (path : Bor Text) → Result Survey FileStop → Resu
 located_after path answer (Ok answered) = after_answers (over_file answer) answered
 located_after path answer (Err fault) = Err (stop_of_answer path fault)
 
-abbrev pub LocatesByIndex : (reads : Error → Type 0) → (path : Bor Text) → AddrTexts → (f : List ℕ) → Option CodeRanges
+abbrev pub LocatesByIndex : (refuses : ℕ → Type 0) → (reads : Error → Type 0) → (path : Bor Text) → AddrTexts → (f : List ℕ) → Option CodeRanges
     → (found : ℕ → Option (List ℕ)) → (bytes : List ℕ) (left start now : Option (List ℕ)) → Result Located Stop → Type 0
-LocatesByIndex reads path w f code found bytes left start now result =
+LocatesByIndex refuses reads path w f code found bytes left start now result =
     (table : Table) × IsToldOf w code found table × (index : List ℕ) × (answer : Result Survey FileStop)
-    × OnFile (file_units w.units) reads path.now w.section (making w table) f (Some []) (Some index) unheard answer
+    × OnFile refuses (file_units w.units) reads path.now w.section (making w table) f (Some []) (Some index) unheard answer
     × (((is_refused answer ≡ true) × StopsBefore bytes start now result (File path NoMemory))
     ⊎ ((is_refused answer ≡ false) × (answered : Result Answered AnswerFault)
-    × AnswersMade w index bytes left start now answered × (result ≡ located_after path answer answered)))
+    × AnswersMade refuses w index bytes left start now answered × (result ≡ located_after path answer answered)))
 
 -- ---- by the words
 
 -- an ELF file is no index that can be of another file; it can't be told where it has code, or where its units were
 -- compiled, and no address has an answer; or it answers
-abbrev pub LocatesInElfFile : (reads : Error → Type 0) → (path : Bor Text) → AddrTexts → (f bytes : List ℕ)
+abbrev pub LocatesInElfFile : (refuses : ℕ → Type 0) → (reads : Error → Type 0) → (path : Bor Text) → AddrTexts → (f bytes : List ℕ)
     (left start now : Option (List ℕ)) → Result Located Stop → Type 0
-LocatesInElfFile reads path w f bytes left start now result =
+LocatesInElfFile refuses reads path w f bytes left start now result =
     ((is_some w.made_of ≡ true) × StopsBefore bytes start now result NotUnderstood)
     ⊎ ((fault : FileFault) × (is_some w.made_of ≡ false) × RefusesOpening (wants_directories w) reads f fault
-    × (result ≡ Err (File path fault)) × Unanswered w bytes left start now)
+    × (result ≡ Err (File path fault)) × Unanswered refuses w bytes left start now)
     ⊎ ((code : Code) × (ranges : Option CodeRanges) × (found : ℕ → Option (List ℕ)) × (is_some w.made_of ≡ false)
     × IsCode f (Ok code) × AreLive ranges code × AreFound (wants_directories w) f found
-    × (((asked_in_words w ≢ []) × (bytes ≡ []) × LocatesGiven reads path w f ranges found start now result)
-    ⊎ ((asked_in_words w ≡ []) × LocatesByIndex reads path w f ranges found bytes left start now result)))
+    × (((asked_in_words w ≢ []) × (bytes ≡ []) × LocatesGiven refuses reads path w f ranges found start now result)
+    ⊎ ((asked_in_words w ≡ []) × LocatesByIndex refuses reads path w f ranges found bytes left start now result)))

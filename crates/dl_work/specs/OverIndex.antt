@@ -80,9 +80,9 @@ IsNotOpened fails b (index.Index fault) = HasFault b fault
 
 -- the words don't suit an index; it can't be opened; it is of another file; or it answers. Where it is damaged behind its
 -- header, nothing is said of the lines
-abbrev pub LocatesInIndex : (held : Text → Option (List ℕ)) (fails : Text → Error → Type 0) (reads : Error → Type 0)
+abbrev pub LocatesInIndex : (refuses : ℕ → Type 0) → (held : Text → Option (List ℕ)) (fails : Text → Error → Type 0) (reads : Error → Type 0)
     → (path : Bor Text) → AddrTexts → (b bytes : List ℕ) (left start now : Option (List ℕ)) → Result Located Stop → Type 0
-LocatesInIndex held fails reads path w b bytes left start now result =
+LocatesInIndex refuses held fails reads path w b bytes left start now result =
     ((suits_index w ≡ false) × StopsBefore bytes start now result NotUnderstood)
     ⊎ ((fault : OpenFault) × (suits_index w ≡ true) × IsNotOpened reads b fault
     × StopsBefore bytes start now result (Index path fault))
@@ -90,4 +90,4 @@ LocatesInIndex held fails reads path w b bytes left start now result =
     × MadeOf held fails w path (build_id_in b) (Err stop) × StopsBefore bytes start now result stop)
     ⊎ ((suits_index w ≡ true) × IsHeaded b × MadeOf held fails w path (build_id_in b) (Ok tt)
     × (answered : Result Answered AnswerFault) × (result ≡ located_by path answered)
-    × (IsIndex b → AnswersAsked w (location_in b) (ReadFails (Some b) reads) bytes left start now answered))
+    × (IsIndex b → AnswersAsked refuses w (location_in b) (ReadFails (Some b) reads) bytes left start now answered))

@@ -1,6 +1,6 @@
 -- What the program does with the ELF file of a path. f: its bytes; t: its line table as dl_file defines it. start, now:
 -- what the output held at first, and holds now. hears: which damaged units were told of. units: which units of the file
--- are read.
+-- are read. refuses: for how many items memory is refused.
 use Rattle.std.specs.Prelude.{◌≡◌, ◌⊎◌, ℕ, Bool, true, false, ◌&&◌, List, [], Option, Some, None, Result, Ok, Err}
 use Rattle.std.specs.Prelude.{MatchResult}
 use Rattle.std.specs.Io.KnownBytes.{Consumes}
@@ -33,7 +33,7 @@ EndsAt path stream answer result = MatchResult answer (λ survey. result ≡ Ok 
 
 -- the command is done, over the bytes of the line section in the file's order, with the file's string sections. read:
 -- the bytes that it read, of which `left` are left
-pub record RunsOn (units : FileUnits) (path : Text) (command : Command) (t : LineTable) (start now : Option (List ℕ))
+pub record RunsOn (refuses : ℕ → Type 0) (units : FileUnits) (path : Text) (command : Command) (t : LineTable) (start now : Option (List ℕ))
     (hears : List Damage → Type 0) (result : Result Survey FileStop) : Type 0 where
   pub strings : Strings
   pub whole : IsWhole t.line_str t.str strings
@@ -41,7 +41,7 @@ pub record RunsOn (units : FileUnits) (path : Text) (command : Command) (t : Lin
   pub left : Option (List ℕ)
   pub bytes : Consumes (Some (bytes_of t.line)) left read
   pub answer : Result Survey RunFault
-  pub done : Does (λ n. Unit {0}) command (file_dialect units t) strings SECTION_LIMIT read left start now hears answer
+  pub done : Does refuses command (file_dialect units t) strings SECTION_LIMIT read left start now hears answer
   pub ends : EndsAt path (stream_of t.line) answer result
 
 -- the table with these bytes of its line section
@@ -51,50 +51,50 @@ with_bytes t bytes = record t { line = Plain bytes }
 -- ---- the command over the line section, or over a part of it
 
 -- the program stops before its command
-abbrev pub StopsEarly : Command → (FileStop → Type 0) → Outcome FileStop
-StopsEarly command Reason start now hears result =
-    (stop : FileStop) × (result ≡ Err stop) × Reason stop × WithoutTable (λ n. Unit {0}) command start now × hears []
+abbrev pub StopsEarly : (refuses : ℕ → Type 0) → Command → (FileStop → Type 0) → Outcome FileStop
+StopsEarly refuses command Reason start now hears result =
+    (stop : FileStop) × (result ≡ Err stop) × Reason stop × WithoutTable refuses command start now × hears []
 
-abbrev pub OnLines : FileUnits → (path : Text) → Command → LineTable → Option Part → Outcome FileStop
-OnLines units path command t None start now hears result = RunsOn units path command t start now hears result
-OnLines units path command t (Some part) start now hears result =
-    StopsEarly command (KeepingStops path (file_dialect units t) part t.line) start now hears result
+abbrev pub OnLines : (refuses : ℕ → Type 0) → FileUnits → (path : Text) → Command → LineTable → Option Part → Outcome FileStop
+OnLines refuses units path command t None start now hears result = RunsOn refuses units path command t start now hears result
+OnLines refuses units path command t (Some part) start now hears result =
+    StopsEarly refuses command (KeepingStops path (file_dialect units t) part t.line) start now hears result
     ⊎ ((kept : List ℕ) × IsKept (file_dialect units t) part t.line kept
-    × RunsOn units path command (with_bytes t kept) start now hears result)
+    × RunsOn refuses units path command (with_bytes t kept) start now hears result)
 
 -- an object file isn't copied
-abbrev pub OnTableWhere : (is_object_copy : Bool) → FileUnits → (path : Text) → Command → LineTable → Option Part
+abbrev pub OnTableWhere : (refuses : ℕ → Type 0) → (is_object_copy : Bool) → FileUnits → (path : Text) → Command → LineTable → Option Part
     → Outcome FileStop
-OnTableWhere true units path command t part start now hears result =
-    StopsEarly command (IsAt path ObjectCopy) start now hears result
-OnTableWhere false units path command t part start now hears result =
-    StopsEarly command (StringsStop path t.line_str t.str) start now hears result
-    ⊎ OnLines units path command t part start now hears result
+OnTableWhere refuses true units path command t part start now hears result =
+    StopsEarly refuses command (IsAt path ObjectCopy) start now hears result
+OnTableWhere refuses false units path command t part start now hears result =
+    StopsEarly refuses command (StringsStop path t.line_str t.str) start now hears result
+    ⊎ OnLines refuses units path command t part start now hears result
 
-abbrev pub OnTable : FileUnits → (path : Text) → Command → LineTable → Option Part → Outcome FileStop
-OnTable units path command t part = OnTableWhere (is_copy command && t.is_object_file) units path command t part
+abbrev pub OnTable : (refuses : ℕ → Type 0) → FileUnits → (path : Text) → Command → LineTable → Option Part → Outcome FileStop
+OnTable refuses units path command t part = OnTableWhere refuses (is_copy command && t.is_object_file) units path command t part
 
 -- ---- the file. fails: the errors that opening and reading it may give; name: the section that is looked into
 
 -- all sequences answer, but where addresses are looked up: then those of a part
-abbrev pub OnFoundWhere : (looks_up : Bool) → FileUnits → (fails : Error → Type 0) (path : Text) (name : Option Text)
+abbrev pub OnFoundWhere : (refuses : ℕ → Type 0) → (looks_up : Bool) → FileUnits → (fails : Error → Type 0) (path : Text) (name : Option Text)
     → Command → (f : List ℕ) → LineTable → Outcome FileStop
-OnFoundWhere false units fails path name command f t start now hears result =
-    OnTable units path command t None start now hears result
-OnFoundWhere true units fails path name command f t start now hears result =
-    StopsEarly command (PartStops fails path f t.is_object_file name) start now hears result
+OnFoundWhere refuses false units fails path name command f t start now hears result =
+    OnTable refuses units path command t None start now hears result
+OnFoundWhere refuses true units fails path name command f t start now hears result =
+    StopsEarly refuses command (PartStops fails path f t.is_object_file name) start now hears result
     ⊎ ((part : Option Part) × IsPart f t.is_object_file name part
-    × OnTable units path command t part start now hears result)
+    × OnTable refuses units path command t part start now hears result)
 
-abbrev pub OnFound : FileUnits → (fails : Error → Type 0) (path : Text) (name : Option Text) → Command → (f : List ℕ)
+abbrev pub OnFound : (refuses : ℕ → Type 0) → FileUnits → (fails : Error → Type 0) (path : Text) (name : Option Text) → Command → (f : List ℕ)
     → LineTable → Outcome FileStop
-OnFound units fails path name command f t = OnFoundWhere (looks_up command) units fails path name command f t
+OnFound refuses units fails path name command f t = OnFoundWhere refuses (looks_up command) units fails path name command f t
 
 -- ---- what is done
 
-abbrev pub OnFile : FileUnits → (fails : Error → Type 0) (path : Text) (name : Option Text) → Command → (f : List ℕ)
+abbrev pub OnFile : (refuses : ℕ → Type 0) → FileUnits → (fails : Error → Type 0) (path : Text) (name : Option Text) → Command → (f : List ℕ)
     → Outcome FileStop
-OnFile units fails path name command f start now hears result =
-    StopsEarly command (TableStops units fails path (sections_of command) f) start now hears result
+OnFile refuses units fails path name command f start now hears result =
+    StopsEarly refuses command (TableStops units fails path (sections_of command) f) start now hears result
     ⊎ ((t : LineTable) × HasTable units (sections_of command) f t
-    × OnFound units fails path name command f t start now hears result)
+    × OnFound refuses units fails path name command f t start now hears result)

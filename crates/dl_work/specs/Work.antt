@@ -1,6 +1,7 @@
 -- What the program does for a request. bytes: what was read of the input, which has `left` left. start, now: what the
 -- output held at first, and holds now. hears: which damaged units were told of. held: what the file of a path holds,
--- where that is known; fails: the errors that opening and reading it may give.
+-- where that is known; fails: the errors that opening and reading it may give. refuses: for how many items memory is
+-- refused.
 use Rattle.std.specs.Prelude.{◌≡◌, ◌⊎◌, ℕ, List, [], Option, Some, None, MatchOption, Result, Ok, Err}
 use Rattle.std.specs.Io.KnownBytes.{Keeps}
 use Rattle.std.specs.declared.io.Error.{Error}
@@ -41,33 +42,33 @@ stopped (Err f) = Err (Run f)
 
 -- over a section on the input: the command is done with the string sections that are named, unless these stop the
 -- program
-abbrev pub OnInput : (held : Text → Option (List ℕ)) → SectionWords → Command → (bytes : List ℕ)
+abbrev pub OnInput : (refuses : ℕ → Type 0) → (held : Text → Option (List ℕ)) → SectionWords → Command → (bytes : List ℕ)
     (left : Option (List ℕ))
     → Outcome Stop
-OnInput held section command bytes left start now hears result =
+OnInput refuses held section command bytes left start now hears result =
     ((s : Strings) × StringsAre held section.line_str section.strings s
     × (answer : Result Survey RunFault) × (result ≡ stopped answer)
-    × Does (λ n. Unit {0}) command (dialect_of section) s SECTION_LIMIT bytes left start now hears answer)
+    × Does refuses command (dialect_of section) s SECTION_LIMIT bytes left start now hears answer)
     ⊎ ((f : RunFault) × FilesStop held section.line_str section.strings f
     × StopsUntold bytes start now hears result (Run f))
 
 -- over the ELF file of a path: nothing is read of the input. units: which units are read; name: the section that is
 -- looked into
-abbrev pub OnNamed : (held : Text → Option (List ℕ)) (fails : Text → Error → Type 0) → FileUnits → Text
+abbrev pub OnNamed : (refuses : ℕ → Type 0) → (held : Text → Option (List ℕ)) (fails : Text → Error → Type 0) → FileUnits → Text
     → (name : Option Text) → Command → (bytes : List ℕ) → Outcome Stop
-OnNamed held fails units path name command bytes start now hears result =
+OnNamed refuses held fails units path name command bytes start now hears result =
     (bytes ≡ []) × (answer : Result Survey FileStop) × (result ≡ over_file answer)
-    × ForBytes (held path) (λ f. OnFile units (fails path) path name command f start now hears answer)
+    × ForBytes (held path) (λ f. OnFile refuses units (fails path) path name command f start now hears answer)
 
 -- what is done for a request
-abbrev pub Works : (held : Text → Option (List ℕ)) (fails : Text → Error → Type 0) → Option Request
+abbrev pub Works : (refuses : ℕ → Type 0) → (held : Text → Option (List ℕ)) (fails : Text → Error → Type 0) → Option Request
     → (bytes : List ℕ) (left : Option (List ℕ)) → Outcome Stop
-Works held fails None bytes left start now hears result = StopsUntold bytes start now hears result NotUnderstood
-Works held fails (Some request) bytes left start now hears result =
+Works refuses held fails None bytes left start now hears result = StopsUntold bytes start now hears result NotUnderstood
+Works refuses held fails (Some request) bytes left start now hears result =
     MatchOption (command_of request) (StopsUntold bytes start now hears result NotUnderstood)
     (λ seen. (command : Command) × (command_seen command ≡ seen)
-    × MatchOption (file_of request) (OnInput held (section_of request) command bytes left start now hears result)
-    (λ path. OnNamed held fails (file_units (units_of request)) path (part_name_of request) command bytes start now
+    × MatchOption (file_of request) (OnInput refuses held (section_of request) command bytes left start now hears result)
+    (λ path. OnNamed refuses held fails (file_units (units_of request)) path (part_name_of request) command bytes start now
     hears result))
 
 -- a read of the input is blamed: by a request that names no file, whose string sections can be read

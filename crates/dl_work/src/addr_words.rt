@@ -18,8 +18,8 @@ use dl_addr::{Asked, CompilationDirectories, Form, Question, Style};
 use dl_cmd::{AddrWords, read_address, read_hex_address};
 use dl_look::CodeRanges;
 use dl_making::Table;
+use dl_memory::Memory;
 use dl_run::RunFault;
-use std::alloc::Global;
 
 /// The path that stands for a section on the input.
 pub const INPUT: &str = "-";
@@ -55,19 +55,19 @@ fn base<'a>(words: &AddrWords<'a>) -> Result<u64, Stop<'a>>
 }
 
 /// The addresses that these words say.
-fn addresses<'a>(alloc: Global, hex: bool, words: &[&'a str]) -> Result<Vec<Asked>, Stop<'a>>
+fn addresses<'a, M: Memory>(memory: &M, hex: bool, words: &[&'a str]) -> Result<Vec<Asked>, Stop<'a>>
     ensures asked { IfOk result (λ asked. asked.items
         ≡ map (λ s. record { address = address_by hex s.now }) words.now) }
     ensures understood { IfOk result (λ asked. list_all (λ s. is_some (address_by hex s.now)) words.now ≡ true) }
-    ensures stops { IfErr result (AddressesStop hex (map (λ s. s.now) words.now)) }
+    ensures stops { IfErr result (AddressesStop (M.refuses memory.now) hex (map (λ s. s.now) words.now)) }
 {
-    let mut asked = Vec::new(alloc);
+    let mut asked = Vec::new(memory.alloc());
     for word in words {
         let address = address(hex, *word);
         if address.is_none() {
             return Err(Stop::NotAddress { word: *word });
         }
-        if asked.push(Asked { address }).is_err() {
+        if memory.push(&mut asked, Asked { address }).is_err() {
             return Err(Stop::Run(RunFault::NoMemory));
         }
     }
@@ -82,14 +82,14 @@ pub struct AskedWords {
 }
 
 /// What the words ask for. The word of `--base` is read before the others.
-pub fn asked_words<'a>(alloc: Global, words: &AddrWords<'a>) -> Result<AskedWords, Stop<'a>>
+pub fn asked_words<'a, M: Memory>(memory: &M, words: &AddrWords<'a>) -> Result<AskedWords, Stop<'a>>
     ensures base { IfOk result (λ u. base_in (addr_words_made words.now) ≡ Some u.base) }
     ensures asked { IfOk result (λ u. u.asked.items ≡ asked_in_words (addr_words_made words.now)) }
     ensures understood { IfOk result (λ u. are_addresses (addr_words_made words.now) ≡ true) }
-    ensures stops { IfErr result (WordsStop (addr_words_made words.now)) }
+    ensures stops { IfErr result (WordsStop (M.refuses memory.now) (addr_words_made words.now)) }
 {
     let base = base(words)?;
-    let asked = addresses(alloc, words.hex, words.addresses.as_slice())?;
+    let asked = addresses(memory, words.hex, words.addresses.as_slice())?;
     Ok(AskedWords { base, asked })
 }
 

@@ -16,15 +16,14 @@ use dl_dialogue::{AnswerFault, Answered, Nothing, Tell, TellFault, answer_all, a
 use dl_index::open_unchecked;
 use dl_index_file::OpenFault;
 use dl_input::Source;
-use dl_memory::System;
+use dl_memory::Memory;
 use dl_run::RunFault;
-use std::alloc::Global;
 use std::io::Write;
 
 /// Answers the addresses among the words, or where there are none those on the input, as they come, by what `teller`
 /// tells.
-pub fn answer_asked<T: Tell, R: Source, W: Write>(
-    alloc: Global,
+pub fn answer_asked<M: Memory, T: Tell, R: Source, W: Write>(
+    memory: &M,
     words: &AddrWords<'_>,
     understood: &AskedWords,
     teller: &mut T,
@@ -34,17 +33,16 @@ pub fn answer_asked<T: Tell, R: Source, W: Write>(
     ensures { (bytes : List ℕ) × Consumes (R.remaining input.old) (R.remaining input.new) bytes
         × ((f : ℕ → Option Location) → Determines (T.tells teller.old) f
         → IsUnderstood (addr_words_made words.now) understood.now
-        → AnswersAsked (addr_words_made words.now) f (T.fails_with teller.old) bytes (R.remaining input.new)
+        → AnswersAsked (M.refuses memory.now) (addr_words_made words.now) f (T.fails_with teller.old) bytes (R.remaining input.new)
         (W.contents output.old) (W.contents output.new) result) }
 {
-    let memory = System::new(alloc);
     let style = style(words, part_name(words));
     if understood.asked.is_empty() {
         let base = understood.base;
-        return answer_lines(&memory, teller, style, base, words.hex, input, output);
+        return answer_lines(memory, teller, style, base, words.hex, input, output);
     }
     answered_given(answer_all(
-        &memory,
+        memory,
         teller,
         style,
         understood.base,
@@ -54,8 +52,8 @@ pub fn answer_asked<T: Tell, R: Source, W: Write>(
 }
 
 /// Answers from the bytes of an index; where there are none, each address has no answer.
-pub fn answer_made<R: Source, W: Write>(
-    alloc: Global,
+pub fn answer_made<M: Memory, R: Source, W: Write>(
+    memory: &M,
     words: &AddrWords<'_>,
     understood: &AskedWords,
     index: &[u8],
@@ -64,12 +62,12 @@ pub fn answer_made<R: Source, W: Write>(
 ) -> Result<Answered, AnswerFault>
     ensures { (bytes : List ℕ) × Consumes (R.remaining input.old) (R.remaining input.new) bytes
         × (IsUnderstood (addr_words_made words.now) understood.now
-        → AnswersMade (addr_words_made words.now) index.now bytes (R.remaining input.new) (W.contents output.old)
+        → AnswersMade (M.refuses memory.now) (addr_words_made words.now) index.now bytes (R.remaining input.new) (W.contents output.old)
         (W.contents output.new) result) }
 {
     match open_unchecked(index) {
-        Ok(mut index) => answer_asked(alloc, words, understood, &mut index, input, output),
-        Err(_) => answer_asked(alloc, words, understood, &mut Nothing, input, output),
+        Ok(mut index) => answer_asked(memory, words, understood, &mut index, input, output),
+        Err(_) => answer_asked(memory, words, understood, &mut Nothing, input, output),
     }
 }
 

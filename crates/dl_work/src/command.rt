@@ -260,10 +260,10 @@ impl<'a> Command<'a> {
             Command::Dump => all_whole(dump(alloc, input, output, options)),
             Command::Check => all_whole(check(alloc, input, output, options)),
             Command::Find(place) => all_whole(find(alloc, input, output, place, options)),
-            Command::Copy => all_whole(copy(alloc, input, output, options)),
+            Command::Copy => all_whole(copy(memory, input, output, options)),
             Command::CopyTo5(directory) => {
                 let directories = directory_said(directory);
-                all_whole(copy_to_5(alloc, input, output, directories, options))
+                all_whole(copy_to_5(memory, input, output, directories, options))
             }
             Command::Addr(question) => {
                 all_whole(answered(addr(memory, input, output, &question, options)))

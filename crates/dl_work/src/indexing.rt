@@ -26,9 +26,9 @@ use dl_dirs::Directories;
 use dl_elf::{BuildId, ReadAt};
 use dl_look::CodeRanges;
 use dl_making::Table;
+use dl_memory::Memory;
 use dl_open::{FileFault, FileSource, build_id_of};
 use dl_run::Survey;
-use std::alloc::Global;
 use std::io::Write;
 
 /// The path of the file whose index is made.
@@ -89,8 +89,8 @@ struct Opened<S> {
 }
 
 /// The file at a path, open, with what is told of it; its directories where they are wanted.
-fn open_named<F: FileSource>(
-    alloc: Global,
+fn open_named<M: Memory, F: FileSource>(
+    memory: &M,
     are_wanted: bool,
     files: &F,
     path: &str,
@@ -106,7 +106,7 @@ fn open_named<F: FileSource>(
     ensures build_id { ForBytes (F.held files.now path.now) (λ f. IfOk result
         (λ r. IsBuildId f (option_map build_id_bytes r.build_id))) }
 {
-    let (file, code, directories) = open_with_code(alloc, are_wanted, files, path)?;
+    let (file, code, directories) = open_with_code(memory, are_wanted, files, path)?;
     let build_id = build_id(&file)?;
     Ok(Opened {
         file,
@@ -117,14 +117,14 @@ fn open_named<F: FileSource>(
 }
 
 /// Writes the index of the ELF file at this path.
-fn index_file<'a, F: FileSource, W: Write>(
-    alloc: Global,
+fn index_file<'a, M: Memory, F: FileSource, W: Write>(
+    memory: &M,
     words: &IndexWords<'a>,
     path: &'a str,
     files: &F,
     output: &mut W,
 ) -> Result<Survey, Stop<'a>>
-    ensures { IndexesFile (F.held files.now) (F.fails_with files.now) path.entry.now (index_words_made words.now)
+    ensures { IndexesFile (M.refuses memory.now) (F.held files.now) (F.fails_with files.now) path.entry.now (index_words_made words.now)
         (W.contents output.old) (W.contents output.new) result }
 {
     let wanted = wants_directories(words);
@@ -133,7 +133,7 @@ fn index_file<'a, F: FileSource, W: Write>(
         code,
         directories,
         build_id,
-    } = match open_named(alloc, wanted, files, path) {
+    } = match open_named(memory, wanted, files, path) {
         Ok(opened) => opened,
         Err(fault) => return Err(Stop::File { path, fault }),
     };
@@ -146,7 +146,7 @@ fn index_file<'a, F: FileSource, W: Write>(
     let command = indexing(words, table);
     let units = units_of_file(words.units);
     over_file(on_file(
-        alloc,
+        memory,
         path,
         &file,
         units,
@@ -166,17 +166,17 @@ fn index_file<'a, F: FileSource, W: Write>(
 ///
 /// `NotUnderstood` where the words name no file, list an index, or a size is no size; then, and at each fault but a failed
 /// write, nothing is written.
-pub fn index<'a, F: FileSource, W: Write>(
-    alloc: Global,
+pub fn index<'a, M: Memory, F: FileSource, W: Write>(
+    memory: &M,
     words: &IndexWords<'a>,
     files: &F,
     output: &mut W,
 ) -> Result<Survey, Stop<'a>>
-    ensures { IndexesFor (F.held files.now) (F.fails_with files.now) (index_words_made words.now)
+    ensures { IndexesFor (M.refuses memory.now) (F.held files.now) (F.fails_with files.now) (index_words_made words.now)
         (W.contents output.old) (W.contents output.new) result }
 {
     match file_indexed(words) {
-        Some(path) => index_file(alloc, words, path, files, output),
+        Some(path) => index_file(memory, words, path, files, output),
         None => Err(Stop::NotUnderstood),
     }
 }

@@ -23,26 +23,26 @@ use crate::stop::Stop;
 use dl_cmd::AddrWords;
 use dl_dialogue::Nothing;
 use dl_input::Source;
+use dl_memory::Memory;
 use dl_open::FileSource;
-use std::alloc::Global;
 use std::io::Write;
 
 /// Looks into the section on the input.
-fn in_section<'a, F: FileSource, R: Source, W: Write>(
-    alloc: Global,
+fn in_section<'a, M: Memory, F: FileSource, R: Source, W: Write>(
+    memory: &M,
     words: &AddrWords<'a>,
     files: &F,
     input: &mut R,
     output: &mut W,
 ) -> Result<Located, Stop<'a>>
     ensures { (bytes : List ℕ) × Consumes (R.remaining input.old) (R.remaining input.new) bytes
-        × LocatesInSection (F.held files.now) (addr_words_made words.now) bytes (R.remaining input.new)
+        × LocatesInSection (M.refuses memory.now) (F.held files.now) (addr_words_made words.now) bytes (R.remaining input.new)
         (W.contents output.old) (W.contents output.new) result }
 {
     if !suits_input(words) {
         return Err(Stop::NotUnderstood);
     }
-    let AskedWords { base, asked } = asked_words(alloc, words)?;
+    let AskedWords { base, asked } = asked_words(memory, words)?;
     if asked.is_empty() {
         return Err(Stop::NotUnderstood);
     }
@@ -61,28 +61,28 @@ fn in_section<'a, F: FileSource, R: Source, W: Write>(
         said_directory(words),
     );
     let command = asking(words, question);
-    let answer = on_input(alloc, files, section, command, input, output, &mut Unheard);
+    let answer = on_input(memory, files, section, command, input, output, &mut Unheard);
     Located::by_answer(answer, None)
 }
 
 /// Says of each address that it has no answer, where the addresses can be had.
-fn unanswered<R: Source, W: Write>(
-    alloc: Global,
+fn unanswered<M: Memory, R: Source, W: Write>(
+    memory: &M,
     words: &AddrWords<'_>,
     understood: &AskedWords,
     input: &mut R,
     output: &mut W,
 )
     ensures { (bytes : List ℕ) × Consumes (R.remaining input.old) (R.remaining input.new) bytes
-        × (IsUnderstood (addr_words_made words.now) understood.now → Unanswered (addr_words_made words.now) bytes
+        × (IsUnderstood (addr_words_made words.now) understood.now → Unanswered (M.refuses memory.now) (addr_words_made words.now) bytes
         (R.remaining input.new) (W.contents output.old) (W.contents output.new)) }
 {
-    let _ = answer_asked(alloc, words, understood, &mut Nothing, input, output);
+    let _ = answer_asked(memory, words, understood, &mut Nothing, input, output);
 }
 
 /// Looks into the file at this path, an index or an ELF file.
-fn in_file<'a, F: FileSource, R: Source, W: Write>(
-    alloc: Global,
+fn in_file<'a, M: Memory, F: FileSource, R: Source, W: Write>(
+    memory: &M,
     words: &AddrWords<'a>,
     path: &'a str,
     files: &F,
@@ -90,18 +90,18 @@ fn in_file<'a, F: FileSource, R: Source, W: Write>(
     output: &mut W,
 ) -> Result<Located, Stop<'a>>
     ensures { (bytes : List ℕ) × Consumes (R.remaining input.old) (R.remaining input.new) bytes
-        × LocatesInFile (F.held files.now) (F.fails_with files.now) path.entry (addr_words_made words.now) bytes
+        × LocatesInFile (M.refuses memory.now) (F.held files.now) (F.fails_with files.now) path.entry (addr_words_made words.now) bytes
         (R.remaining input.new) (W.contents output.old) (W.contents output.new) result }
 {
     if !suits_file(words) {
         return Err(Stop::NotUnderstood);
     }
-    let understood = asked_words(alloc, words)?;
+    let understood = asked_words(memory, words)?;
     match open_either(files, path) {
-        Ok((file, true)) => in_index(alloc, words, path, &file, &understood, files, input, output),
-        Ok((file, false)) => in_elf_file(alloc, words, path, &file, &understood, input, output),
+        Ok((file, true)) => in_index(memory, words, path, &file, &understood, files, input, output),
+        Ok((file, false)) => in_elf_file(memory, words, path, &file, &understood, input, output),
         Err(fault) => {
-            unanswered(alloc, words, &understood, input, output);
+            unanswered(memory, words, &understood, input, output);
             Err(Stop::File { path, fault })
         }
     }
@@ -123,20 +123,20 @@ fn in_file<'a, F: FileSource, R: Source, W: Write>(
 /// units that are whole, and `Damaged` tells of the others.
 ///
 /// The answer says whether each address has one, and names the first line of the input that is no address.
-pub fn locate<'a, F: FileSource, R: Source, W: Write>(
-    alloc: Global,
+pub fn locate<'a, M: Memory, F: FileSource, R: Source, W: Write>(
+    memory: &M,
     words: &AddrWords<'a>,
     files: &F,
     input: &mut R,
     output: &mut W,
 ) -> Result<Located, Stop<'a>>
     ensures { (bytes : List ℕ) × Consumes (R.remaining input.old) (R.remaining input.new) bytes
-        × LocatesFor (F.held files.now) (F.fails_with files.now) (addr_words_made words.now) bytes
+        × LocatesFor (M.refuses memory.now) (F.held files.now) (F.fails_with files.now) (addr_words_made words.now) bytes
         (R.remaining input.new) (W.contents output.old) (W.contents output.new) result }
 {
     match words.file {
-        Some(path) if path == INPUT => in_section(alloc, words, files, input, output),
-        Some(path) => in_file(alloc, words, path, files, input, output),
+        Some(path) if path == INPUT => in_section(memory, words, files, input, output),
+        Some(path) => in_file(memory, words, path, files, input, output),
         None => Err(Stop::NotUnderstood),
     }
 }

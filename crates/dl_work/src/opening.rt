@@ -14,13 +14,13 @@ use dl_dirs::Directories;
 use dl_elf::{ElfFault, ReadAt};
 use dl_index_file::is_index;
 use dl_look::CodeRanges;
+use dl_memory::Memory;
 use dl_open::{FileFault, FileSource, code_of, open_file};
-use std::alloc::Global;
 
 /// The file at a path, open, where it has code, and the directories in which its units were compiled, where they are
 /// wanted.
-pub fn open_with_code<F: FileSource>(
-    alloc: Global,
+pub fn open_with_code<M: Memory, F: FileSource>(
+    memory: &M,
     are_wanted: bool,
     files: &F,
     path: &str,
@@ -34,13 +34,13 @@ pub fn open_with_code<F: FileSource>(
         (λ r. AreFound are_wanted f (directory_at r.2))) }
 {
     let file = open_file(files, path)?;
-    let (code, directories) = code_and_directories(alloc, are_wanted, &file)?;
+    let (code, directories) = code_and_directories(memory, are_wanted, &file)?;
     Ok((file, code, directories))
 }
 
 /// Where an open file has code, and the directories in which its units were compiled, where they are wanted.
-pub fn code_and_directories<S: ReadAt>(
-    alloc: Global,
+pub fn code_and_directories<M: Memory, S: ReadAt>(
+    memory: &M,
     are_wanted: bool,
     file: &S,
 ) -> Result<(Option<CodeRanges>, Directories), FileFault>
@@ -50,8 +50,8 @@ pub fn code_and_directories<S: ReadAt>(
     ensures directories { ForBytes (S.all_bytes file.now) (λ f. IfOk result
         (λ r. AreFound are_wanted f (directory_at r.1))) }
 {
-    let code = code_of(alloc, file)?;
-    let directories = directories_for(alloc, are_wanted, file)?;
+    let code = code_of(memory.alloc(), file)?;
+    let directories = directories_for(memory.alloc(), are_wanted, file)?;
     Ok((code, directories))
 }
 

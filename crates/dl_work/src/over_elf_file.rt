@@ -25,14 +25,14 @@ use dl_elf::ReadAt;
 use dl_input::Source;
 use dl_look::CodeRanges;
 use dl_making::Table;
+use dl_memory::Memory;
 use dl_open::{FileFault, FileStop};
 use dl_run::{RunFault, Survey};
-use std::alloc::Global;
 use std::io::Write;
 
 /// Looks into the ELF file at this path, which is open.
-pub fn in_elf_file<'a, S: ReadAt, R: Source, W: Write>(
-    alloc: Global,
+pub fn in_elf_file<'a, M: Memory, S: ReadAt, R: Source, W: Write>(
+    memory: &M,
     words: &AddrWords<'a>,
     path: &'a str,
     file: &S,
@@ -42,19 +42,19 @@ pub fn in_elf_file<'a, S: ReadAt, R: Source, W: Write>(
 ) -> Result<Located, Stop<'a>>
     ensures { (bytes : List ℕ) × Consumes (R.remaining input.old) (R.remaining input.new) bytes
         × (IsUnderstood (addr_words_made words.now) understood.now → ForBytes (S.all_bytes file.now)
-        (λ f. LocatesInElfFile (S.fails_with file.now) path.entry (addr_words_made words.now) f bytes
+        (λ f. LocatesInElfFile (M.refuses memory.now) (S.fails_with file.now) path.entry (addr_words_made words.now) f bytes
         (R.remaining input.new) (W.contents output.old) (W.contents output.new) result)) }
 {
     if words.made_of.is_some() {
         return Err(Stop::NotUnderstood);
     }
     let wanted = wants_directories(words);
-    match code_and_directories(alloc, wanted, file) {
+    match code_and_directories(memory, wanted, file) {
         Ok((code, directories)) => {
             let code = code.as_ref();
             if understood.asked.is_empty() {
                 by_index(
-                    alloc,
+                    memory,
                     words,
                     path,
                     file,
@@ -66,7 +66,7 @@ pub fn in_elf_file<'a, S: ReadAt, R: Source, W: Write>(
                 )
             } else {
                 given(
-                    alloc,
+                    memory,
                     words,
                     path,
                     file,
@@ -78,15 +78,15 @@ pub fn in_elf_file<'a, S: ReadAt, R: Source, W: Write>(
             }
         }
         Err(fault) => {
-            let _ = answer_asked(alloc, words, understood, &mut Nothing, input, output);
+            let _ = answer_asked(memory, words, understood, &mut Nothing, input, output);
             Err(Stop::File { path, fault })
         }
     }
 }
 
 /// Answers the addresses among the words, in one pass over the line table.
-fn given<'a, S: ReadAt, W: Write>(
-    alloc: Global,
+fn given<'a, M: Memory, S: ReadAt, W: Write>(
+    memory: &M,
     words: &AddrWords<'a>,
     path: &'a str,
     file: &S,
@@ -96,7 +96,7 @@ fn given<'a, S: ReadAt, W: Write>(
     output: &mut W,
 ) -> Result<Located, Stop<'a>>
     ensures { IsUnderstood (addr_words_made words.now) understood.now → ForBytes (S.all_bytes file.now)
-        (λ f. LocatesGiven (S.fails_with file.now) path.entry (addr_words_made words.now) f
+        (λ f. LocatesGiven (M.refuses memory.now) (S.fails_with file.now) path.entry (addr_words_made words.now) f
         (option_copied code.entry) (directory_at directories.now) (W.contents output.old) (W.contents output.new) result) }
 {
     let question = question(
@@ -110,7 +110,7 @@ fn given<'a, S: ReadAt, W: Write>(
     let command = asking(words, question);
     let units = units_of_file(words.units);
     let answer = on_file(
-        alloc,
+        memory,
         path,
         file,
         units,
@@ -123,8 +123,8 @@ fn given<'a, S: ReadAt, W: Write>(
 }
 
 /// Makes the index of the line table in memory, and answers from it the addresses on the input, as they come.
-fn by_index<'a, S: ReadAt, R: Source, W: Write>(
-    alloc: Global,
+fn by_index<'a, M: Memory, S: ReadAt, R: Source, W: Write>(
+    memory: &M,
     words: &AddrWords<'a>,
     path: &'a str,
     file: &S,
@@ -136,16 +136,16 @@ fn by_index<'a, S: ReadAt, R: Source, W: Write>(
 ) -> Result<Located, Stop<'a>>
     ensures { (bytes : List ℕ) × Consumes (R.remaining input.old) (R.remaining input.new) bytes
         × (IsUnderstood (addr_words_made words.now) understood.now → ForBytes (S.all_bytes file.now)
-        (λ f. LocatesByIndex (S.fails_with file.now) path.entry (addr_words_made words.now) f
+        (λ f. LocatesByIndex (M.refuses memory.now) (S.fails_with file.now) path.entry (addr_words_made words.now) f
         (option_copied code.entry) (directory_at directories.now) bytes (R.remaining input.new) (W.contents output.old)
         (W.contents output.new) result)) }
 {
     let table = table_of(words, code, directories);
-    let mut index = Vec::new(alloc);
+    let mut index = Vec::new(memory.alloc());
     let units = units_of_file(words.units);
     let command = making(words, table);
     let answer = on_file(
-        alloc,
+        memory,
         path,
         file,
         units,
@@ -160,7 +160,7 @@ fn by_index<'a, S: ReadAt, R: Source, W: Write>(
             fault: FileFault::NoMemory,
         });
     }
-    let answered = answer_made(alloc, words, understood, index.as_slice(), input, output);
+    let answered = answer_made(memory, words, understood, index.as_slice(), input, output);
     located_after(path, answer, answered)
 }
 

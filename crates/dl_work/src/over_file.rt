@@ -11,18 +11,17 @@ ghost use Rattle.dl_work.specs.Tables.{OnFile, OnFound, OnLines, OnTable, RunsOn
 use crate::command::Command;
 use dl_elf::ReadAt;
 use dl_file::{LineFile, LineReader};
-use dl_memory::System;
+use dl_memory::Memory;
 use dl_open::{
     FileFault, FileStop, FileUnits, Part, StringSections, file_dialect, kept_bytes, open_table,
     part_of,
 };
 use dl_run::{DamageSink, Options, SECTION_LIMIT, Survey};
-use std::alloc::Global;
 use std::io::Write;
 
 /// Works through the line section of the file at this path.
-fn on_section<'p, S: ReadAt, W: Write, D: DamageSink>(
-    alloc: Global,
+fn on_section<'p, M: Memory, S: ReadAt, W: Write, D: DamageSink>(
+    memory: &M,
     path: &'p str,
     command: Command<'_>,
     line: &mut LineReader<'_, S>,
@@ -33,19 +32,19 @@ fn on_section<'p, S: ReadAt, W: Write, D: DamageSink>(
     requires { options.now.limit ≡ SECTION_LIMIT }
     ensures { (units : FileUnits) (t : LineTable) → GivesLine S.all_bytes line.old t.line → options.now.dialect ≡ file_dialect units t
         → IsWhole t.line_str t.str (strings_in options.now) → D.hears damages.old damages.old []
-        → RunsOn units path.entry.now command.entry t (W.contents output.old) (W.contents output.new)
+        → RunsOn (M.refuses memory.now) units path.entry.now command.entry t (W.contents output.old) (W.contents output.new)
         (D.hears damages.old damages.new) result }
 {
     let stream = line.stream_name();
-    match command.run(&System::new(alloc), line, output, options, damages) {
+    match command.run(memory, line, output, options, damages) {
         Ok(survey) => Ok(survey),
         Err(fault) => Err(FileStop::at(path, stream, fault, line.last_fault())),
     }
 }
 
 /// Works through what is left of the line section of the object file at this path.
-fn on_kept<'p, W: Write, D: DamageSink>(
-    alloc: Global,
+fn on_kept<'p, M: Memory, W: Write, D: DamageSink>(
+    memory: &M,
     path: &'p str,
     command: Command<'_>,
     bytes: &[u8],
@@ -56,19 +55,19 @@ fn on_kept<'p, W: Write, D: DamageSink>(
     requires { options.now.limit ≡ SECTION_LIMIT }
     ensures { (units : FileUnits) (t : LineTable) → t.line ≡ Plain bytes.now → options.now.dialect ≡ file_dialect units t
         → IsWhole t.line_str t.str (strings_in options.now) → D.hears damages.old damages.old []
-        → RunsOn units path.entry.now command.entry t (W.contents output.old) (W.contents output.new)
+        → RunsOn (M.refuses memory.now) units path.entry.now command.entry t (W.contents output.old) (W.contents output.new)
         (D.hears damages.old damages.new) result }
 {
     let mut input = bytes;
-    match command.run(&System::new(alloc), &mut input, output, options, damages) {
+    match command.run(memory, &mut input, output, options, damages) {
         Ok(survey) => Ok(survey),
         Err(fault) => Err(FileStop::at(path, None, fault, None)),
     }
 }
 
 /// Works through the line section of the file at this path, or through the sequences of a part of it.
-fn on_lines<'p, S: ReadAt, W: Write, D: DamageSink>(
-    alloc: Global,
+fn on_lines<'p, M: Memory, S: ReadAt, W: Write, D: DamageSink>(
+    memory: &M,
     path: &'p str,
     command: Command<'_>,
     part: Option<&Part>,
@@ -80,15 +79,15 @@ fn on_lines<'p, S: ReadAt, W: Write, D: DamageSink>(
     requires { options.now.limit ≡ SECTION_LIMIT }
     ensures { (units : FileUnits) (t : LineTable) → GivesLine S.all_bytes line.old t.line → options.now.dialect ≡ file_dialect units t
         → IsWhole t.line_str t.str (strings_in options.now) → D.hears damages.old damages.old []
-        → OnLines units path.entry.now command.entry t (option_copied part.entry) (W.contents output.old)
+        → OnLines (M.refuses memory.now) units path.entry.now command.entry t (option_copied part.entry) (W.contents output.old)
         (W.contents output.new) (D.hears damages.old damages.new) result }
 {
     let Some(part) = part else {
-        return on_section(alloc, path, command, line, options, output, damages);
+        return on_section(memory, path, command, line, options, output, damages);
     };
-    match kept_bytes(alloc, path, options.dialect, part, line) {
+    match kept_bytes(memory.alloc(), path, options.dialect, part, line) {
         Ok(bytes) => on_kept(
-            alloc,
+            memory,
             path,
             command,
             bytes.as_slice(),
@@ -97,15 +96,15 @@ fn on_lines<'p, S: ReadAt, W: Write, D: DamageSink>(
             damages,
         ),
         Err(stop) => {
-            command.without_table(&System::new(alloc), output);
+            command.without_table(memory, output);
             Err(stop)
         }
     }
 }
 
 /// Does what is asked of the line table of the file at this path, which is opened, or of a part of it.
-fn on_table<'p, S: ReadAt, W: Write, D: DamageSink>(
-    alloc: Global,
+fn on_table<'p, M: Memory, S: ReadAt, W: Write, D: DamageSink>(
+    memory: &M,
     path: &'p str,
     command: Command<'_>,
     units: FileUnits,
@@ -115,7 +114,7 @@ fn on_table<'p, S: ReadAt, W: Write, D: DamageSink>(
     damages: &mut D,
 ) -> Result<Survey, FileStop<'p>>
     ensures { (t : LineTable) → GivesTable S.all_bytes table.entry t → D.hears damages.old damages.old []
-        → OnTable units path.entry.now command.entry t (option_copied part.entry) (W.contents output.old)
+        → OnTable (M.refuses memory.now) units path.entry.now command.entry t (option_copied part.entry) (W.contents output.old)
         (W.contents output.new) (D.hears damages.old damages.new) result }
 {
     let LineFile {
@@ -128,29 +127,29 @@ fn on_table<'p, S: ReadAt, W: Write, D: DamageSink>(
         ..
     } = table;
     if command.loses(is_object) {
-        command.without_table(&System::new(alloc), output);
+        command.without_table(memory, output);
         return Err(FileStop::File {
             path,
             fault: FileFault::ObjectCopy,
         });
     }
-    let strings = match StringSections::of_table(alloc, path, debug_line_str, debug_str) {
+    let strings = match StringSections::of_table(memory.alloc(), path, debug_line_str, debug_str) {
         Ok(strings) => strings,
         Err(stop) => {
-            command.without_table(&System::new(alloc), output);
+            command.without_table(memory, output);
             return Err(stop);
         }
     };
     let options = strings.options(file_dialect(order, class, units));
     on_lines(
-        alloc, path, command, part, &mut line, &options, output, damages,
+        memory, path, command, part, &mut line, &options, output, damages,
     )
 }
 
 /// Does what is asked of the line table of the file at this path, whose table was found. Addresses are looked up in the
 /// section of this name.
-fn on_found<'p, S: ReadAt, W: Write, D: DamageSink>(
-    alloc: Global,
+fn on_found<'p, M: Memory, S: ReadAt, W: Write, D: DamageSink>(
+    memory: &M,
     path: &'p str,
     file: &S,
     units: FileUnits,
@@ -161,16 +160,16 @@ fn on_found<'p, S: ReadAt, W: Write, D: DamageSink>(
     damages: &mut D,
 ) -> Result<Survey, FileStop<'p>>
     ensures { ForBytes (S.all_bytes file.now) (λ f. (t : LineTable) → GivesTable S.all_bytes table.entry t
-        → D.hears damages.old damages.old [] → OnFound units (S.fails_with file.now) path.entry.now
+        → D.hears damages.old damages.old [] → OnFound (M.refuses memory.now) units (S.fails_with file.now) path.entry.now
         (option_map (λ s. s.now) section.entry) command.entry f t (W.contents output.old) (W.contents output.new)
         (D.hears damages.old damages.new) result) }
 {
     if !command.looks_up() {
-        return on_table(alloc, path, command, units, table, None, output, damages);
+        return on_table(memory, path, command, units, table, None, output, damages);
     }
-    match part_of(alloc, path, file, table.is_object, section) {
+    match part_of(memory.alloc(), path, file, table.is_object, section) {
         Ok(part) => on_table(
-            alloc,
+            memory,
             path,
             command,
             units,
@@ -180,7 +179,7 @@ fn on_found<'p, S: ReadAt, W: Write, D: DamageSink>(
             damages,
         ),
         Err(stop) => {
-            command.without_table(&System::new(alloc), output);
+            command.without_table(memory, output);
             Err(stop)
         }
     }
@@ -189,8 +188,8 @@ fn on_found<'p, S: ReadAt, W: Write, D: DamageSink>(
 /// Does what is asked of the line table of the file at this path, which is open. In an object file addresses are looked
 /// up in the section of this name, or where none is named in that of its code. Where the table can't be had, `addr`
 /// says of each address that it has no answer.
-pub fn on_file<'p, S: ReadAt, W: Write, D: DamageSink>(
-    alloc: Global,
+pub fn on_file<'p, M: Memory, S: ReadAt, W: Write, D: DamageSink>(
+    memory: &M,
     path: &'p str,
     file: &S,
     units: FileUnits,
@@ -199,16 +198,16 @@ pub fn on_file<'p, S: ReadAt, W: Write, D: DamageSink>(
     output: &mut W,
     damages: &mut D,
 ) -> Result<Survey, FileStop<'p>>
-    ensures { D.hears damages.old damages.old [] → ForBytes (S.all_bytes file.now) (λ f. OnFile units
+    ensures { D.hears damages.old damages.old [] → ForBytes (S.all_bytes file.now) (λ f. OnFile (M.refuses memory.now) units
         (S.fails_with file.now) path.entry.now (option_map (λ s. s.now) section.entry) command.entry f
         (W.contents output.old) (W.contents output.new) (D.hears damages.old damages.new) result) }
 {
-    match open_table(alloc, path, file, units, command.sections()) {
+    match open_table(memory.alloc(), path, file, units, command.sections()) {
         Ok(table) => on_found(
-            alloc, path, file, units, section, command, table, output, damages,
+            memory, path, file, units, section, command, table, output, damages,
         ),
         Err(stop) => {
-            command.without_table(&System::new(alloc), output);
+            command.without_table(memory, output);
             Err(stop)
         }
     }

@@ -26,17 +26,16 @@ use dl_elf::{BuildId, ReadAt};
 use dl_index_file::{FileFinder, IndexFile, open_index};
 use dl_input::Source;
 use dl_making::id_front;
-use dl_memory::System;
+use dl_memory::Memory;
 use dl_open::{FileFault, FileSource, open_file};
-use std::alloc::Global;
 use std::io::Write;
 
 /// From how many addresses among the words on an index is read whole: each takes some fifteen reads of a few bytes.
 const FEW: usize = 64;
 
 /// Answers from the index at this path, which is open.
-pub fn in_index<'a, F: FileSource, S: ReadAt, R: Source, W: Write>(
-    alloc: Global,
+pub fn in_index<'a, M: Memory, F: FileSource, S: ReadAt, R: Source, W: Write>(
+    memory: &M,
     words: &AddrWords<'a>,
     path: &'a str,
     file: &S,
@@ -47,7 +46,7 @@ pub fn in_index<'a, F: FileSource, S: ReadAt, R: Source, W: Write>(
 ) -> Result<Located, Stop<'a>>
     ensures { (bytes : List ℕ) × Consumes (R.remaining input.old) (R.remaining input.new) bytes
         × (IsUnderstood (addr_words_made words.now) understood.now → ForBytes (S.all_bytes file.now)
-        (λ b. LocatesInIndex (F.held files.now) (F.fails_with files.now) (S.fails_with file.now) path.entry
+        (λ b. LocatesInIndex (M.refuses memory.now) (F.held files.now) (F.fails_with files.now) (S.fails_with file.now) path.entry
         (addr_words_made words.now) b bytes (R.remaining input.new) (W.contents output.old) (W.contents output.new) result)) }
 {
     if !suits_index(words) {
@@ -60,7 +59,7 @@ pub fn in_index<'a, F: FileSource, S: ReadAt, R: Source, W: Write>(
     check_made_of(words, path, files, index.build_id())?;
     located_by(
         path,
-        answer_from(alloc, words, understood, &index, input, output),
+        answer_from(memory, words, understood, &index, input, output),
     )
 }
 
@@ -73,8 +72,8 @@ fn are_few(understood: &AskedWords) -> bool {
 
 /// Answers from an index. Where many addresses are asked for, or they come on the input, it is read whole before, unless it is
 /// long or memory is refused for that.
-fn answer_from<S: ReadAt, R: Source, W: Write>(
-    alloc: Global,
+fn answer_from<M: Memory, S: ReadAt, R: Source, W: Write>(
+    memory: &M,
     words: &AddrWords<'_>,
     understood: &AskedWords,
     index: &IndexFile<'_, S>,
@@ -83,17 +82,17 @@ fn answer_from<S: ReadAt, R: Source, W: Write>(
 ) -> Result<Answered, AnswerFault>
     ensures { (bytes : List ℕ) × Consumes (R.remaining input.old) (R.remaining input.new) bytes
         × (IsUnderstood (addr_words_made words.now) understood.now → ForBytes (S.all_bytes (source_of index.now))
-        (λ b. IsIndex b → AnswersAsked (addr_words_made words.now) (location_in b)
+        (λ b. IsIndex b → AnswersAsked (M.refuses memory.now) (addr_words_made words.now) (location_in b)
         (ReadFails (Some b) (S.fails_with (source_of index.now))) bytes (R.remaining input.new) (W.contents output.old)
         (W.contents output.new) result)) }
 {
     if !are_few(understood) {
-        if let Some(bytes) = index.whole(&System::new(alloc)) {
-            return answer_made(alloc, words, understood, bytes.as_slice(), input, output);
+        if let Some(bytes) = index.whole(memory) {
+            return answer_made(memory, words, understood, bytes.as_slice(), input, output);
         }
     }
     let mut finder = FileFinder::of(index);
-    answer_asked(alloc, words, understood, &mut finder, input, output)
+    answer_asked(memory, words, understood, &mut finder, input, output)
 }
 
 /// What came of all.

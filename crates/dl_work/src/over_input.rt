@@ -11,11 +11,10 @@ use crate::stop::Stop;
 use crate::unit_words::older_by;
 use dl_head::Dialect;
 use dl_input::Source;
-use dl_memory::System;
+use dl_memory::Memory;
 use dl_num::Order;
 use dl_open::{FileSource, StringSections};
 use dl_run::{DamageSink, RunFault, Survey};
-use std::alloc::Global;
 use std::io::Write;
 
 /// What the words say of a section on the input.
@@ -56,8 +55,8 @@ fn stopped<'a>(answer: Result<Survey, RunFault>) -> Result<Survey, Stop<'a>>
 }
 
 /// Does what is asked of the section on the input. The string sections are read first.
-pub fn on_input<'p, F: FileSource, R: Source, W: Write, D: DamageSink>(
-    alloc: Global,
+pub fn on_input<'p, M: Memory, F: FileSource, R: Source, W: Write, D: DamageSink>(
+    memory: &M,
     files: &F,
     section: Section<'_>,
     command: Command<'_>,
@@ -66,7 +65,7 @@ pub fn on_input<'p, F: FileSource, R: Source, W: Write, D: DamageSink>(
     damages: &mut D,
 ) -> Result<Survey, Stop<'p>>
     ensures ran { (bytes : List ℕ) × Consumes (R.remaining input.old) (R.remaining input.new) bytes
-        × (D.hears damages.old damages.old [] → OnInput (F.held files.now) (section_seen section.entry) command.entry
+        × (D.hears damages.old damages.old [] → OnInput (M.refuses memory.now) (F.held files.now) (section_seen section.entry) command.entry
         bytes (R.remaining input.new) (W.contents output.old) (W.contents output.new)
         (D.hears damages.old damages.new) result) }
     ensures blames { Blames R.follows R.fails input.old input.new ((D.hears damages.old damages.old [])
@@ -74,10 +73,10 @@ pub fn on_input<'p, F: FileSource, R: Source, W: Write, D: DamageSink>(
         × ¬ FilesStop (F.held files.now) (section_seen section.entry).line_str (section_seen section.entry).strings
         RunFault.Read) }
 {
-    match StringSections::of_files(alloc, files, section.line_str, section.strings) {
+    match StringSections::of_files(memory.alloc(), files, section.line_str, section.strings) {
         Ok(strings) => {
             let options = strings.options(section.dialect());
-            stopped(command.run(&System::new(alloc), input, output, &options, damages))
+            stopped(command.run(memory, input, output, &options, damages))
         }
         Err(fault) => Err(Stop::Run(fault)),
     }

@@ -17,10 +17,9 @@ use crate::stop::{Stop, over_file};
 use crate::unit_words::file_units;
 use dl_cmd::Job;
 use dl_input::Source;
-use dl_memory::System;
+use dl_memory::Memory;
 use dl_open::{FileSource, FileStop, FileUnits, open_file};
 use dl_run::{DamageSink, Survey};
-use std::alloc::Global;
 use std::io::Write;
 
 /// The path of the ELF file that a job names.
@@ -107,8 +106,8 @@ fn section<'a>(job: &Job<'a>) -> Section<'a>
 }
 
 /// Does what is asked of the line table of the file at this path. Addresses are looked up in the section of this name.
-fn on_named<'p, F: FileSource, W: Write, D: DamageSink>(
-    alloc: Global,
+fn on_named<'p, M: Memory, F: FileSource, W: Write, D: DamageSink>(
+    memory: &M,
     files: &F,
     path: &'p str,
     units: FileUnits,
@@ -117,14 +116,14 @@ fn on_named<'p, F: FileSource, W: Write, D: DamageSink>(
     output: &mut W,
     damages: &mut D,
 ) -> Result<Survey, FileStop<'p>>
-    ensures { D.hears damages.old damages.old [] → ForBytes (F.held files.now path.entry.now) (λ f. OnFile units
+    ensures { D.hears damages.old damages.old [] → ForBytes (F.held files.now path.entry.now) (λ f. OnFile (M.refuses memory.now) units
         (F.fails_with files.now path.entry.now) path.entry.now (option_map (λ s. s.now) section.entry) command.entry f
         (W.contents output.old) (W.contents output.new) (D.hears damages.old damages.new) result) }
 {
     match open_file(files, path) {
-        Ok(file) => on_file(alloc, path, &file, units, section, command, output, damages),
+        Ok(file) => on_file(memory, path, &file, units, section, command, output, damages),
         Err(fault) => {
-            command.without_table(&System::new(alloc), output);
+            command.without_table(memory, output);
             Err(FileStop::File { path, fault })
         }
     }
@@ -141,8 +140,8 @@ fn on_named<'p, F: FileSource, W: Write, D: DamageSink>(
 /// `NotUnderstood` where there is no job, ADDRESS is no address, a size is no size, a section of an object file is named without a file,
 /// or the job is `addr`, which is that of `locate`, or `index`, which is that of `index`; then, and at each fault before the command, nothing is
 /// written. Of the input nothing is read then, nor where a file is named.
-pub fn work<'a, F: FileSource, R: Source, W: Write, D: DamageSink>(
-    alloc: Global,
+pub fn work<'a, M: Memory, F: FileSource, R: Source, W: Write, D: DamageSink>(
+    memory: &M,
     job: Option<Job<'a>>,
     files: &F,
     input: &mut R,
@@ -150,7 +149,7 @@ pub fn work<'a, F: FileSource, R: Source, W: Write, D: DamageSink>(
     damages: &mut D,
 ) -> Result<Survey, Stop<'a>>
     ensures ran { (bytes : List ℕ) × Consumes (R.remaining input.old) (R.remaining input.new) bytes
-        × (D.hears damages.old damages.old [] → Works (F.held files.now) (F.fails_with files.now)
+        × (D.hears damages.old damages.old [] → Works (M.refuses memory.now) (F.held files.now) (F.fails_with files.now)
         (option_map request_made job.entry) bytes (R.remaining input.new) (W.contents output.old)
         (W.contents output.new) (D.hears damages.old damages.new) result) }
     ensures blames { Blames R.follows R.fails input.old input.new ((D.hears damages.old damages.old [])
@@ -164,7 +163,7 @@ pub fn work<'a, F: FileSource, R: Source, W: Write, D: DamageSink>(
     };
     match file(&job) {
         Some(path) => over_file(on_named(
-            alloc,
+            memory,
             files,
             path,
             file_units(&job),
@@ -173,6 +172,6 @@ pub fn work<'a, F: FileSource, R: Source, W: Write, D: DamageSink>(
             output,
             damages,
         )),
-        None => on_input(alloc, files, section(&job), command, input, output, damages),
+        None => on_input(memory, files, section(&job), command, input, output, damages),
     }
 }

@@ -1,9 +1,10 @@
 //! The files of indices: one is written under its name once it is whole, and one is listed.
 
-use crate::{Ending, System};
+use crate::{Ending, SystemFiles};
 use dl_cmd::IndexWords;
 use dl_index::open;
 use dl_listing::list;
+use dl_memory::System;
 use dl_open::FileSource;
 use dl_run::{RunFault, SECTION_LIMIT, Survey};
 use dl_work::{Stop, index};
@@ -16,9 +17,9 @@ const OUTPUT: &str = "-";
 
 /// Writes the index that the words ask for.
 pub fn write_index<'a>(rt: &HostRuntime, words: &IndexWords<'a>) -> Result<Survey, Ending<'a>> {
-    let files = System { rt };
+    let files = SystemFiles { rt };
     match words.output {
-        Some(path) if path == OUTPUT => Ok(index(rt.alloc(), words, &files, &mut rt.stdout())?),
+        Some(path) if path == OUTPUT => Ok(index(&System::new(rt.alloc()), words, &files, &mut rt.stdout())?),
         Some(path) if is_special(rt, path) => write_into(rt, words, path),
         Some(path) => write_beside(rt, words, path),
         None => Err(Ending::Stop(Stop::NotUnderstood)),
@@ -40,7 +41,7 @@ fn write_into<'a>(
     path: &'a str,
 ) -> Result<Survey, Ending<'a>> {
     match OpenOptions::new().write(true).open(rt, path) {
-        Ok(mut file) => Ok(index(rt.alloc(), words, &System { rt }, &mut file)?),
+        Ok(mut file) => Ok(index(&System::new(rt.alloc()), words, &SystemFiles { rt }, &mut file)?),
         Err(error) => Err(Ending::NotWritten { path, error }),
     }
 }
@@ -57,7 +58,7 @@ fn write_beside<'a>(
         Ok(file) => file,
         Err(error) => return Err(Ending::NotWritten { path, error }),
     };
-    match index(rt.alloc(), words, &System { rt }, &mut file) {
+    match index(&System::new(rt.alloc()), words, &SystemFiles { rt }, &mut file) {
         Ok(survey) => match fs::rename(rt, part.as_str(), path) {
             Ok(()) => Ok(survey),
             Err(error) => Err(Ending::NotWritten { path, error }),
@@ -82,7 +83,7 @@ pub fn list_index<'a>(rt: &HostRuntime, words: &IndexWords<'a>) -> Result<u8, En
     let Some(path) = words.file else {
         return Err(Ending::Stop(Stop::NotUnderstood));
     };
-    let read = System { rt }.read_file(rt.alloc(), path, SECTION_LIMIT);
+    let read = SystemFiles { rt }.read_file(rt.alloc(), path, SECTION_LIMIT);
     let bytes = read.map_err(|fault| Ending::Stop(Stop::Run(fault)))?;
     match open(bytes.as_slice()) {
         Ok(index) => match list(&index, &mut rt.stdout()) {

@@ -8,6 +8,7 @@ use dl_addr::Found;
 use dl_cmd::{Job, read_job, word_status};
 use dl_elf::ReadAt;
 use dl_index::IndexFault;
+use dl_memory::System;
 use dl_open::{FileSource, FileUnits, Shown, units_not_read};
 use dl_run::{RunFault, read_strings};
 use dl_work::{DamageLines, Stop, file_units, locate, looked_into, with_debug_file, work};
@@ -93,11 +94,11 @@ impl ReadAt for SystemFile {
 
 /// The files of the system.
 #[derive(Drop)]
-struct System<'a> {
+struct SystemFiles<'a> {
     rt: &'a HostRuntime,
 }
 
-impl FileSource for System<'_> {
+impl FileSource for SystemFiles<'_> {
     ghost use Rattle.std.specs.Prelude.{None};
 
     type File = SystemFile;
@@ -116,7 +117,7 @@ impl FileSource for System<'_> {
 
     fn read_file(&self, alloc: Global, path: &str, limit: u64) -> Result<Vec<u8>, RunFault> {
         match File::open(self.rt, path) {
-            Ok(mut file) => read_strings(&dl_memory::System::new(alloc), &mut file, limit),
+            Ok(mut file) => read_strings(&System::new(alloc), &mut file, limit),
             Err(_) => Err(RunFault::Read),
         }
     }
@@ -136,7 +137,7 @@ fn tell_not_read(rt: &HostRuntime, path: Option<&str>, read: FileUnits) {
     let Some(path) = path else {
         return;
     };
-    if let Some(units) = units_not_read(rt.alloc(), &System { rt }, path, read) {
+    if let Some(units) = units_not_read(rt.alloc(), &SystemFiles { rt }, path, read) {
         let _ = units.write_line(&mut rt.stderr());
     }
 }
@@ -146,14 +147,15 @@ fn tell_not_read(rt: &HostRuntime, path: Option<&str>, read: FileUnits) {
 /// answer, it is said which units of the file aren't read.
 fn run_words<'a>(rt: &HostRuntime, words: &'a [&'a str]) -> Result<u8, Ending<'a>> {
     let job = read_job(rt.alloc(), words)?;
-    let files = System { rt };
-    let (alloc, input, output) = (rt.alloc(), &mut rt.stdin(), &mut rt.stdout());
+    let files = SystemFiles { rt };
+    let memory = &System::new(rt.alloc());
+    let (input, output) = (&mut rt.stdin(), &mut rt.stdout());
     let path = job.as_ref().and_then(|job| looked_into(job));
     let read = job
         .as_ref()
         .map_or(FileUnits::ByClass, |job| file_units(job));
     if let Some(Job::Addr(words)) = &job {
-        let located = locate(alloc, words, &files, input, output)?;
+        let located = locate(memory, words, &files, input, output)?;
         if located.found == Found::NotAll {
             tell_not_read(rt, path, read);
         }
@@ -176,7 +178,7 @@ fn run_words<'a>(rt: &HostRuntime, words: &'a [&'a str]) -> Result<u8, Ending<'a
         };
     }
     let mut damages = DamageLines::new(rt.stderr());
-    match work(alloc, job, &files, input, output, &mut damages) {
+    match work(memory, job, &files, input, output, &mut damages) {
         Ok(survey) => Ok(if survey.damaged.is_some() { 1 } else { 0 }),
         Err(stop) => {
             if matches!(stop, Stop::Run(RunFault::NotFound)) {
@@ -211,7 +213,7 @@ fn report(rt: &HostRuntime, ending: Ending<'_>) -> u8 {
             1
         }
         Ending::Stop(stop) => {
-            let stop = with_debug_file(&System { rt }, stop);
+            let stop = with_debug_file(&SystemFiles { rt }, stop);
             let _ = stop.write_line(&mut rt.stderr());
             stop.status()
         }

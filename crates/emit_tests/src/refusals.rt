@@ -2,6 +2,7 @@
 
 use dl_emit::{EmitFault, Program, measure, write_unit};
 use dl_head::Header;
+use dl_memory::System;
 use dl_num::Order;
 use dl_rows::Row;
 use std::alloc::Global;
@@ -38,23 +39,30 @@ fn header_with(rt: &impl Abort, alloc: Global, numbers: [u8; 3]) -> Header {
 }
 
 /// Begins a unit with this header, and adds these rows one by one.
-fn begin(rt: &impl Abort, program: &mut Program, head: &Header, rows: &[Row]) {
+fn begin(
+    rt: &impl Abort,
+    memory: &System,
+    program: &mut Program,
+    head: &Header,
+    rows: &[Row],
+) {
     program.begin(head);
     for row in rows {
-        program.push(row).expect(rt, "memory");
+        program.push(memory, row).expect(rt, "memory");
     }
 }
 
 /// Asserts that nothing is written, for this reason, neither of the rows at once nor of a program of them.
 fn assert_refused(
     rt: &impl Abort,
+    memory: &System,
     output: &mut Sink,
     program: &mut Program,
     head: &Header,
     rows: &[Row],
     fault: EmitFault,
 ) {
-    begin(rt, program, head, rows);
+    begin(rt, memory, program, head, rows);
     assert!(rt; measure(head, rows) == Err(fault), "{fault:?}");
     assert!(rt; write_unit(output, Order::Little, head, rows) == Err(fault));
     assert!(rt; program.write_header(output, head) == Err(fault));
@@ -71,7 +79,15 @@ fn assert_refused_anew(
 ) {
     let output = &mut Sink::new(alloc, 1000, 7);
     let program = &mut Program::new(alloc, Order::Little);
-    assert_refused(rt, output, program, head, rows, fault);
+    assert_refused(
+        rt,
+        &System::new(alloc),
+        output,
+        program,
+        head,
+        rows,
+        fault,
+    );
 }
 
 /// A row is refused for opcode_base 10, whatever its op_index.
@@ -131,10 +147,16 @@ fn append_unit(rt: &impl Abort, program: &Program, head: &Header, output: &mut S
 }
 
 /// Asserts that a program that begins anew has the rows from then on alone.
-fn assert_begins_anew(rt: &impl Abort, output: &mut Sink, program: &mut Program, head: &Header) {
-    begin(rt, program, head, &[row(1 << 32, 0, 1), row(0, 0, 1)]);
+fn assert_begins_anew(
+    rt: &impl Abort,
+    memory: &System,
+    output: &mut Sink,
+    program: &mut Program,
+    head: &Header,
+) {
+    begin(rt, memory, program, head, &[row(1 << 32, 0, 1), row(0, 0, 1)]);
     assert!(rt; program.write_header(output, head) == Err(EmitFault::RowRange(0)));
-    begin(rt, program, head, &[row(4, 0, 2)]);
+    begin(rt, memory, program, head, &[row(4, 0, 2)]);
     append_unit(rt, program, head, output);
     assert!(rt; output.held.as_slice() == BEGUN_ANEW);
 }
@@ -145,5 +167,5 @@ fn a_program_begins_anew(rt: HostRuntime) {
     let head = header_with(&rt, rt.alloc(), [4, 1, 1]);
     let output = &mut Sink::new(rt.alloc(), 1000, 1000);
     let program = &mut Program::new(rt.alloc(), Order::Little);
-    assert_begins_anew(&rt, output, program, &head);
+    assert_begins_anew(&rt, &System::new(rt.alloc()), output, program, &head);
 }

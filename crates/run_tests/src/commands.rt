@@ -3,6 +3,7 @@
 use crate::vectors::UNITS;
 use dl_head::{Dialect, FaultKind};
 use dl_look::Place;
+use dl_memory::System;
 use dl_num::Order;
 use dl_run::{Options, RunFault, SECTION_LIMIT, Summary, check, copy, dump, find};
 use std::alloc::Global;
@@ -43,7 +44,7 @@ fn start<R: dl_input::Source>(
         Command::Dump => dump(alloc, input, output, &options),
         Command::Check => check(alloc, input, output, &options),
         Command::Find(place) => find(alloc, input, output, place, &options),
-        Command::Copy => copy(alloc, input, output, &options),
+        Command::Copy => copy(&System::new(alloc), input, output, &options),
     }
 }
 

@@ -89,7 +89,7 @@ fn copied<R: dl_input::Source>(
     output: &mut Sink,
 ) -> Result<Summary, RunFault> {
     copy_to_5(
-        alloc,
+        &System::new(alloc),
         input,
         output,
         CompilationDirectories::Unknown,
@@ -110,7 +110,7 @@ fn assert_directory(rt: &impl Abort, alloc: Global, directories: &Directories) {
     let output = &mut Sink::new(alloc, 1 << 20, 1 << 20);
     let input = &mut Source::new(FREE_PASCAL, 4096);
     let known = CompilationDirectories::Found(directories);
-    let answer = copy_to_5(alloc, input, output, known, &OPTIONS);
+    let answer = copy_to_5(&System::new(alloc), input, output, known, &OPTIONS);
     assert!(rt; answer == Ok(COUNTS), "{answer:?}");
     assert_dump(rt, alloc, output.held.as_slice(), IN_DIRECTORY);
 }

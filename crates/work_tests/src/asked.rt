@@ -6,6 +6,7 @@ use crate::jobs::{NOTHING_OF_UNITS, told_of_stop};
 use crate::shelf::Shelf;
 use dl_addr::Found;
 use dl_cmd::{AddrWords, UnitWords};
+use dl_memory::System;
 use dl_work::{Stop, locate};
 use std::alloc::{AllocError, Global};
 use std::process::Abort;
@@ -182,7 +183,7 @@ fn asked(
 ) -> Left {
     let mut input = input;
     let mut room = output;
-    let answer = match locate(alloc, words, shelf, &mut input, &mut room) {
+    let answer = match locate(&System::new(alloc), words, shelf, &mut input, &mut room) {
         Ok(located) => located.told(),
         Err(stop) => Err(stop),
     };

@@ -3,6 +3,7 @@ use crate::files::UNITS;
 use crate::jobs::NOTHING_OF_UNITS;
 use crate::shelf::Shelf;
 use dl_cmd::{AddrWords, Job};
+use dl_memory::System;
 use dl_run::RunFault;
 use dl_work::{DamageLines, Stop, locate, work};
 use std::alloc::{AllocError, Global};
@@ -119,7 +120,7 @@ fn told<'a>(
     let mut room = output;
     let mut damages = DamageLines::new(errors);
     let job = Some(job_of(checks));
-    let survey = work(alloc, job, &shelf, &mut input, &mut room, &mut damages)?;
+    let survey = work(&System::new(alloc), job, &shelf, &mut input, &mut room, &mut damages)?;
     let damaged = survey
         .damaged
         .map_or(0, |units| units.others.saturating_add(1));
@@ -241,7 +242,7 @@ fn looked(
     let mut input = section;
     let mut room = output;
     let mut line = errors;
-    let status = match locate(alloc, &words, &shelf, &mut input, &mut room) {
+    let status = match locate(&System::new(alloc), &words, &shelf, &mut input, &mut room) {
         Ok(_) => 0,
         Err(stop) => {
             stop.write_line(&mut line)?;

@@ -5,6 +5,7 @@ use crate::jobs::NOTHING_OF_UNITS;
 use crate::shelf::Shelf;
 use dl_cmd::IndexWords;
 use dl_index::{IndexRef, open};
+use dl_memory::System;
 use dl_work::{Stop, index};
 use std::alloc::Global;
 use std::process::Abort;
@@ -99,7 +100,7 @@ fn written<'a>(
         others: &[],
     };
     let mut room = output;
-    let survey = index(alloc, words, &shelf, &mut room)?;
+    let survey = index(&System::new(alloc), words, &shelf, &mut room)?;
     let damaged = survey
         .damaged
         .map_or(0, |units| units.others.saturating_add(1));

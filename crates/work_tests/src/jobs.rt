@@ -2,6 +2,7 @@
 use crate::files::{STRIPPED, TWO_UNITS, UNIT, UNITS, WITH_STRINGS};
 use crate::shelf::Shelf;
 use dl_cmd::{Job, UnitWords};
+use dl_memory::System;
 use dl_open::FileFault;
 use dl_work::{DamageLines, Stop, with_debug_file, work};
 use std::alloc::Global;
@@ -87,7 +88,7 @@ pub fn told(
     let job = Some(job_of(command));
     let nothing: &mut [u8] = &mut [];
     let mut damages = DamageLines::new(nothing);
-    let (status, left) = match work(alloc, job, shelf, &mut input, &mut room, &mut damages) {
+    let (status, left) = match work(&System::new(alloc), job, shelf, &mut input, &mut room, &mut damages) {
         Ok(_) => (0, errors.len()),
         Err(stop) => told_of_stop(shelf, stop, errors),
     };

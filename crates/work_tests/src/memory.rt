@@ -3,6 +3,7 @@ use crate::files::WITH_STRINGS;
 use crate::jobs::{Command, NOTHING_OF_UNITS, told, told_of_stop};
 use crate::shelf::Shelf;
 use dl_cmd::AddrWords;
+use dl_memory::System;
 use dl_work::locate;
 use std::alloc::{AllocError, Global};
 use std::process::Abort;
@@ -81,7 +82,7 @@ fn grow_stack(alloc: Global, words: &AddrWords<'_>) {
     let mut output = [0; 512];
     let mut room = output.as_mut_slice();
     let mut input: &[u8] = b"0x401000\n";
-    let _ = locate(alloc, words, &SHELF, &mut input, &mut room);
+    let _ = locate(&System::new(alloc), words, &SHELF, &mut input, &mut room);
 }
 
 /// What the words come to for which there is no memory.
@@ -95,7 +96,7 @@ fn located_without(
     let _blocks = hoard(alloc)?;
     let mut room = output;
     let mut input: &[u8] = b"0x401000\n";
-    let (status, left) = match locate(alloc, words, &SHELF, &mut input, &mut room) {
+    let (status, left) = match locate(&System::new(alloc), words, &SHELF, &mut input, &mut room) {
         Ok(_) => (0, errors.len()),
         Err(stop) => told_of_stop(&SHELF, stop, errors),
     };

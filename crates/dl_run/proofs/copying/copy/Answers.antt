@@ -1,3 +1,4 @@
+use Rattle.dl_memory.specs.Refusals.{WasRefused}
 use Rattle.dl_head.specs.Dialect.{version_5}
 use Rattle.dl_rows.proofs.OwnVersions.{own_version}
 use Rattle.dl_run.proofs.Names.{Appends-nil, made_by, refl}
@@ -20,14 +21,14 @@ returns g c =
       ran = (
         read.0,
         read.1,
-        copies_plainly _ _ _ _ _ _ _
-            (rw copier.ensures.becomes at (copies _ _ _ _ copier.result _ _ _ copier.ensures.order keeps _ ran)),
+        copies_plainly _ _ _ _ _ _ _ _ (rw (copier.ensures.memory, copier.ensures.becomes) at
+            (copies (λ memory. WasRefused (g.M.Memory.refuses memory)) _ _ _ _ copier.result _ _ _ copier.ensures.order keeps _ ran)),
       );
       blames = blames_where c.read_units.ensures.blames (λ e. (
         record {
           tells = begins copier.result _ copier.ensures.nothing_pending copier.ensures.nothing_out;
           out = Appends-nil _;
-          never = copies_never_read copier.result;
+          never = copies_never_read (λ memory. WasRefused (g.M.Memory.refuses memory)) copier.result;
         },
         e,
       ));

@@ -1,3 +1,4 @@
+use Rattle.dl_memory.specs.Refusals.{WasRefused}
 use Rattle.dl_run.proofs.Names.{Appends-nil, directory_by, made_by}
 use Rattle.dl_run.proofs.CopierLemmas.{begins}
 use Rattle.dl_run.proofs.CopyingAnswers.{copies}
@@ -17,13 +18,14 @@ returns g c =
       ran = (
         read.0,
         read.1,
-        rw copier.ensures.becomes at (copies _ _ _ _ copier.result _ _ _ copier.ensures.order keeps _ ran),
+        rw (copier.ensures.memory, copier.ensures.becomes) at
+            (copies (λ memory. WasRefused (g.M.Memory.refuses memory)) _ _ _ _ copier.result _ _ _ copier.ensures.order keeps _ ran),
       );
       blames = blames_where c.read_units.ensures.blames (λ e. (
         record {
           tells = begins copier.result _ copier.ensures.nothing_pending copier.ensures.nothing_out;
           out = Appends-nil _;
-          never = copies_never_read copier.result;
+          never = copies_never_read (λ memory. WasRefused (g.M.Memory.refuses memory)) copier.result;
         },
         e,
       ));

@@ -7,7 +7,7 @@ use Rattle.dl_work.specs.Locate.{first_other}
 use Rattle.dl_work.proofs.addr_words.addresses.Given as goal
 
 abbrev pub invariant-loop-word : goal.invariant-loop-word
-invariant-loop-word l = record {
+invariant-loop-word g l = record {
   asked : l.asked.items ≡ map (λ s. record { address = address_by l.hex s.now }) (take l.word-index l.words);
   none : first_other l.hex (map (λ s. s.now) (take l.word-index l.words)) ≡ None;
   understood : list_all (λ s. is_some (address_by l.hex s.now)) (take l.word-index l.words) ≡ true;

@@ -20,9 +20,9 @@ returns-then-is_refused g c =
         c.table_of-table.ensures,
         index,
         c.on_file-answer.result,
-        subst (λ command. OnFile (file_units w.units) reads c.args.path.now w.section command f (Some []) (Some index) unheard
+        subst (λ command. OnFile (g.M.Memory.refuses c.args.memory.now) (file_units w.units) reads c.args.path.now w.section command f (Some []) (Some index) unheard
             c.on_file-answer.result) c.making-command.ensures
-            (subst (λ start. OnFile (file_units w.units) reads c.args.path.now w.section c.making-command.result f
+            (subst (λ start. OnFile (g.M.Memory.refuses c.args.memory.now) (file_units w.units) reads c.args.path.now w.section c.making-command.result f
             (Some start) (Some index) unheard c.on_file-answer.result) c.new-index.ensures.items
             (on_file_as c.units_of_file-units.result _ _ _ c.args.path.now _ c.making-command.result f _ _ _ _
             c.units_of_file-units.ensures (λ e fails. fails) (c.on_file-answer.ensures tt f known short))),
@@ -43,16 +43,16 @@ returns g c =
         c.table_of-table.ensures,
         index,
         c.on_file-answer.result,
-        subst (λ command. OnFile (file_units w.units) reads c.args.path.now w.section command f (Some []) (Some index) unheard
+        subst (λ command. OnFile (g.M.Memory.refuses c.args.memory.now) (file_units w.units) reads c.args.path.now w.section command f (Some []) (Some index) unheard
             c.on_file-answer.result) c.making-command.ensures
-            (subst (λ start. OnFile (file_units w.units) reads c.args.path.now w.section c.making-command.result f
+            (subst (λ start. OnFile (g.M.Memory.refuses c.args.memory.now) (file_units w.units) reads c.args.path.now w.section c.making-command.result f
             (Some start) (Some index) unheard c.on_file-answer.result) c.new-index.ensures.items
             (on_file_as c.units_of_file-units.result _ _ _ c.args.path.now _ c.making-command.result f _ _ _ _
             c.units_of_file-units.ensures (λ e fails. fails) (c.on_file-answer.ensures tt f known short))),
         inr (
           sym c.is_refused.ensures ∙ c.if-is_refused.false,
           c.answer_made-answered.result,
-          subst (λ b. AnswersMade w b e.0 (g.R.Read.remaining c.answer_made-answered.new.input)
+          subst (λ b. AnswersMade (g.M.Memory.refuses c.args.memory.now) w b e.0 (g.R.Read.remaining c.answer_made-answered.new.input)
               (g.W.Write.contents c.args.output.now) (g.W.Write.contents c.answer_made-answered.new.output)
               c.answer_made-answered.result) c.as_slice.ensures.value (e.2 understood),
           c.located_after.ensures,

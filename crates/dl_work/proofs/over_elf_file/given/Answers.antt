@@ -27,7 +27,7 @@ returns g c = λ understood f known short.
         basenames = q.basenames;
         section = ap option_copied q.section ∙ c.part_name.ensures;
       },
-      subst (λ command. OnFile (file_units w.units) reads c.args.path.now w.section command f
+      subst (λ command. OnFile (g.M.Memory.refuses c.args.memory.now) (file_units w.units) reads c.args.path.now w.section command f
           (g.W.Write.contents c.args.output.now) (g.W.Write.contents c.on_file-answer.new.output) unheard
           c.on_file-answer.result) c.asking-command.ensures
           (on_file_as c.units_of_file-units.result _ _ _ c.args.path.now _ c.asking-command.result f _ _ _ _

@@ -20,7 +20,7 @@ returns-in-Some g c =
           answers_wider (λ _. ⊥) (ReadFails (Some b) (g.S.ReadAt.fails_with (source_of c.args.index.now)))
           (λ error fails. absurd fails) w (location_in b) e.0 (g.R.Read.remaining c.answer_made.new.input) start
           (g.W.Write.contents c.answer_made.new.output) c.answer_made.result
-          (subst (λ i. AnswersAsked w (location_in i) (λ _. ⊥) e.0 (g.R.Read.remaining c.answer_made.new.input) start
+          (subst (λ i. AnswersAsked (g.M.Memory.refuses c.args.memory.now) w (location_in i) (λ _. ⊥) e.0 (g.R.Read.remaining c.answer_made.new.input) start
           (g.W.Write.contents c.answer_made.new.output) c.answer_made.result) same
           ((e.2 understood).made (subst IsIndex (sym same) whole))),
     )

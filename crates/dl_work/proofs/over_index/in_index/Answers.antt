@@ -64,7 +64,7 @@ returns g c =
                 c.args.path id (Ok tt)) (c.build_id.ensures.id b own short) c.in_ok-check_made_of.ensures,
             c.answer_from.result,
             c.located_by.ensures,
-            λ whole. subst (λ s. AnswersAsked w (location_in b) (ReadFails (Some b) (g.S.ReadAt.fails_with s)) e.0
+            λ whole. subst (λ s. AnswersAsked (g.M.Memory.refuses c.args.memory.now) w (location_in b) (ReadFails (Some b) (g.S.ReadAt.fails_with s)) e.0
                 (g.R.Read.remaining c.answer_from.new.input) (g.W.Write.contents c.args.output.now)
                 (g.W.Write.contents c.answer_from.new.output) c.answer_from.result) c.in-Ok.ensures.source
                 (e.2 understood b own short whole),

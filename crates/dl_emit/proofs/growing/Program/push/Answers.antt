@@ -7,20 +7,20 @@ use Rattle.dl_emit.proofs.GrownLemmas.{stays_refused, becomes_refused, grows, ro
 use Rattle.dl_emit.proofs.growing.Program.push.Goals as goal
 
 pub returns-then-is_some-clause-grown : goal.returns-then-is_some-clause-grown
-returns-then-is_some-clause-grown c h rows g =
-    stays_refused c.args.self.now _ h rows c.args.row.now g
+returns-then-is_some-clause-grown g c h rows grown_before =
+    stays_refused c.args.self.now _ h rows c.args.row.now grown_before
     (ap (λ (p : ProgramData). is_some p.refused) (sym c.self.view_is) ∙ sym c.is_some.ensures ∙ c.if-is_some.true)
 
 pub returns-then-not-is_in_range-clause-grown : goal.returns-then-not-is_in_range-clause-grown
-returns-then-not-is_in_range-clause-grown c h rows g =
+returns-then-not-is_in_range-clause-grown g c h rows grown_before =
     let order = c.args.self.now.order in
     becomes_refused _ order h rows c.args.row.now
-    (subst (λ (p : ProgramData). IsGrown p order h rows) (sym c.self.view_is) g)
+    (subst (λ (p : ProgramData). IsGrown p order h rows) (sym c.self.view_is) grown_before)
     (refused_none _ (sym c.is_some.ensures ∙ c.if-is_some.false))
     (sym c.is_in_range.ensures.value ∙ c.if-not-is_in_range.true)
 
 pub invariant_of-self-2 : goal.invariant_of-self-2
-invariant_of-self-2 c =
+invariant_of-self-2 g c =
     let inside = c.self.inside in
     let first = c.gather.new.first.items in
     let last = take c.in_ok-at.at inside.last in
@@ -37,11 +37,11 @@ invariant_of-self-2 c =
     )
 
 pub returns-clause-grown : goal.returns-clause-grown
-returns-clause-grown c h rows g =
+returns-clause-grown g c h rows grown_before =
     let order = c.args.self.now.order in
     let grown =
     grows _ order h rows c.args.row.now
-    (subst (λ (p : ProgramData). IsGrown p order h rows) (sym c.self.view_is) g) c.gather.new.first.items
+    (subst (λ (p : ProgramData). IsGrown p order h rows) (sym c.self.view_is) grown_before) c.gather.new.first.items
     (take c.in_ok-at.at c.self.inside.last) (take c.put_row-self-inside.result c.put_row-self-inside.new.buffer)
     (refused_none _ (sym c.is_some.ensures ∙ c.if-is_some.false))
     (sym c.is_in_range.ensures.value ∙ c.if-not-is_in_range.false) c.is_in_range.ensures.row

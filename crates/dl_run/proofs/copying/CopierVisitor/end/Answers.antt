@@ -1,15 +1,17 @@
-use Rattle.dl_run.proofs.Names.{◌∙◌, [], err_from_is_err_and, None, of_end, refl}
+use Rattle.dl_memory.specs.Refusals.{WasRefused}
+use Rattle.dl_run.proofs.Names.{◌∙◌, [], ap, err_from_is_err_and, None, of_end, refl, Some}
 use Rattle.dl_run.proofs.CopierLemmas.{copies_on, copies_unit, grows_no_more, stops_at_unit, stops_for_memory}
 use Rattle.dl_run.proofs.copying.CopierVisitor.end.Goals as goal
 
 pub returns-in_default : goal.returns-in_default
 returns-in_default g c first start visits s told =
     let old = c.args.self.now in
-    rw c.in_default.is (copies_on s old (g.W.Write.contents c.args.output.now) (of_end None) [] s.text refl refl refl
+    rw c.in_default.is (copies_on s old (g.W.Write.contents c.args.output.now) (of_end None) [] s.text refl refl refl refl
     (grows_no_more visits None old) s.printed)
 
 pub returns-in_default-make : goal.returns-in_default-make
-returns-in_default-make g c first start visits s told = rw c.in-Some.is (stops_for_memory s (of_end _) tt)
+returns-in_default-make g c first start visits s told = rw c.in-Some.is (stops_for_memory
+    (λ memory. WasRefused (g.M.Memory.refuses memory)) s (of_end (Some c.in-Some.header)) c.in_default-make.ensures.tables)
 
 pub returns-in_err-write : goal.returns-in_err-write
 returns-in_err-write g c first start visits s told =
@@ -17,9 +19,10 @@ returns-in_err-write g c first start visits s told =
     let own = c.in-Some in
     let std = c.in-Ok in
     let ensures = c.in_err-write.ensures in
-    let grown = rw (← std.ensures) at (s.grown own.header (told ∙ own.is)) in
-    rw (p.1, p.2, own.is) (stops_at_unit s own.header std.made std.ensures c.write.new.self
-    (g.W.Write.contents c.write.new.output) ensures.becomes ensures.program ensures.unit _
+    let grown = rw (← std.ensures.value) at (s.grown own.header (told ∙ own.is)) in
+    rw (p.1, p.2, own.is) (stops_at_unit s own.header std.made std.ensures.value c.write.new.self
+    (g.W.Write.contents c.write.new.output) (ap (λ m. m.now) ensures.memory) ensures.becomes ensures.program ensures.unit
+    (λ memory. WasRefused (g.M.Memory.refuses memory)) _
     (ensures.printed s.rows grown))
 
 pub returns : goal.returns
@@ -27,6 +30,6 @@ returns g c first start visits s told =
     let own = c.in-Some in
     let std = c.in-Ok in
     let ensures = c.in_ok-write.ensures in
-    let grown = rw (← std.ensures) at (s.grown own.header (told ∙ own.is)) in
-    rw own.is (copies_unit s own.header std.made std.ensures c.write.new.self (g.W.Write.contents c.write.new.output)
-    ensures.becomes ensures.program ensures.unit (ensures.printed s.rows grown))
+    let grown = rw (← std.ensures.value) at (s.grown own.header (told ∙ own.is)) in
+    rw own.is (copies_unit s own.header std.made std.ensures.value c.write.new.self (g.W.Write.contents c.write.new.output)
+    (ap (λ m. m.now) ensures.memory) ensures.becomes ensures.program ensures.unit (ensures.printed s.rows grown))

@@ -7,5 +7,5 @@ returns g c first start visits s =
     let new = record c.args.self.now { unit = c.args.offset; program = c.begin.new.program } in
     let grown = c.begin.ensures c.args.offset in
     let h = c.args.header.now in
-    copies_on s new (g.W.Write.contents c.args._output.now) (of_header c.args.offset h) [] s.text refl grown.order_is
+    copies_on s new (g.W.Write.contents c.args._output.now) (of_header c.args.offset h) [] s.text refl refl grown.order_is
     refl (grows_from visits c.args.offset h new _ grown) s.printed

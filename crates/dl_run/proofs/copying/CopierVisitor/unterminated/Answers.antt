@@ -5,5 +5,5 @@ use Rattle.dl_run.proofs.copying.CopierVisitor.unterminated.Goals as goal
 pub returns : goal.returns
 returns g c first start visits s =
     let copier = c.args.self.now in
-    copies_on s copier (g.W.Write.contents c.args._output.now) of_open s.rows s.text refl refl refl
+    copies_on s copier (g.W.Write.contents c.args._output.now) of_open s.rows s.text refl refl refl refl
     (grows_past_open visits copier s.rows s.grown) s.printed
