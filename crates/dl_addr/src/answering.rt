@@ -25,9 +25,9 @@ use crate::question::{Found, FoundAround, Question};
 use dl_input::Source;
 use dl_look::{Asked, Place};
 use dl_memory::{Memory, NoMemory};
+use dl_output::Destination;
 use dl_print::{Printer, StringSections, Summary, WriteFault};
 use dl_run::{Options, RunFault, SECTION_LIMIT, Survey, read_units, read_units_around};
-use std::io::Write;
 
 /// Answers each address with a line, in the order in which they are asked: its location, by the first
 /// unit whose sequences cover it, or that there is none.
@@ -36,7 +36,7 @@ use std::io::Write;
 /// the fault is answered. Where memory is refused before anything is read, nothing is printed. The places
 /// are held in memory, the tables of one header, and of the paths that answer what their headers have of their texts,
 /// a directory and a name once for each unit.
-pub fn addr<M: Memory, R: Source, W: Write>(
+pub fn addr<M: Memory, R: Source, W: Destination>(
     memory: &M,
     input: &mut R,
     output: &mut W,
@@ -75,7 +75,7 @@ fn told(
 /// The section is read as `read_units_around` reads it. Then the lines are printed that the whole units before its end,
 /// or before the fault, answer. The faults are those of `addr` but for `Damage`: of damaged units the answer says what
 /// is wrong with the first, and how many others there are.
-pub fn addr_around<M: Memory, R: Source, W: Write>(
+pub fn addr_around<M: Memory, R: Source, W: Destination>(
     memory: &M,
     input: &mut R,
     output: &mut W,
@@ -148,7 +148,7 @@ fn places_of<M: Memory>(memory: &M, asked: &[Asked], base: u64) -> Result<Vec<Pl
 }
 
 /// Prints the line of each address that is asked for.
-fn print_all<M: Memory, W: Write>(
+fn print_all<M: Memory, W: Destination>(
     locator: &Locator<'_, '_, '_, M>,
     output: &mut W,
     question: &Question<'_>,

@@ -14,13 +14,13 @@ use crate::kept::KeptPath;
 use crate::locating::Answer;
 use crate::path_text::print_path;
 use crate::style::Form;
+use dl_output::Destination;
 use dl_path::print_json_text;
 use dl_print::{Printer, WriteFault};
-use std::io::Write;
 
 /// Prints the beginning of an object: the address as it was given, and the section where it is named, or null of a
 /// line that is no address.
-pub fn print_json_asked<W: Write>(
+pub fn print_json_asked<W: Destination>(
     printer: &mut Printer,
     output: &mut W,
     address: Option<u64>,
@@ -34,7 +34,7 @@ pub fn print_json_asked<W: Write>(
 }
 
 /// Prints the section after an address, where it is named.
-fn print_section<W: Write>(
+fn print_section<W: Destination>(
     printer: &mut Printer,
     output: &mut W,
     address: Option<u64>,
@@ -49,7 +49,7 @@ fn print_section<W: Write>(
     }
 }
 
-fn print_name<W: Write>(printer: &mut Printer, output: &mut W, name: &str) -> Result<(), WriteFault>
+fn print_name<W: Destination>(printer: &mut Printer, output: &mut W, name: &str) -> Result<(), WriteFault>
     ensures { Prints (W.contents output.old) (W.contents output.new) printer.old printer.new
         (codes ",\"section\":" ++ json_string name.now) result }
 {
@@ -59,7 +59,7 @@ fn print_name<W: Write>(printer: &mut Printer, output: &mut W, name: &str) -> Re
 }
 
 /// Prints the address as it was given, or null of a line that is none.
-fn print_json_address<W: Write>(
+fn print_json_address<W: Destination>(
     printer: &mut Printer,
     output: &mut W,
     address: Option<u64>,
@@ -73,7 +73,7 @@ fn print_json_address<W: Write>(
     }
 }
 
-fn print_given<W: Write>(
+fn print_given<W: Destination>(
     printer: &mut Printer,
     output: &mut W,
     address: u64,
@@ -86,7 +86,7 @@ fn print_given<W: Write>(
 }
 
 /// The same of an address, up to its last digit.
-fn print_address_open<W: Write>(
+fn print_address_open<W: Destination>(
     printer: &mut Printer,
     output: &mut W,
     address: u64,
@@ -99,7 +99,7 @@ fn print_address_open<W: Write>(
 }
 
 /// Prints the members that tell of a row, under its path.
-pub fn print_json_row<W: Write>(
+pub fn print_json_row<W: Destination>(
     printer: &mut Printer,
     output: &mut W,
     answer: &Answer<'_, '_>,
@@ -113,7 +113,7 @@ pub fn print_json_row<W: Write>(
     print_end(printer, output, answer.position.is_stmt, unit.offset)
 }
 
-fn print_path_member<W: Write>(
+fn print_path_member<W: Destination>(
     printer: &mut Printer,
     output: &mut W,
     path: KeptPath<'_, '_>,
@@ -126,7 +126,7 @@ fn print_path_member<W: Write>(
 }
 
 /// Prints the line, the column and the discriminator.
-fn print_position<W: Write>(
+fn print_position<W: Destination>(
     printer: &mut Printer,
     output: &mut W,
     answer: &Answer<'_, '_>,
@@ -139,7 +139,7 @@ fn print_position<W: Write>(
     print_discriminator(printer, output, answer.position.discriminator)
 }
 
-fn print_discriminator<W: Write>(
+fn print_discriminator<W: Destination>(
     printer: &mut Printer,
     output: &mut W,
     discriminator: u64,
@@ -152,7 +152,7 @@ fn print_discriminator<W: Write>(
 }
 
 /// Prints whether the row is a statement, and the offset of its unit.
-fn print_end<W: Write>(
+fn print_end<W: Destination>(
     printer: &mut Printer,
     output: &mut W,
     is_stmt: bool,
@@ -165,7 +165,7 @@ fn print_end<W: Write>(
     print_unit(printer, output, unit)
 }
 
-fn print_is_stmt<W: Write>(
+fn print_is_stmt<W: Destination>(
     printer: &mut Printer,
     output: &mut W,
     is_stmt: bool,
@@ -180,7 +180,7 @@ fn print_is_stmt<W: Write>(
     }
 }
 
-fn print_unit<W: Write>(printer: &mut Printer, output: &mut W, unit: u64) -> Result<(), WriteFault>
+fn print_unit<W: Destination>(printer: &mut Printer, output: &mut W, unit: u64) -> Result<(), WriteFault>
     ensures { Prints (W.contents output.old) (W.contents output.new) printer.old printer.new
         ((codes ",\"unit\":\"0x" ++ hexadecimal unit) ++ codes "\"") result }
 {

@@ -11,9 +11,9 @@ use crate::locating::{Answer, Position};
 use crate::printing::print_line;
 use crate::style::Style;
 use dl_look::Asked;
+use dl_output::Destination;
 use dl_path::basename;
 use dl_print::{Printer, WriteFault};
-use std::io::Write;
 
 /// What is told of an address: of the row that answers it, and of its file.
 #[derive(Clone, Copy, Debug, PartialEq, Eq)]
@@ -30,7 +30,7 @@ pub struct Location<'a> {
 }
 
 /// Prints the line of what is asked, where this is told of it: the one that `addr` prints where its units answer so.
-pub fn print_location<W: Write>(
+pub fn print_location<W: Destination>(
     printer: &mut Printer,
     output: &mut W,
     style: Style<'_>,
@@ -47,7 +47,7 @@ pub fn print_location<W: Write>(
 }
 
 /// Prints the line of what is told, whose path lies in one text.
-fn print_told<W: Write>(
+fn print_told<W: Destination>(
     printer: &mut Printer,
     output: &mut W,
     style: Style<'_>,

@@ -11,12 +11,12 @@ ghost use Rattle.dl_addr.specs.Texts.{path_in_table, path_kept, path_named};
 
 use crate::kept::{KeptBytes, KeptPath, KeptText};
 use crate::style::Form;
+use dl_output::Destination;
 use dl_path::{print_json_text, print_shown, wants_slash};
 use dl_print::{Printer, WriteFault};
-use std::io::Write;
 
 /// Prints a path as it stands in a line of this form, or what stands for one that isn't known.
-pub fn print_path<W: Write>(
+pub fn print_path<W: Destination>(
     printer: &mut Printer,
     output: &mut W,
     form: Form,
@@ -32,7 +32,7 @@ pub fn print_path<W: Write>(
 }
 
 /// Prints a path whose file's own path is this one.
-fn print_known<W: Write>(
+fn print_known<W: Destination>(
     printer: &mut Printer,
     output: &mut W,
     form: Form,
@@ -51,7 +51,7 @@ fn print_known<W: Write>(
 }
 
 /// Prints what stands for a path that isn't known.
-fn print_no_path<W: Write>(
+fn print_no_path<W: Destination>(
     printer: &mut Printer,
     output: &mut W,
     form: Form,
@@ -66,7 +66,7 @@ fn print_no_path<W: Write>(
 }
 
 /// Prints the JSON string of a path.
-fn print_quoted<W: Write>(
+fn print_quoted<W: Destination>(
     printer: &mut Printer,
     output: &mut W,
     path: KeptPath<'_, '_>,
@@ -81,7 +81,7 @@ fn print_quoted<W: Write>(
 }
 
 /// Prints a path under its compilation directory, where there is one.
-fn print_rooted<W: Write>(
+fn print_rooted<W: Destination>(
     printer: &mut Printer,
     output: &mut W,
     form: Form,
@@ -100,7 +100,7 @@ fn print_rooted<W: Write>(
 }
 
 /// Prints the parts of a path, one after the other.
-fn print_parts<W: Write>(
+fn print_parts<W: Destination>(
     printer: &mut Printer,
     output: &mut W,
     form: Form,
@@ -117,7 +117,7 @@ fn print_parts<W: Write>(
 
 /// Prints a directory, with what stands between it and a path in it; nothing where there is none.
 #[inline]
-fn print_directory<W: Write>(
+fn print_directory<W: Destination>(
     printer: &mut Printer,
     output: &mut W,
     form: Form,
@@ -135,7 +135,7 @@ fn print_directory<W: Write>(
 
 /// Prints a directory that is there.
 #[inline]
-fn print_folder<W: Write>(
+fn print_folder<W: Destination>(
     printer: &mut Printer,
     output: &mut W,
     form: Form,
@@ -150,7 +150,7 @@ fn print_folder<W: Write>(
 
 /// Prints what stands between a directory and a path in it.
 #[inline]
-fn print_slash<W: Write>(
+fn print_slash<W: Destination>(
     printer: &mut Printer,
     output: &mut W,
     directory: &[u8],
@@ -167,7 +167,7 @@ fn print_slash<W: Write>(
 
 /// Prints a text as it stands in a path.
 #[inline]
-fn print_text<W: Write>(
+fn print_text<W: Destination>(
     printer: &mut Printer,
     output: &mut W,
     form: Form,

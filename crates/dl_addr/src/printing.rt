@@ -13,11 +13,11 @@ use crate::locating::Answer;
 use crate::path_text::print_path;
 use crate::style::{Form, Style};
 use dl_look::Asked;
+use dl_output::Destination;
 use dl_print::{Printer, WriteFault};
-use std::io::Write;
 
 /// Prints the line of what is asked, with its answer.
-pub fn print_line<W: Write>(
+pub fn print_line<W: Destination>(
     printer: &mut Printer,
     output: &mut W,
     style: Style<'_>,
@@ -33,7 +33,7 @@ pub fn print_line<W: Write>(
 }
 
 /// Prints what stands before an answer.
-fn print_asked<W: Write>(
+fn print_asked<W: Destination>(
     printer: &mut Printer,
     output: &mut W,
     style: Style<'_>,
@@ -50,7 +50,7 @@ fn print_asked<W: Write>(
 }
 
 /// Prints the address as it was given, where there is one.
-fn print_address<W: Write>(
+fn print_address<W: Destination>(
     printer: &mut Printer,
     output: &mut W,
     address: Option<u64>,
@@ -67,7 +67,7 @@ fn print_address<W: Write>(
     }
 }
 
-fn print_answer<W: Write>(
+fn print_answer<W: Destination>(
     printer: &mut Printer,
     output: &mut W,
     form: Form,
@@ -83,7 +83,7 @@ fn print_answer<W: Write>(
 }
 
 /// Prints what is known of a row, under its path.
-fn print_row<W: Write>(
+fn print_row<W: Destination>(
     printer: &mut Printer,
     output: &mut W,
     form: Form,
@@ -101,7 +101,7 @@ fn print_row<W: Write>(
     }
 }
 
-fn print_no_row<W: Write>(
+fn print_no_row<W: Destination>(
     printer: &mut Printer,
     output: &mut W,
     form: Form,
@@ -116,7 +116,7 @@ fn print_no_row<W: Write>(
 }
 
 /// Prints a path, a line, and a column where it isn't 0.
-fn print_place<W: Write>(
+fn print_place<W: Destination>(
     printer: &mut Printer,
     output: &mut W,
     form: Form,
@@ -130,7 +130,7 @@ fn print_place<W: Write>(
     print_column(printer, output, answer.position.column)
 }
 
-fn print_column<W: Write>(
+fn print_column<W: Destination>(
     printer: &mut Printer,
     output: &mut W,
     column: u64,

@@ -15,9 +15,9 @@ use crate::telling::Tell;
 use dl_addr::{Found, Location, Style, print_location};
 use dl_look::Asked;
 use dl_memory::Memory;
+use dl_output::Destination;
 use dl_print::{Printer, WriteFault};
 use std::alloc::Global;
-use std::io::Write;
 
 /// What was answered, and how.
 #[derive(Drop)]
@@ -118,7 +118,7 @@ impl<'q> Answers<'q> {
     }
 
     /// Answers what is asked by a line, which may be held back.
-    pub fn answer<M: Memory, T: Tell, W: Write>(
+    pub fn answer<M: Memory, T: Tell, W: Destination>(
         &mut self,
         memory: &M,
         teller: &mut T,
@@ -144,7 +144,7 @@ impl<'q> Answers<'q> {
     }
 
     /// The same, where something is asked.
-    pub fn answer_if_asked<M: Memory, T: Tell, W: Write>(
+    pub fn answer_if_asked<M: Memory, T: Tell, W: Destination>(
         &mut self,
         memory: &M,
         teller: &mut T,
@@ -167,7 +167,7 @@ impl<'q> Answers<'q> {
     }
 
     /// The same, and writes all lines that were held back.
-    pub fn answer_last<M: Memory, T: Tell, W: Write>(
+    pub fn answer_last<M: Memory, T: Tell, W: Destination>(
         &mut self,
         memory: &M,
         teller: &mut T,
@@ -189,7 +189,7 @@ impl<'q> Answers<'q> {
     }
 
     /// Writes the lines that were held back.
-    pub fn flush<W: Write>(&self, printer: &mut Printer, output: &mut W) -> Result<(), AnswerFault>
+    pub fn flush<W: Destination>(&self, printer: &mut Printer, output: &mut W) -> Result<(), AnswerFault>
         ensures { (m : Manner) (start : Option (List ℕ)) (asked : List question.Asked)
             → Stands m start (W.contents output.old) asked printer.old self.now → MatchResult result
             (λ _. Stands m start (W.contents output.new) asked printer.new self.now
@@ -204,7 +204,7 @@ impl<'q> Answers<'q> {
 /// that there is none. All lines are written out.
 ///
 /// Where nothing can be told of an address, the lines of those before it are written out, and its fault is answered.
-pub fn answer_all<M: Memory, T: Tell, W: Write>(
+pub fn answer_all<M: Memory, T: Tell, W: Destination>(
     memory: &M,
     teller: &mut T,
     style: Style<'_>,

@@ -15,10 +15,10 @@ use dl_addr::{Found, Style};
 use dl_asked::{CurrentLine, LastLine, OtherLine};
 use dl_input::Source;
 use dl_memory::Memory;
+use dl_output::Destination;
 use dl_print::Printer;
 use dl_run::Input;
 use std::alloc::Global;
-use std::io::Write;
 
 /// What came of all lines.
 #[derive(Debug, Drop)]
@@ -62,7 +62,7 @@ impl<'q> Dialogue<'q> {
 
     /// Takes the next piece of the input, and answers each line of it that has ended. Nothing is held back: when this is
     /// done, all answers are written out.
-    pub fn take<M: Memory, T: Tell, W: Write>(
+    pub fn take<M: Memory, T: Tell, W: Destination>(
         &mut self,
         memory: &M,
         teller: &mut T,
@@ -85,7 +85,7 @@ impl<'q> Dialogue<'q> {
     }
 
     /// Takes a byte. The line that it ends is answered, which may be held back.
-    fn take_byte<M: Memory, T: Tell, W: Write>(
+    fn take_byte<M: Memory, T: Tell, W: Destination>(
         &mut self,
         memory: &M,
         teller: &mut T,
@@ -107,7 +107,7 @@ impl<'q> Dialogue<'q> {
     }
 
     /// Takes the end of the input, and answers the last line, where that lacks its 0x0a.
-    pub fn end<M: Memory, T: Tell, W: Write>(
+    pub fn end<M: Memory, T: Tell, W: Destination>(
         self,
         memory: &M,
         teller: &mut T,
@@ -140,7 +140,7 @@ impl<'q> Dialogue<'q> {
 ///
 /// `Input` where the reader fails: then each line that has ended was answered. Where nothing can be told of an address, the
 /// lines before it were answered. Memory is taken for one path.
-pub fn answer_lines<M: Memory, T: Tell, R: Source, W: Write>(
+pub fn answer_lines<M: Memory, T: Tell, R: Source, W: Destination>(
     memory: &M,
     teller: &mut T,
     style: Style<'_>,

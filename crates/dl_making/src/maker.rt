@@ -10,6 +10,7 @@ use dl_dirs::CompilationDirectories;
 use dl_head::Header;
 use dl_look::CodeRanges;
 use dl_memory::{NoMemory, System};
+use dl_output::Destination;
 use dl_pack::Names;
 use dl_path::{beside_table, has_directory_0};
 use dl_print::StringSections;
@@ -17,7 +18,6 @@ use dl_rows::{Flow, Row};
 use dl_run::{AroundDamage, Damage, RunFault, Visitor};
 use dl_stretch::Runs;
 use std::alloc::Global;
-use std::io::Write;
 
 /// Keeps what the rows of live sequences tell of addresses, unit by unit, and the files that they name.
 #[derive(Drop)]
@@ -35,7 +35,7 @@ pub(crate) struct Maker<'s, 'o, 'q> {
     pub(crate) is_refused: bool,
 }
 
-impl<W: Write> Visitor<W> for Maker<'_, '_, '_> {
+impl<W: Destination> Visitor<W> for Maker<'_, '_, '_> {
     ghost use Rattle.dl_making.specs.Making.{making_story};
 
     ghost story = { making_story };
@@ -80,7 +80,7 @@ impl<W: Write> Visitor<W> for Maker<'_, '_, '_> {
     }
 }
 
-impl<W: Write> AroundDamage<W> for Maker<'_, '_, '_> {
+impl<W: Destination> AroundDamage<W> for Maker<'_, '_, '_> {
     fn damaged(&mut self, _damage: Damage) {
         self.runs.forget_unit();
     }

@@ -9,15 +9,15 @@ ghost use Rattle.dl_making.specs.Writes.{Writes, WritesAround};
 
 use crate::making::{Table, make_index, make_index_around};
 use dl_input::Source;
+use dl_output::Destination;
 use dl_print::{Printer, Summary, WriteFault};
 use dl_run::{Options, RunFault, SECTION_LIMIT, Survey};
 use std::alloc::Global;
-use std::io::Write;
 
 /// Makes the index of a section as `make_index` does, and writes it. Where none can be made, nothing is written.
 ///
 /// The faults are those of `make_index`, and `Write` where the writer fails.
-pub fn write_index<R: Source, W: Write>(
+pub fn write_index<R: Source, W: Destination>(
     alloc: Global,
     input: &mut R,
     output: &mut W,
@@ -40,7 +40,7 @@ pub fn write_index<R: Source, W: Write>(
 /// Makes the index of a section as `make_index_around` does, and writes it. Where none can be made, nothing is written.
 ///
 /// The faults are those of `make_index_around`, and `Write` where the writer fails.
-pub fn write_index_around<R: Source, W: Write>(
+pub fn write_index_around<R: Source, W: Destination>(
     alloc: Global,
     input: &mut R,
     output: &mut W,
@@ -61,7 +61,7 @@ pub fn write_index_around<R: Source, W: Write>(
 }
 
 /// Writes bytes, and all of them out.
-pub(crate) fn put_bytes<W: Write>(output: &mut W, bytes: &[u8]) -> Result<(), WriteFault>
+pub(crate) fn put_bytes<W: Destination>(output: &mut W, bytes: &[u8]) -> Result<(), WriteFault>
     ensures { MatchResult result (λ _. Appends (W.contents output.old) (W.contents output.new) bytes.now)
         (TellsOut (W.contents output.old) (W.contents output.new) bytes.now) }
 {

@@ -11,17 +11,17 @@ use crate::until::{make_index_until, make_index_until_around};
 use crate::writing::put_bytes;
 use dl_input::Source;
 use dl_memory::NoMemory;
+use dl_output::Destination;
 use dl_print::Summary;
 use dl_run::{Options, RunFault, SECTION_LIMIT, Survey};
 use std::alloc::Global;
-use std::io::Write;
 
 /// Makes the index of a section as `make_index_until` does, and writes it: also where the reading ended with a fault, which
 /// is then answered. Where memory was refused nothing is written, and `NoMemory` answered.
 ///
 /// The faults are those of `make_index_until`, `NoMemory` also where it is refused for the index alone, and before them
 /// `Write` where the writer fails.
-pub fn write_index_until<R: Source, W: Write>(
+pub fn write_index_until<R: Source, W: Destination>(
     alloc: Global,
     input: &mut R,
     output: &mut W,
@@ -42,7 +42,7 @@ pub fn write_index_until<R: Source, W: Write>(
 ///
 /// The faults are those of `make_index_until_around`, `NoMemory` also where it is refused for the index alone, and before
 /// them `Write` where the writer fails.
-pub fn write_index_until_around<R: Source, W: Write>(
+pub fn write_index_until_around<R: Source, W: Destination>(
     alloc: Global,
     input: &mut R,
     output: &mut W,
@@ -60,7 +60,7 @@ pub fn write_index_until_around<R: Source, W: Write>(
 }
 
 /// Writes an index, where there is one, beside which the reading ended so.
-fn put_made<A: Copy, W: Write>(
+fn put_made<A: Copy, W: Destination>(
     output: &mut W,
     index: &Result<Vec<u8>, NoMemory>,
     ended: Result<A, RunFault>,

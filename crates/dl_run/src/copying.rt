@@ -1,6 +1,7 @@
 //! The commands that write all units anew.
 
 ghost use Rattle.dl_input.specs.Failing.{Blames};
+ghost use Rattle.dl_run.specs.Blaming.{BlamesWriter};
 ghost use Rattle.std.specs.Prelude.{◌≡◌, ◌≤◌, ◌++◌, ℕ, List, [], None, IfOk};
 ghost use Rattle.std.specs.Io.KnownBytes.{Consumes};
 ghost use Rattle.dl_rows.specs.declared.row.Row.{Row};
@@ -8,7 +9,7 @@ ghost use Rattle.dl_emit.specs.Grown.{IsGrown};
 ghost use Rattle.dl_emit.specs.WrittenUnit.{program_len, refusal, unit_of};
 ghost use Rattle.dl_head.specs.Dialect.{version_5};
 ghost use Rattle.dl_head.specs.Written.{header_bytes};
-ghost use Rattle.dl_print.specs.Output.{Prints};
+ghost use Rattle.dl_print.specs.Output.{BlamesWriter as PrintBlames, Prints};
 ghost use Rattle.dl_dirs.specs.Compilation.{directory_by};
 ghost use Rattle.dl_run.specs.Commands.{Copies, CopiesAs, to_5};
 ghost use Rattle.dl_run.specs.Copying.{made_by};
@@ -22,6 +23,7 @@ use dl_emit::{EmitFault, Program, into_version_5};
 use dl_head::{Dialect, Header};
 use dl_input::Source;
 use dl_num::Order;
+use dl_output::Destination;
 use dl_print::{Printer, Summary, WriteFault};
 use dl_rows::{Flow, Row};
 use std::alloc::{AllocError, Global};
@@ -54,6 +56,12 @@ impl Write for HeldHeader {
 
     fn flush(&mut self) -> io::Result<()> {
         Ok(())
+    }
+}
+
+impl Destination for HeldHeader {
+    fn write_next(&mut self, bytes: &[u8]) -> io::Result<usize> {
+        self.write(bytes)
     }
 }
 
@@ -106,7 +114,7 @@ struct Copier<'a> {
     header: HeldHeader,
 }
 
-impl<W: Write> Visitor<W> for Copier<'_> {
+impl<W: Destination> Visitor<W> for Copier<'_> {
     ghost use Rattle.dl_run.specs.Copying.{copy_story};
 
     ghost story = { copy_story };
@@ -171,7 +179,7 @@ impl<'a> Copier<'a> {
     }
 
     /// Writes the current unit under this header.
-    fn write<W: Write>(&mut self, output: &mut W, header: &Header) -> Result<(), RunFault>
+    fn write<W: Destination>(&mut self, output: &mut W, header: &Header) -> Result<(), RunFault>
         ensures printed { (rows : List Row)
             → IsGrown self.old.program self.old.program.order header.now.params rows
             → PrintsPart (W.contents output.old) (W.contents output.new) self.old.printer self.new.printer
@@ -179,6 +187,7 @@ impl<'a> Copier<'a> {
         ensures program { self.new.program ≡ self.old.program }
         ensures unit { self.new.unit ≡ self.old.unit }
         ensures becomes { self.new.becomes ≡ self.old.becomes }
+        ensures blames_writer { BlamesWriter W.fails result }
     {
         self.write_header(output, header)?;
         let first = self.program.first_bytes();
@@ -188,7 +197,11 @@ impl<'a> Copier<'a> {
 
     /// Prints what the current unit has before its program, once all of it is in memory; where it is long, it is
     /// written on the output itself.
-    fn write_header<W: Write>(&mut self, output: &mut W, header: &Header) -> Result<(), RunFault>
+    fn write_header<W: Destination>(
+        &mut self,
+        output: &mut W,
+        header: &Header,
+    ) -> Result<(), RunFault>
         ensures printed { (rows : List Row)
             → IsGrown self.old.program self.old.program.order header.now.params rows
             → PrintsPart (W.contents output.old) (W.contents output.new) self.old.printer self.new.printer
@@ -197,6 +210,7 @@ impl<'a> Copier<'a> {
         ensures program { self.new.program ≡ self.old.program }
         ensures unit { self.new.unit ≡ self.old.unit }
         ensures becomes { self.new.becomes ≡ self.old.becomes }
+        ensures blames_writer { BlamesWriter W.fails result }
     {
         self.header.bytes.clear();
         self.header.is_full = false;
@@ -213,7 +227,11 @@ impl<'a> Copier<'a> {
 
     /// Writes what the current unit has before its program on the output itself, after all that is held. Where the
     /// bytes that are out could not be counted, none of it is written.
-    fn pass_header<W: Write>(&mut self, output: &mut W, header: &Header) -> Result<(), RunFault>
+    fn pass_header<W: Destination>(
+        &mut self,
+        output: &mut W,
+        header: &Header,
+    ) -> Result<(), RunFault>
         ensures printed { (rows : List Row)
             → IsGrown self.old.program self.old.program.order header.now.params rows → refusal header.now rows ≡ None
             → PrintsPart (W.contents output.old) (W.contents output.new) self.old.printer self.new.printer
@@ -222,6 +240,7 @@ impl<'a> Copier<'a> {
         ensures program { self.new.program ≡ self.old.program }
         ensures unit { self.new.unit ≡ self.old.unit }
         ensures becomes { self.new.becomes ≡ self.old.becomes }
+        ensures blames_writer { BlamesWriter W.fails result }
     {
         self.printer.flush(output)?;
         let out = self.printer.out();
@@ -245,14 +264,15 @@ impl<'a> Copier<'a> {
 }
 
 /// Prints the two parts of a program.
-fn print_parts<W: Write>(
+fn print_parts<W: Destination>(
     printer: &mut Printer,
     output: &mut W,
     first: &[u8],
     last: &[u8],
 ) -> Result<(), WriteFault>
-    ensures { Prints (W.contents output.old) (W.contents output.new) printer.old printer.new
+    ensures printed { Prints (W.contents output.old) (W.contents output.new) printer.old printer.new
         (first.now ++ last.now) result }
+    ensures blames_writer { PrintBlames W.fails result }
 {
     printer.put(output, first)?;
     printer.put(output, last)
@@ -264,7 +284,7 @@ fn print_parts<W: Write>(
 /// What comes before a fault is written. The faults are those of `RunFault`. What is written for the rows of a unit is
 /// held in memory until the unit ends, and up to 1 MiB of what stands before it; each growth of these, and those of
 /// `Reader::feed`, come before the unit is written.
-pub fn copy<R: Source, W: Write>(
+pub fn copy<R: Source, W: Destination>(
     alloc: Global,
     input: &mut R,
     output: &mut W,
@@ -276,6 +296,7 @@ pub fn copy<R: Source, W: Write>(
         (W.contents output.old) (W.contents output.new) result }
     ensures blames { Blames R.follows R.fails input.old input.new
         (result ≡ Err RunFault.Read) }
+    ensures blames_writer { BlamesWriter W.fails result }
 {
     let mut copier = Copier::new(alloc, options.dialect.order, Becomes::Itself);
     let own = Options {
@@ -291,7 +312,7 @@ pub fn copy<R: Source, W: Write>(
 /// The header of a unit is made one of version 5 by `into_version_5`, with the compilation directory of the unit, by its
 /// offset, and then has opcode_base 13; all else is as in `copy`. Memory grows for the tables of that header too, before
 /// the unit is written.
-pub fn copy_to_5<R: Source, W: Write>(
+pub fn copy_to_5<R: Source, W: Destination>(
     alloc: Global,
     input: &mut R,
     output: &mut W,
@@ -304,6 +325,7 @@ pub fn copy_to_5<R: Source, W: Write>(
         (W.contents output.old) (W.contents output.new) result }
     ensures blames { Blames R.follows R.fails input.old input.new
         (result ≡ Err RunFault.Read) }
+    ensures blames_writer { BlamesWriter W.fails result }
 {
     let becomes = Becomes::Version5(directories);
     let mut copier = Copier::new(alloc, options.dialect.order, becomes);

@@ -17,13 +17,13 @@ use dl_index::open_unchecked;
 use dl_index_file::OpenFault;
 use dl_input::Source;
 use dl_memory::System;
+use dl_output::Destination;
 use dl_run::RunFault;
 use std::alloc::Global;
-use std::io::Write;
 
 /// Answers the addresses among the words, or where there are none those on the input, as they come, by what `teller`
 /// tells.
-pub fn answer_asked<T: Tell, R: Source, W: Write>(
+pub fn answer_asked<T: Tell, R: Source, W: Destination>(
     alloc: Global,
     words: &AddrWords<'_>,
     understood: &AskedWords,
@@ -54,7 +54,7 @@ pub fn answer_asked<T: Tell, R: Source, W: Write>(
 }
 
 /// Answers from the bytes of an index; where there are none, each address has no answer.
-pub fn answer_made<R: Source, W: Write>(
+pub fn answer_made<R: Source, W: Destination>(
     alloc: Global,
     words: &AddrWords<'_>,
     understood: &AskedWords,

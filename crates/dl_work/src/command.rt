@@ -22,11 +22,11 @@ use dl_making::{
 use dl_memory::Memory;
 use dl_num::Order;
 use dl_open::Sections;
+use dl_output::Destination;
 use dl_run::{
     DamageSink, Options, RunFault, SECTION_LIMIT, Summary, Survey, check, check_around, copy,
     copy_to_5, dump, dump_around, find,
 };
-use std::io::Write;
 
 /// What `addr` counts.
 pub const NOTHING: Summary = Summary {
@@ -227,7 +227,7 @@ impl<'a> Command<'a> {
     /// Says what there is to say where there is no line table: of `addr`, that each address has no answer, as over a
     /// section without bytes. Whether that could be written, or memory was refused for it, isn't told, since the file's
     /// fault is.
-    pub fn without_table<M: Memory, W: Write>(self, memory: &M, output: &mut W)
+    pub fn without_table<M: Memory, W: Destination>(self, memory: &M, output: &mut W)
         ensures { WithoutTable (M.refuses memory.now) self.entry (W.contents output.old) (W.contents output.new) }
     {
         if let Command::Addr(question) | Command::AddrAround(question) = self {
@@ -237,7 +237,7 @@ impl<'a> Command<'a> {
     }
 
     /// Works through the section, and tells of the units that are damaged where it goes on after them.
-    pub fn run<M: Memory, R: Source, W: Write, D: DamageSink>(
+    pub fn run<M: Memory, R: Source, W: Destination, D: DamageSink>(
         self,
         memory: &M,
         input: &mut R,

@@ -24,11 +24,11 @@ use dl_cmd::AddrWords;
 use dl_dialogue::Nothing;
 use dl_input::Source;
 use dl_open::FileSource;
+use dl_output::Destination;
 use std::alloc::Global;
-use std::io::Write;
 
 /// Looks into the section on the input.
-fn in_section<'a, F: FileSource, R: Source, W: Write>(
+fn in_section<'a, F: FileSource, R: Source, W: Destination>(
     alloc: Global,
     words: &AddrWords<'a>,
     files: &F,
@@ -66,7 +66,7 @@ fn in_section<'a, F: FileSource, R: Source, W: Write>(
 }
 
 /// Says of each address that it has no answer, where the addresses can be had.
-fn unanswered<R: Source, W: Write>(
+fn unanswered<R: Source, W: Destination>(
     alloc: Global,
     words: &AddrWords<'_>,
     understood: &AskedWords,
@@ -81,7 +81,7 @@ fn unanswered<R: Source, W: Write>(
 }
 
 /// Looks into the file at this path, an index or an ELF file.
-fn in_file<'a, F: FileSource, R: Source, W: Write>(
+fn in_file<'a, F: FileSource, R: Source, W: Destination>(
     alloc: Global,
     words: &AddrWords<'a>,
     path: &'a str,
@@ -123,7 +123,7 @@ fn in_file<'a, F: FileSource, R: Source, W: Write>(
 /// units that are whole, and `Damaged` tells of the others.
 ///
 /// The answer says whether each address has one, and names the first line of the input that is no address.
-pub fn locate<'a, F: FileSource, R: Source, W: Write>(
+pub fn locate<'a, F: FileSource, R: Source, W: Destination>(
     alloc: Global,
     words: &AddrWords<'a>,
     files: &F,

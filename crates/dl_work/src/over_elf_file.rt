@@ -26,12 +26,12 @@ use dl_input::Source;
 use dl_look::CodeRanges;
 use dl_making::Table;
 use dl_open::{FileFault, FileStop};
+use dl_output::Destination;
 use dl_run::{RunFault, Survey};
 use std::alloc::Global;
-use std::io::Write;
 
 /// Looks into the ELF file at this path, which is open.
-pub fn in_elf_file<'a, S: ReadAt, R: Source, W: Write>(
+pub fn in_elf_file<'a, S: ReadAt, R: Source, W: Destination>(
     alloc: Global,
     words: &AddrWords<'a>,
     path: &'a str,
@@ -85,7 +85,7 @@ pub fn in_elf_file<'a, S: ReadAt, R: Source, W: Write>(
 }
 
 /// Answers the addresses among the words, in one pass over the line table.
-fn given<'a, S: ReadAt, W: Write>(
+fn given<'a, S: ReadAt, W: Destination>(
     alloc: Global,
     words: &AddrWords<'a>,
     path: &'a str,
@@ -123,7 +123,7 @@ fn given<'a, S: ReadAt, W: Write>(
 }
 
 /// Makes the index of the line table in memory, and answers from it the addresses on the input, as they come.
-fn by_index<'a, S: ReadAt, R: Source, W: Write>(
+fn by_index<'a, S: ReadAt, R: Source, W: Destination>(
     alloc: Global,
     words: &AddrWords<'a>,
     path: &'a str,

@@ -16,12 +16,12 @@ use dl_open::{
     FileFault, FileStop, FileUnits, Part, StringSections, file_dialect, kept_bytes, open_table,
     part_of,
 };
+use dl_output::Destination;
 use dl_run::{DamageSink, Options, SECTION_LIMIT, Survey};
 use std::alloc::Global;
-use std::io::Write;
 
 /// Works through the line section of the file at this path.
-fn on_section<'p, S: ReadAt, W: Write, D: DamageSink>(
+fn on_section<'p, S: ReadAt, W: Destination, D: DamageSink>(
     alloc: Global,
     path: &'p str,
     command: Command<'_>,
@@ -44,7 +44,7 @@ fn on_section<'p, S: ReadAt, W: Write, D: DamageSink>(
 }
 
 /// Works through what is left of the line section of the object file at this path.
-fn on_kept<'p, W: Write, D: DamageSink>(
+fn on_kept<'p, W: Destination, D: DamageSink>(
     alloc: Global,
     path: &'p str,
     command: Command<'_>,
@@ -67,7 +67,7 @@ fn on_kept<'p, W: Write, D: DamageSink>(
 }
 
 /// Works through the line section of the file at this path, or through the sequences of a part of it.
-fn on_lines<'p, S: ReadAt, W: Write, D: DamageSink>(
+fn on_lines<'p, S: ReadAt, W: Destination, D: DamageSink>(
     alloc: Global,
     path: &'p str,
     command: Command<'_>,
@@ -104,7 +104,7 @@ fn on_lines<'p, S: ReadAt, W: Write, D: DamageSink>(
 }
 
 /// Does what is asked of the line table of the file at this path, which is opened, or of a part of it.
-fn on_table<'p, S: ReadAt, W: Write, D: DamageSink>(
+fn on_table<'p, S: ReadAt, W: Destination, D: DamageSink>(
     alloc: Global,
     path: &'p str,
     command: Command<'_>,
@@ -149,7 +149,7 @@ fn on_table<'p, S: ReadAt, W: Write, D: DamageSink>(
 
 /// Does what is asked of the line table of the file at this path, whose table was found. Addresses are looked up in the
 /// section of this name.
-fn on_found<'p, S: ReadAt, W: Write, D: DamageSink>(
+fn on_found<'p, S: ReadAt, W: Destination, D: DamageSink>(
     alloc: Global,
     path: &'p str,
     file: &S,
@@ -189,7 +189,7 @@ fn on_found<'p, S: ReadAt, W: Write, D: DamageSink>(
 /// Does what is asked of the line table of the file at this path, which is open. In an object file addresses are looked
 /// up in the section of this name, or where none is named in that of its code. Where the table can't be had, `addr`
 /// says of each address that it has no answer.
-pub fn on_file<'p, S: ReadAt, W: Write, D: DamageSink>(
+pub fn on_file<'p, S: ReadAt, W: Destination, D: DamageSink>(
     alloc: Global,
     path: &'p str,
     file: &S,

@@ -28,14 +28,14 @@ use dl_input::Source;
 use dl_making::id_front;
 use dl_memory::System;
 use dl_open::{FileFault, FileSource, open_file};
+use dl_output::Destination;
 use std::alloc::Global;
-use std::io::Write;
 
 /// From how many addresses among the words on an index is read whole: each takes some fifteen reads of a few bytes.
 const FEW: usize = 64;
 
 /// Answers from the index at this path, which is open.
-pub fn in_index<'a, F: FileSource, S: ReadAt, R: Source, W: Write>(
+pub fn in_index<'a, F: FileSource, S: ReadAt, R: Source, W: Destination>(
     alloc: Global,
     words: &AddrWords<'a>,
     path: &'a str,
@@ -73,7 +73,7 @@ fn are_few(understood: &AskedWords) -> bool {
 
 /// Answers from an index. Where many addresses are asked for, or they come on the input, it is read whole before, unless it is
 /// long or memory is refused for that.
-fn answer_from<S: ReadAt, R: Source, W: Write>(
+fn answer_from<S: ReadAt, R: Source, W: Destination>(
     alloc: Global,
     words: &AddrWords<'_>,
     understood: &AskedWords,

@@ -14,9 +14,9 @@ use dl_input::Source;
 use dl_memory::System;
 use dl_num::Order;
 use dl_open::{FileSource, StringSections};
+use dl_output::Destination;
 use dl_run::{DamageSink, RunFault, Survey};
 use std::alloc::Global;
-use std::io::Write;
 
 /// What the words say of a section on the input.
 #[derive(Clone, Copy)]
@@ -56,7 +56,7 @@ fn stopped<'a>(answer: Result<Survey, RunFault>) -> Result<Survey, Stop<'a>>
 }
 
 /// Does what is asked of the section on the input. The string sections are read first.
-pub fn on_input<'p, F: FileSource, R: Source, W: Write, D: DamageSink>(
+pub fn on_input<'p, F: FileSource, R: Source, W: Destination, D: DamageSink>(
     alloc: Global,
     files: &F,
     section: Section<'_>,

@@ -19,9 +19,9 @@ use dl_cmd::Job;
 use dl_input::Source;
 use dl_memory::System;
 use dl_open::{FileSource, FileStop, FileUnits, open_file};
+use dl_output::Destination;
 use dl_run::{DamageSink, Survey};
 use std::alloc::Global;
-use std::io::Write;
 
 /// The path of the ELF file that a job names.
 fn file<'a>(job: &Job<'a>) -> Option<&'a str>
@@ -107,7 +107,7 @@ fn section<'a>(job: &Job<'a>) -> Section<'a>
 }
 
 /// Does what is asked of the line table of the file at this path. Addresses are looked up in the section of this name.
-fn on_named<'p, F: FileSource, W: Write, D: DamageSink>(
+fn on_named<'p, F: FileSource, W: Destination, D: DamageSink>(
     alloc: Global,
     files: &F,
     path: &'p str,
@@ -141,7 +141,7 @@ fn on_named<'p, F: FileSource, W: Write, D: DamageSink>(
 /// `NotUnderstood` where there is no job, ADDRESS is no address, a size is no size, a section of an object file is named without a file,
 /// or the job is `addr`, which is that of `locate`, or `index`, which is that of `index`; then, and at each fault before the command, nothing is
 /// written. Of the input nothing is read then, nor where a file is named.
-pub fn work<'a, F: FileSource, R: Source, W: Write, D: DamageSink>(
+pub fn work<'a, F: FileSource, R: Source, W: Destination, D: DamageSink>(
     alloc: Global,
     job: Option<Job<'a>>,
     files: &F,

@@ -1,5 +1,5 @@
 use Rattle.dl_run.proofs.CopierLemmas.{stops_at_version}
 use Rattle.dl_run.proofs.copying.CopierVisitor.foreign.Goals as goal
 
-pub returns : goal.returns
-returns g c first start visits s = stops_at_version s c.args.offset c.args._version
+pub returns-clause-heard : goal.returns-clause-heard
+returns-clause-heard g c first start visits s = stops_at_version s c.args.offset c.args._version
