@@ -7,6 +7,8 @@ ghost use Rattle.std.specs.Io.KnownBytes.{Consumes};
 ghost use Rattle.dl_input.specs.Failing.{Blames};
 ghost use Rattle.dl_look.specs.declared.place.Place as place;
 ghost use Rattle.dl_print.specs.ValueText.{strings_of};
+ghost use Rattle.dl_print.specs.Output.{BlamesWriter as PrintBlames};
+ghost use Rattle.dl_run.specs.Blaming.{BlamesWriter};
 ghost use Rattle.dl_run.specs.Commands.{strings_in};
 ghost use Rattle.dl_run.specs.Section.{Visit};
 ghost use Rattle.dl_addr.specs.declared.locating.Locator as locators;
@@ -48,6 +50,7 @@ pub fn addr<M: Memory, R: Source, W: Destination>(
         × Locates (M.refuses memory.now) options.now.dialect (strings_in options.now) question.now options.now.limit bs
         (R.remaining input.new) (W.contents output.old) (W.contents output.new) result }
     ensures blames { Blames R.follows R.fails input.old input.new (result ≡ Err RunFault.Read) }
+    ensures blames_writer { BlamesWriter W.fails result }
 {
     let strings = StringSections::new(options.debug_line_str, options.debug_str);
     let Ok(mut locator) = locator_of(memory, &strings, question) else {
@@ -87,6 +90,7 @@ pub fn addr_around<M: Memory, R: Source, W: Destination>(
         × LocatesAround (M.refuses memory.now) options.now.dialect (strings_in options.now) question.now
         options.now.limit bs (R.remaining input.new) (W.contents output.old) (W.contents output.new) result }
     ensures blames { Blames R.follows R.fails input.old input.new (result ≡ Err RunFault.Read) }
+    ensures blames_writer { BlamesWriter W.fails result }
 {
     let strings = StringSections::new(options.debug_line_str, options.debug_str);
     let Ok(mut locator) = locator_of(memory, &strings, question) else {
@@ -153,11 +157,12 @@ fn print_all<M: Memory, W: Destination>(
     output: &mut W,
     question: &Question<'_>,
 ) -> Result<Found, WriteFault>
-    ensures { (first : locators.Locator M) (start held : Option (List ℕ)) (visits : List Visit)
+    ensures printed { (first : locators.Locator M) (start held : Option (List ℕ)) (visits : List Visit)
         → Locating first locator.now start held visits
         → IsMadeFor first (map (looked_up question.now.base) question.now.asked.now)
         → PrintsAll (W.contents output.old) (W.contents output.new) question.now
         (answer_for first visits question.now.base) result }
+    ensures blames_writer { PrintBlames W.fails result }
 {
     let mut printer = Printer::new();
     let mut found = Found::All;

@@ -2,7 +2,7 @@
 
 ghost use Rattle.std.specs.Prelude.{◌≡◌, ◌++◌, [], codes, decimal};
 ghost use Rattle.dl_print.specs.Digits.{hexadecimal, hexadecimal_of};
-ghost use Rattle.dl_print.specs.Output.{Prints};
+ghost use Rattle.dl_print.specs.Output.{BlamesWriter as PrintBlames, Prints};
 ghost use Rattle.std.specs.Option.{option_copied};
 ghost use Rattle.dl_addr.specs.Json.{json_address, json_asked, json_is_stmt, json_position, json_row, json_section, json_string};
 ghost use Rattle.dl_addr.specs.declared.style.Form.TheVariants as all_forms;
@@ -26,8 +26,9 @@ pub fn print_json_asked<W: Destination>(
     address: Option<u64>,
     section: Option<&str>,
 ) -> Result<(), WriteFault>
-    ensures { Prints (W.contents output.old) (W.contents output.new) printer.old printer.new
+    ensures printed { Prints (W.contents output.old) (W.contents output.new) printer.old printer.new
         (json_asked address (option_copied section.entry)) result }
+    ensures blames_writer { PrintBlames W.fails result }
 {
     print_json_address(printer, output, address)?;
     print_section(printer, output, address, section)
@@ -40,8 +41,9 @@ fn print_section<W: Destination>(
     address: Option<u64>,
     section: Option<&str>,
 ) -> Result<(), WriteFault>
-    ensures { Prints (W.contents output.old) (W.contents output.new) printer.old printer.new
+    ensures printed { Prints (W.contents output.old) (W.contents output.new) printer.old printer.new
         (json_section address (option_copied section.entry)) result }
+    ensures blames_writer { PrintBlames W.fails result }
 {
     match (address, section) {
         (Some(_), Some(name)) => print_name(printer, output, name),
@@ -49,9 +51,14 @@ fn print_section<W: Destination>(
     }
 }
 
-fn print_name<W: Destination>(printer: &mut Printer, output: &mut W, name: &str) -> Result<(), WriteFault>
-    ensures { Prints (W.contents output.old) (W.contents output.new) printer.old printer.new
+fn print_name<W: Destination>(
+    printer: &mut Printer,
+    output: &mut W,
+    name: &str,
+) -> Result<(), WriteFault>
+    ensures printed { Prints (W.contents output.old) (W.contents output.new) printer.old printer.new
         (codes ",\"section\":" ++ json_string name.now) result }
+    ensures blames_writer { PrintBlames W.fails result }
 {
     printer.put(output, b",\"section\":\"")?;
     print_json_text(printer, output, name.as_bytes())?;
@@ -64,8 +71,9 @@ fn print_json_address<W: Destination>(
     output: &mut W,
     address: Option<u64>,
 ) -> Result<(), WriteFault>
-    ensures { Prints (W.contents output.old) (W.contents output.new) printer.old printer.new
+    ensures printed { Prints (W.contents output.old) (W.contents output.new) printer.old printer.new
         (json_address address) result }
+    ensures blames_writer { PrintBlames W.fails result }
 {
     match address {
         Some(address) => print_given(printer, output, address),
@@ -78,8 +86,9 @@ fn print_given<W: Destination>(
     output: &mut W,
     address: u64,
 ) -> Result<(), WriteFault>
-    ensures { Prints (W.contents output.old) (W.contents output.new) printer.old printer.new
+    ensures printed { Prints (W.contents output.old) (W.contents output.new) printer.old printer.new
         ((codes "{\"address\":\"" ++ (codes "0x" ++ hexadecimal_of 16 address)) ++ codes "\"") result }
+    ensures blames_writer { PrintBlames W.fails result }
 {
     print_address_open(printer, output, address)?;
     printer.put(output, b"\"")
@@ -91,8 +100,9 @@ fn print_address_open<W: Destination>(
     output: &mut W,
     address: u64,
 ) -> Result<(), WriteFault>
-    ensures { Prints (W.contents output.old) (W.contents output.new) printer.old printer.new
+    ensures printed { Prints (W.contents output.old) (W.contents output.new) printer.old printer.new
         (codes "{\"address\":\"" ++ (codes "0x" ++ hexadecimal_of 16 address)) result }
+    ensures blames_writer { PrintBlames W.fails result }
 {
     printer.put(output, b"{\"address\":\"")?;
     printer.address(output, address)
@@ -104,8 +114,9 @@ pub fn print_json_row<W: Destination>(
     output: &mut W,
     answer: &Answer<'_, '_>,
 ) -> Result<(), WriteFault>
-    ensures { Prints (W.contents output.old) (W.contents output.new) printer.old printer.new
+    ensures printed { Prints (W.contents output.old) (W.contents output.new) printer.old printer.new
         (json_row (named_text all_forms.Json (path_kept answer.now.path)) (answer_seen answer.now)) result }
+    ensures blames_writer { PrintBlames W.fails result }
 {
     print_path_member(printer, output, answer.path)?;
     print_position(printer, output, answer)?;
@@ -118,8 +129,9 @@ fn print_path_member<W: Destination>(
     output: &mut W,
     path: KeptPath<'_, '_>,
 ) -> Result<(), WriteFault>
-    ensures { Prints (W.contents output.old) (W.contents output.new) printer.old printer.new
+    ensures printed { Prints (W.contents output.old) (W.contents output.new) printer.old printer.new
         (codes ",\"path\":" ++ named_text all_forms.Json (path_kept path.entry)) result }
+    ensures blames_writer { PrintBlames W.fails result }
 {
     printer.put(output, b",\"path\":")?;
     print_path(printer, output, Form::Json, path)
@@ -131,8 +143,9 @@ fn print_position<W: Destination>(
     output: &mut W,
     answer: &Answer<'_, '_>,
 ) -> Result<(), WriteFault>
-    ensures { Prints (W.contents output.old) (W.contents output.new) printer.old printer.new
+    ensures printed { Prints (W.contents output.old) (W.contents output.new) printer.old printer.new
         (json_position (answer_seen answer.now)) result }
+    ensures blames_writer { PrintBlames W.fails result }
 {
     printer.number(output, b",\"line\":", answer.position.line)?;
     printer.number(output, b",\"column\":", answer.position.column)?;
@@ -144,8 +157,9 @@ fn print_discriminator<W: Destination>(
     output: &mut W,
     discriminator: u64,
 ) -> Result<(), WriteFault>
-    ensures { Prints (W.contents output.old) (W.contents output.new) printer.old printer.new
+    ensures printed { Prints (W.contents output.old) (W.contents output.new) printer.old printer.new
         (codes ",\"discriminator\":" ++ decimal discriminator) result }
+    ensures blames_writer { PrintBlames W.fails result }
 {
     printer.put(output, b",\"discriminator\":")?;
     printer.number(output, b"", discriminator)
@@ -158,8 +172,9 @@ fn print_end<W: Destination>(
     is_stmt: bool,
     unit: u64,
 ) -> Result<(), WriteFault>
-    ensures { Prints (W.contents output.old) (W.contents output.new) printer.old printer.new
+    ensures printed { Prints (W.contents output.old) (W.contents output.new) printer.old printer.new
         (json_is_stmt is_stmt ++ ((codes ",\"unit\":\"0x" ++ hexadecimal unit) ++ codes "\"")) result }
+    ensures blames_writer { PrintBlames W.fails result }
 {
     print_is_stmt(printer, output, is_stmt)?;
     print_unit(printer, output, unit)
@@ -170,8 +185,9 @@ fn print_is_stmt<W: Destination>(
     output: &mut W,
     is_stmt: bool,
 ) -> Result<(), WriteFault>
-    ensures { Prints (W.contents output.old) (W.contents output.new) printer.old printer.new
+    ensures printed { Prints (W.contents output.old) (W.contents output.new) printer.old printer.new
         (json_is_stmt is_stmt) result }
+    ensures blames_writer { PrintBlames W.fails result }
 {
     if is_stmt {
         printer.put(output, b",\"is_stmt\":true")
@@ -180,9 +196,14 @@ fn print_is_stmt<W: Destination>(
     }
 }
 
-fn print_unit<W: Destination>(printer: &mut Printer, output: &mut W, unit: u64) -> Result<(), WriteFault>
-    ensures { Prints (W.contents output.old) (W.contents output.new) printer.old printer.new
+fn print_unit<W: Destination>(
+    printer: &mut Printer,
+    output: &mut W,
+    unit: u64,
+) -> Result<(), WriteFault>
+    ensures printed { Prints (W.contents output.old) (W.contents output.new) printer.old printer.new
         ((codes ",\"unit\":\"0x" ++ hexadecimal unit) ++ codes "\"") result }
+    ensures blames_writer { PrintBlames W.fails result }
 {
     printer.hexadecimal_number(output, b",\"unit\":\"0x", unit)?;
     printer.put(output, b"\"")

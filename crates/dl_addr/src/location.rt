@@ -2,7 +2,7 @@
 
 ghost use Rattle.std.specs.Prelude.{◌≡◌, [], Some, if◌then◌else◌, option_map, unwrap_or};
 ghost use Rattle.std.specs.Option.{option_copied};
-ghost use Rattle.dl_print.specs.Output.{Prints};
+ghost use Rattle.dl_print.specs.Output.{BlamesWriter as PrintBlames, Prints};
 ghost use Rattle.dl_path.specs.Shown.{basename};
 ghost use Rattle.dl_addr.specs.Locations.{location_line, location_seen};
 
@@ -37,8 +37,9 @@ pub fn print_location<W: Destination>(
     asked: Asked,
     location: Option<Location<'_>>,
 ) -> Result<(), WriteFault>
-    ensures { Prints (W.contents output.old) (W.contents output.new) printer.old printer.new
+    ensures printed { Prints (W.contents output.old) (W.contents output.new) printer.old printer.new
         (location_line style.entry asked (option_map location_seen location.entry)) result }
+    ensures blames_writer { PrintBlames W.fails result }
 {
     match location {
         Some(location) => print_told(printer, output, style, asked, location),
@@ -54,8 +55,9 @@ fn print_told<W: Destination>(
     asked: Asked,
     location: Location<'_>,
 ) -> Result<(), WriteFault>
-    ensures { Prints (W.contents output.old) (W.contents output.new) printer.old printer.new
+    ensures printed { Prints (W.contents output.old) (W.contents output.new) printer.old printer.new
         (location_line style.entry asked (Some (location_seen location.entry))) result }
+    ensures blames_writer { PrintBlames W.fails result }
 {
     let path = printed_path(style.basenames, location.path);
     let texts = [KeptText::new(KeptBytes::Lent(bytes_or_none(path)))];

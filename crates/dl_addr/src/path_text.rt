@@ -2,7 +2,7 @@
 
 ghost use Rattle.std.specs.Prelude.{◌≡◌, ◌++◌, [], codes, unwrap_or};
 ghost use Rattle.std.specs.Option.{option_copied};
-ghost use Rattle.dl_print.specs.Output.{Prints};
+ghost use Rattle.dl_print.specs.Output.{BlamesWriter as PrintBlames, Prints};
 ghost use Rattle.dl_addr.specs.declared.style.Form.TheVariants as all_forms;
 ghost use Rattle.dl_path.specs.Paths.{slash_after};
 ghost use Rattle.dl_addr.specs.Printing.{inner_text, named_text};
@@ -22,8 +22,9 @@ pub fn print_path<W: Destination>(
     form: Form,
     path: KeptPath<'_, '_>,
 ) -> Result<(), WriteFault>
-    ensures { Prints (W.contents output.old) (W.contents output.new) printer.old printer.new
+    ensures printed { Prints (W.contents output.old) (W.contents output.new) printer.old printer.new
         (named_text form (path_kept path.entry)) result }
+    ensures blames_writer { PrintBlames W.fails result }
 {
     match path.text(path.file.name) {
         Some(name) => print_known(printer, output, form, path, name),
@@ -39,8 +40,9 @@ fn print_known<W: Destination>(
     path: KeptPath<'_, '_>,
     name: &KeptText<'_>,
 ) -> Result<(), WriteFault>
-    ensures { Prints (W.contents output.old) (W.contents output.new) printer.old printer.new
+    ensures printed { Prints (W.contents output.old) (W.contents output.new) printer.old printer.new
         (text_in form (path_named path.entry name.now)) result }
+    ensures blames_writer { PrintBlames W.fails result }
 {
     match form {
         Form::Location | Form::AddressAndLocation => {
@@ -56,8 +58,9 @@ fn print_no_path<W: Destination>(
     output: &mut W,
     form: Form,
 ) -> Result<(), WriteFault>
-    ensures { Prints (W.contents output.old) (W.contents output.new) printer.old printer.new
+    ensures printed { Prints (W.contents output.old) (W.contents output.new) printer.old printer.new
         (no_path_text form) result }
+    ensures blames_writer { PrintBlames W.fails result }
 {
     match form {
         Form::Location | Form::AddressAndLocation => printer.put(output, b"??"),
@@ -72,8 +75,9 @@ fn print_quoted<W: Destination>(
     path: KeptPath<'_, '_>,
     name: &KeptText<'_>,
 ) -> Result<(), WriteFault>
-    ensures { Prints (W.contents output.old) (W.contents output.new) printer.old printer.new
+    ensures printed { Prints (W.contents output.old) (W.contents output.new) printer.old printer.new
         (text_in all_forms.Json (path_named path.entry name.now)) result }
+    ensures blames_writer { PrintBlames W.fails result }
 {
     printer.put(output, b"\"")?;
     print_rooted(printer, output, Form::Json, path, name)?;
@@ -88,8 +92,9 @@ fn print_rooted<W: Destination>(
     path: KeptPath<'_, '_>,
     name: &KeptText<'_>,
 ) -> Result<(), WriteFault>
-    ensures { Prints (W.contents output.old) (W.contents output.new) printer.old printer.new
+    ensures printed { Prints (W.contents output.old) (W.contents output.new) printer.old printer.new
         (inner_text form (path_named path.entry name.now)) result }
+    ensures blames_writer { PrintBlames W.fails result }
 {
     let Some(root) = path.root else {
         return print_parts(printer, output, form, path, name);
@@ -107,8 +112,9 @@ fn print_parts<W: Destination>(
     path: KeptPath<'_, '_>,
     name: &KeptText<'_>,
 ) -> Result<(), WriteFault>
-    ensures { Prints (W.contents output.old) (W.contents output.new) printer.old printer.new
+    ensures printed { Prints (W.contents output.old) (W.contents output.new) printer.old printer.new
         (inner_text form (path_in_table path.entry name.now)) result }
+    ensures blames_writer { PrintBlames W.fails result }
 {
     print_directory(printer, output, form, path.text(path.file.base))?;
     print_directory(printer, output, form, path.text(path.file.directory))?;
@@ -123,9 +129,10 @@ fn print_directory<W: Destination>(
     form: Form,
     directory: Option<&KeptText<'_>>,
 ) -> Result<(), WriteFault>
-    ensures { Prints (W.contents output.old) (W.contents output.new) printer.old printer.new
+    ensures printed { Prints (W.contents output.old) (W.contents output.new) printer.old printer.new
         (inner_text form (unwrap_or (option_copied directory.entry) [])
         ++ slash_after (unwrap_or (option_copied directory.entry) [])) result }
+    ensures blames_writer { PrintBlames W.fails result }
 {
     match directory {
         Some(directory) => print_folder(printer, output, form, directory),
@@ -141,8 +148,9 @@ fn print_folder<W: Destination>(
     form: Form,
     directory: &KeptText<'_>,
 ) -> Result<(), WriteFault>
-    ensures { Prints (W.contents output.old) (W.contents output.new) printer.old printer.new
+    ensures printed { Prints (W.contents output.old) (W.contents output.new) printer.old printer.new
         (inner_text form directory.now ++ slash_after directory.now) result }
+    ensures blames_writer { PrintBlames W.fails result }
 {
     print_text(printer, output, form, directory)?;
     print_slash(printer, output, directory.bytes())
@@ -155,8 +163,9 @@ fn print_slash<W: Destination>(
     output: &mut W,
     directory: &[u8],
 ) -> Result<(), WriteFault>
-    ensures { Prints (W.contents output.old) (W.contents output.new) printer.old printer.new
+    ensures printed { Prints (W.contents output.old) (W.contents output.new) printer.old printer.new
         (slash_after directory.now) result }
+    ensures blames_writer { PrintBlames W.fails result }
 {
     if wants_slash(directory) {
         printer.put(output, b"/")
@@ -173,8 +182,9 @@ fn print_text<W: Destination>(
     form: Form,
     text: &KeptText<'_>,
 ) -> Result<(), WriteFault>
-    ensures { Prints (W.contents output.old) (W.contents output.new) printer.old printer.new
+    ensures printed { Prints (W.contents output.old) (W.contents output.new) printer.old printer.new
         (inner_text form text.now) result }
+    ensures blames_writer { PrintBlames W.fails result }
 {
     if text.is_plain() {
         return printer.put(output, text.bytes());

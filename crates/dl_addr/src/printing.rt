@@ -2,7 +2,7 @@
 
 ghost use Rattle.std.specs.Prelude.{◌≡◌, []};
 ghost use Rattle.std.specs.Option.{option_copied, option_map};
-ghost use Rattle.dl_print.specs.Output.{Prints};
+ghost use Rattle.dl_print.specs.Output.{BlamesWriter as PrintBlames, Prints};
 ghost use Rattle.dl_addr.specs.Answers.{answer_seen};
 ghost use Rattle.dl_addr.specs.Locations.{address_text, asked_text, column_text, no_row_text, place_text, row_text};
 ghost use Rattle.dl_addr.specs.Texts.{path_kept};
@@ -24,8 +24,9 @@ pub fn print_line<W: Destination>(
     asked: Asked,
     answer: Option<Answer<'_, '_>>,
 ) -> Result<(), WriteFault>
-    ensures { Prints (W.contents output.old) (W.contents output.new) printer.old printer.new
+    ensures printed { Prints (W.contents output.old) (W.contents output.new) printer.old printer.new
         (seen_line style.entry asked (option_map answer_seen answer.entry)) result }
+    ensures blames_writer { PrintBlames W.fails result }
 {
     print_asked(printer, output, style, asked)?;
     print_answer(printer, output, style.form, answer)?;
@@ -39,8 +40,9 @@ fn print_asked<W: Destination>(
     style: Style<'_>,
     asked: Asked,
 ) -> Result<(), WriteFault>
-    ensures { Prints (W.contents output.old) (W.contents output.new) printer.old printer.new
+    ensures printed { Prints (W.contents output.old) (W.contents output.new) printer.old printer.new
         (asked_text style.entry.form (option_copied style.entry.section) asked) result }
+    ensures blames_writer { PrintBlames W.fails result }
 {
     match style.form {
         Form::Location => printer.put(output, b""),
@@ -55,8 +57,9 @@ fn print_address<W: Destination>(
     output: &mut W,
     address: Option<u64>,
 ) -> Result<(), WriteFault>
-    ensures { Prints (W.contents output.old) (W.contents output.new) printer.old printer.new
+    ensures printed { Prints (W.contents output.old) (W.contents output.new) printer.old printer.new
         (address_text address) result }
+    ensures blames_writer { PrintBlames W.fails result }
 {
     match address {
         Some(address) => {
@@ -73,8 +76,9 @@ fn print_answer<W: Destination>(
     form: Form,
     answer: Option<Answer<'_, '_>>,
 ) -> Result<(), WriteFault>
-    ensures { Prints (W.contents output.old) (W.contents output.new) printer.old printer.new
+    ensures printed { Prints (W.contents output.old) (W.contents output.new) printer.old printer.new
         (seen_text form (option_map answer_seen answer.entry)) result }
+    ensures blames_writer { PrintBlames W.fails result }
 {
     match answer {
         Some(answer) => print_row(printer, output, form, &answer),
@@ -89,8 +93,9 @@ fn print_row<W: Destination>(
     form: Form,
     answer: &Answer<'_, '_>,
 ) -> Result<(), WriteFault>
-    ensures { Prints (W.contents output.old) (W.contents output.new) printer.old printer.new
+    ensures printed { Prints (W.contents output.old) (W.contents output.new) printer.old printer.new
         (row_text form (named_text form (path_kept answer.now.path)) (answer_seen answer.now)) result }
+    ensures blames_writer { PrintBlames W.fails result }
 {
     match form {
         Form::Location | Form::AddressAndLocation => print_place(printer, output, form, answer),
@@ -106,8 +111,9 @@ fn print_no_row<W: Destination>(
     output: &mut W,
     form: Form,
 ) -> Result<(), WriteFault>
-    ensures { Prints (W.contents output.old) (W.contents output.new) printer.old printer.new
+    ensures printed { Prints (W.contents output.old) (W.contents output.new) printer.old printer.new
         (no_row_text form) result }
+    ensures blames_writer { PrintBlames W.fails result }
 {
     match form {
         Form::Location | Form::AddressAndLocation => printer.put(output, b"??:0"),
@@ -122,8 +128,9 @@ fn print_place<W: Destination>(
     form: Form,
     answer: &Answer<'_, '_>,
 ) -> Result<(), WriteFault>
-    ensures { Prints (W.contents output.old) (W.contents output.new) printer.old printer.new
+    ensures printed { Prints (W.contents output.old) (W.contents output.new) printer.old printer.new
         (place_text (named_text form (path_kept answer.now.path)) (answer_seen answer.now)) result }
+    ensures blames_writer { PrintBlames W.fails result }
 {
     print_path(printer, output, form, answer.path)?;
     printer.number(output, b":", answer.position.line)?;
@@ -135,8 +142,9 @@ fn print_column<W: Destination>(
     output: &mut W,
     column: u64,
 ) -> Result<(), WriteFault>
-    ensures { Prints (W.contents output.old) (W.contents output.new) printer.old printer.new
+    ensures printed { Prints (W.contents output.old) (W.contents output.new) printer.old printer.new
         (column_text column) result }
+    ensures blames_writer { PrintBlames W.fails result }
 {
     if column == 0 {
         printer.put(output, b"")
