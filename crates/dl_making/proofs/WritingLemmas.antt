@@ -10,6 +10,7 @@ use Rattle.dl_print.specs.ValueText.{Strings}
 use Rattle.dl_print.proofs.Outs.{HasPrinted-out}
 use Rattle.dl_run.specs.declared.fault.RunFault.{RunFault}
 use Rattle.dl_run.specs.declared.fault.RunFault.TheVariants as fault
+use Rattle.dl_run.specs.Blaming.{IsBlamed}
 use Rattle.dl_making.specs.declared.making.Made.{Made}
 use Rattle.dl_making.specs.declared.making.MadeAround.{MadeAround}
 use Rattle.dl_making.specs.declared.making.Table.{Table}
@@ -58,3 +59,26 @@ module _ (dialect : Dialect) (s : Strings) (table : Table) (limit : ℕ) (bytes 
         → TellsOut start now made.index.items f
         → WritesAround dialect s table limit bytes left start now (Err (fault.Write f.out))
     lost_around made f makes tells = (made.survey, made.index.items, (makes.0, makes.1, makes.2, makes.3), tells)
+
+module _ (fails : Type 0) (dialect : Dialect) (s : Strings) (table : Table) (limit : ℕ) (bytes : List ℕ)
+    (left : Option (List ℕ)) where
+  -- where none could be made, no write failed
+  pub never_written : (f : RunFault) → Makes dialect s table limit bytes left (Err f) → IsBlamed fails f
+  never_written (fault.Write out) (units, b, back, ends) = absurd ends
+  never_written fault.NoMemory makes = tt
+  never_written (fault.Damage offset kind) makes = tt
+  never_written fault.Read makes = tt
+  never_written fault.SectionTooLong makes = tt
+  never_written fault.NotFound makes = tt
+  never_written (fault.ForeignUnit unit) makes = tt
+  never_written (fault.Emit unit e) makes = tt
+
+  pub never_written_around : (f : RunFault) → MakesAround dialect s table limit bytes left (Err f) → IsBlamed fails f
+  never_written_around (fault.Write out) (blocks, rest, ends) = absurd ends
+  never_written_around fault.NoMemory makes = tt
+  never_written_around (fault.Damage offset kind) makes = tt
+  never_written_around fault.Read makes = tt
+  never_written_around fault.SectionTooLong makes = tt
+  never_written_around fault.NotFound makes = tt
+  never_written_around (fault.ForeignUnit unit) makes = tt
+  never_written_around (fault.Emit unit e) makes = tt

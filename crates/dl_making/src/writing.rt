@@ -3,7 +3,8 @@
 ghost use Rattle.std.specs.Prelude.{◌≡◌, ◌≤◌, ℕ, List, MatchResult};
 ghost use Rattle.std.specs.Io.KnownBytes.{Appends, Consumes};
 ghost use Rattle.dl_input.specs.Failing.{Blames};
-ghost use Rattle.dl_print.specs.Output.{TellsOut};
+ghost use Rattle.dl_print.specs.Output.{BlamesWriter as PrintBlames, TellsOut};
+ghost use Rattle.dl_run.specs.Blaming.{BlamesWriter};
 ghost use Rattle.dl_run.specs.Commands.{strings_in};
 ghost use Rattle.dl_making.specs.Writes.{Writes, WritesAround};
 
@@ -29,6 +30,7 @@ pub fn write_index<R: Source, W: Destination>(
         × Writes options.now.dialect (strings_in options.now) table.now options.now.limit bs (R.remaining input.new)
         (W.contents output.old) (W.contents output.new) result }
     ensures blames { Blames R.follows R.fails input.old input.new (result ≡ Err RunFault.Read) }
+    ensures blames_writer { BlamesWriter W.fails result }
 {
     let made = make_index(alloc, input, table, options)?;
     match put_bytes(output, made.index.as_slice()) {
@@ -52,6 +54,7 @@ pub fn write_index_around<R: Source, W: Destination>(
         × WritesAround options.now.dialect (strings_in options.now) table.now options.now.limit bs (R.remaining input.new)
         (W.contents output.old) (W.contents output.new) result }
     ensures blames { Blames R.follows R.fails input.old input.new (result ≡ Err RunFault.Read) }
+    ensures blames_writer { BlamesWriter W.fails result }
 {
     let made = make_index_around(alloc, input, table, options)?;
     match put_bytes(output, made.index.as_slice()) {
@@ -62,8 +65,9 @@ pub fn write_index_around<R: Source, W: Destination>(
 
 /// Writes bytes, and all of them out.
 pub(crate) fn put_bytes<W: Destination>(output: &mut W, bytes: &[u8]) -> Result<(), WriteFault>
-    ensures { MatchResult result (λ _. Appends (W.contents output.old) (W.contents output.new) bytes.now)
+    ensures written { MatchResult result (λ _. Appends (W.contents output.old) (W.contents output.new) bytes.now)
         (TellsOut (W.contents output.old) (W.contents output.new) bytes.now) }
+    ensures blames_writer { PrintBlames W.fails result }
 {
     let mut printer = Printer::new();
     match printer.put(output, bytes) {

@@ -3,6 +3,7 @@
 ghost use Rattle.std.specs.Prelude.{◌≡◌, ◌≤◌, ℕ, List};
 ghost use Rattle.std.specs.Io.KnownBytes.{Consumes};
 ghost use Rattle.dl_input.specs.Failing.{Blames};
+ghost use Rattle.dl_run.specs.Blaming.{BlamesWriter};
 ghost use Rattle.dl_run.specs.Commands.{strings_in};
 ghost use Rattle.dl_making.specs.WritesUntil.{WritesMade, WritesUntil, WritesUntilAround};
 
@@ -33,6 +34,7 @@ pub fn write_index_until<R: Source, W: Destination>(
         × WritesUntil options.now.dialect (strings_in options.now) table.now options.now.limit bs
         (R.remaining input.new) (W.contents output.old) (W.contents output.new) result }
     ensures blames { Blames R.follows R.fails input.old input.new (result ≡ Err RunFault.Read) }
+    ensures blames_writer { BlamesWriter W.fails result }
 {
     let made = make_index_until(alloc, input, table, options);
     put_made(output, &made.index, made.ended)
@@ -54,6 +56,7 @@ pub fn write_index_until_around<R: Source, W: Destination>(
         × WritesUntilAround options.now.dialect (strings_in options.now) table.now options.now.limit bs
         (R.remaining input.new) (W.contents output.old) (W.contents output.new) result }
     ensures blames { Blames R.follows R.fails input.old input.new (result ≡ Err RunFault.Read) }
+    ensures blames_writer { BlamesWriter W.fails result }
 {
     let made = make_index_until_around(alloc, input, table, options);
     put_made(output, &made.index, made.ended)
@@ -65,7 +68,8 @@ fn put_made<A: Copy, W: Destination>(
     index: &Result<Vec<u8>, NoMemory>,
     ended: Result<A, RunFault>,
 ) -> Result<A, RunFault>
-    ensures { WritesMade ended index.now (W.contents output.old) (W.contents output.new) result }
+    ensures written { WritesMade ended index.now (W.contents output.old) (W.contents output.new) result }
+    ensures blames_writer { BlamesWriter W.fails ended → BlamesWriter W.fails result }
 {
     match index {
         Ok(index) => match put_bytes(output, index.as_slice()) {

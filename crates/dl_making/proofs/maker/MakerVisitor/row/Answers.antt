@@ -9,8 +9,8 @@ use Rattle.dl_making.specs.Making.{code_of}
 use Rattle.dl_making.proofs.MakerLemmas.{goes_on, stops}
 use Rattle.dl_making.proofs.maker.MakerVisitor.row.Goals as goal
 
-pub returns-in-Ok : goal.returns-in-Ok
-returns-in-Ok g c first start visits s =
+pub returns-in-Ok-clause-heard : goal.returns-in-Ok-clause-heard
+returns-in-Ok-clause-heard g c first start visits s =
     let live = code_of first in
     let rows = rows_after [] visits in
     let r = c.args.row.now in
@@ -22,8 +22,8 @@ returns-in-Ok g c first start visits s =
     (c.in-Ok.ensures.taken live units rows stands (λ none. c.begins_live-is_live.ensures live units rows stands none
     ∙ ap (λ code. is_code (option_copied code) r.address) s.same.code)))
 
-pub returns-in-Err : goal.returns-in-Err
-returns-in-Err g c first start visits s =
+pub returns-in-Err-clause-heard : goal.returns-in-Err-clause-heard
+returns-in-Err-clause-heard g c first start visits s =
     stops first c.args.self.now (record c.args.self.now { runs = c.row.new.self; is_refused = true }) start
     (g.W.Write.contents c.args._output.now) visits (of_row c.args.row.now) s
     (record { code = refl; directories = refl; strings = refl }) refl refl
