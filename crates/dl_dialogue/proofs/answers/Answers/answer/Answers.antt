@@ -14,7 +14,7 @@ returns-in-Ok-clause-answers g c = λ first m start before stays determines stan
     (option_map location_seen c.in-Ok.location) c.is_answered.result c.print_location.result c.print_location.new.printer _
     (c.in-Ok.ensures.told m stands.base (determined stays determines))
     (c.is_answered.ensures ∙ ap (is_answered c.args.asked) (c.is_some.ensures
-    ∙ some_mapped location_seen c.in-Ok.location)) refl refl c.also-self.ensures c.print_location.ensures)
+    ∙ some_mapped location_seen c.in-Ok.location)) refl refl c.also-self.ensures c.print_location.ensures.printed)
 
 pub returns-in-Err-clause-answers : goal.returns-in-Err-clause-answers
 returns-in-Err-clause-answers g c = λ first m start before stays determines stands.
