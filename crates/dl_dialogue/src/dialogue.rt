@@ -6,7 +6,7 @@ ghost use Rattle.dl_input.specs.Failing.{Blames};
 ghost use Rattle.dl_addr.specs.Location.{Location};
 ghost use Rattle.dl_dialogue.specs.Answers.{Determines};
 ghost use Rattle.dl_dialogue.specs.Dialogues.{AnswersLines, IsLong};
-ghost use Rattle.dl_dialogue.specs.Faults.{TellFails};
+ghost use Rattle.dl_dialogue.specs.Faults.{BlamesWriter, TellFails};
 
 use crate::answers::Answers;
 use crate::fault::AnswerFault;
@@ -42,7 +42,7 @@ impl<'q> Dialogue<'q> {
     ghost use Rattle.dl_asked.specs.AskedLines.{asked_in};
     ghost use Rattle.dl_dialogue.specs.Answers.{Determines, Manner, StopsBy};
     ghost use Rattle.dl_dialogue.specs.Dialogues.{Talks, StopsIn, Ends};
-    ghost use Rattle.dl_dialogue.specs.Faults.{TellFails};
+    ghost use Rattle.dl_dialogue.specs.Faults.{BlamesWriter, TellFails};
     ghost use Rattle.dl_dialogue.specs.Standing.{Speaks};
     ghost use Rattle.dl_dialogue.specs.Staying.{Stays};
     ghost use Rattle.dl_print.specs.Printed.{Printed};
@@ -77,6 +77,7 @@ impl<'q> Dialogue<'q> {
             → MatchResult result
             (λ _. Talks m hex start (W.contents output.new) (done ++ piece.now) printer.new self.new)
             (StopsIn m hex (TellFails (T.fails_with first) (M.refuses memory.now)) start (W.contents output.new) (done ++ piece.now)) }
+        ensures blames_writer { BlamesWriter W.fails result }
     {
         for byte in piece {
             self.take_byte(memory, teller, printer, output, *byte)?;
@@ -100,6 +101,7 @@ impl<'q> Dialogue<'q> {
             → MatchResult result
             (λ _. Speaks m hex start (W.contents output.new) (done ++ byte ∷ []) printer.new self.new)
             (StopsIn m hex (TellFails (T.fails_with first) (M.refuses memory.now)) start (W.contents output.new) (done ++ byte ∷ [])) }
+        ensures blames_writer { BlamesWriter W.fails result }
     {
         let asked = self.line.take(byte);
         self.answers
@@ -120,6 +122,7 @@ impl<'q> Dialogue<'q> {
             → Talks m hex start (W.contents output.old) done printer.old self.entry
             → MatchResult result (Ends m hex start (W.contents output.new) done)
             (StopsBy m (TellFails (T.fails_with first) (M.refuses memory.now)) start (W.contents output.new) (asked_in hex done)) }
+        ensures blames_writer { BlamesWriter W.fails result }
     {
         let Dialogue { mut answers, line } = self;
         let LastLine { asked, no_address } = line.end();
@@ -156,6 +159,7 @@ pub fn answer_lines<M: Memory, T: Tell, R: Source, W: Destination>(
     ensures blames { Blames R.follows R.fails input.old input.new ((result ≡ Err AnswerFault.Input)
         × ((f : ℕ → Option Location) × Determines (T.tells teller.old) f)
         × ¬ IsLong (R.remaining input.old) (R.remaining input.new)) }
+    ensures blames_writer { BlamesWriter W.fails result }
 {
     let mut buffer = Input::new();
     let mut printer = Printer::new();
