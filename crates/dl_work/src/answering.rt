@@ -4,6 +4,7 @@ ghost use Rattle.std.specs.Io.KnownBytes.{Consumes};
 ghost use Rattle.dl_addr.specs.Location.{Location};
 ghost use Rattle.dl_cmd.specs.Job.{addr_words_made};
 ghost use Rattle.dl_dialogue.specs.Answers.{Determines};
+ghost use Rattle.dl_dialogue.specs.Faults.{BlamesWriter};
 ghost use Rattle.dl_work.specs.Answering.{AnswersAsked, answered_given, stop_of_answer};
 ghost use Rattle.dl_work.specs.OverElfFile.{AnswersMade};
 ghost use Rattle.dl_work.specs.Understood.{IsUnderstood};
@@ -31,11 +32,12 @@ pub fn answer_asked<T: Tell, R: Source, W: Destination>(
     input: &mut R,
     output: &mut W,
 ) -> Result<Answered, AnswerFault>
-    ensures { (bytes : List ℕ) × Consumes (R.remaining input.old) (R.remaining input.new) bytes
+    ensures answers { (bytes : List ℕ) × Consumes (R.remaining input.old) (R.remaining input.new) bytes
         × ((f : ℕ → Option Location) → Determines (T.tells teller.old) f
         → IsUnderstood (addr_words_made words.now) understood.now
         → AnswersAsked (addr_words_made words.now) f (T.fails_with teller.old) bytes (R.remaining input.new)
         (W.contents output.old) (W.contents output.new) result) }
+    ensures blames_writer { BlamesWriter W.fails result }
 {
     let memory = System::new(alloc);
     let style = style(words, part_name(words));
@@ -62,10 +64,11 @@ pub fn answer_made<R: Source, W: Destination>(
     input: &mut R,
     output: &mut W,
 ) -> Result<Answered, AnswerFault>
-    ensures { (bytes : List ℕ) × Consumes (R.remaining input.old) (R.remaining input.new) bytes
+    ensures answers { (bytes : List ℕ) × Consumes (R.remaining input.old) (R.remaining input.new) bytes
         × (IsUnderstood (addr_words_made words.now) understood.now
         → AnswersMade (addr_words_made words.now) index.now bytes (R.remaining input.new) (W.contents output.old)
         (W.contents output.new) result) }
+    ensures blames_writer { BlamesWriter W.fails result }
 {
     match open_unchecked(index) {
         Ok(mut index) => answer_asked(alloc, words, understood, &mut index, input, output),

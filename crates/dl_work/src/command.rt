@@ -3,6 +3,7 @@ ghost use Rattle.std.specs.Prelude.{◌≡◌, ◌≤◌, ◌&&◌, ℕ, List, [
 ghost use Rattle.std.specs.Option.{option_copied};
 ghost use Rattle.std.specs.Io.KnownBytes.{Consumes};
 ghost use Rattle.dl_input.specs.Failing.{Blames};
+ghost use Rattle.dl_run.specs.Blaming.{BlamesWriter};
 ghost use Rattle.dl_run.specs.Commands.{strings_in};
 ghost use Rattle.dl_cmd.specs.Job.{request_made};
 ghost use Rattle.dl_dirs.specs.Compilation.{directory_by};
@@ -252,6 +253,7 @@ impl<'a> Command<'a> {
             (D.hears damages.old damages.new) result) }
         ensures blames { Blames R.follows R.fails input.old input.new
             ((D.hears damages.old damages.old []) × (result ≡ Err RunFault.Read)) }
+        ensures blames_writer { D.hears damages.old damages.old [] → BlamesWriter W.fails result }
     {
         let alloc = memory.alloc();
         match self {

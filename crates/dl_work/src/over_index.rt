@@ -10,6 +10,7 @@ ghost use Rattle.dl_open.specs.BuildIds.{IsBuildId};
 ghost use Rattle.dl_index.specs.IsIndex.{IsIndex};
 ghost use Rattle.dl_index_file.specs.Opening.{source_of};
 ghost use Rattle.dl_index_file.specs.Reading.{ReadFails};
+ghost use Rattle.dl_dialogue.specs.Faults.{BlamesWriter};
 ghost use Rattle.dl_work.specs.Answering.{AnswersAsked, located_by};
 ghost use Rattle.dl_work.specs.Indexing.{RefusesNaming};
 ghost use Rattle.dl_work.specs.OverIndex.{LocatesInIndex, MadeOf, OwnIdRefused, has_id, location_in};
@@ -81,11 +82,12 @@ fn answer_from<S: ReadAt, R: Source, W: Destination>(
     input: &mut R,
     output: &mut W,
 ) -> Result<Answered, AnswerFault>
-    ensures { (bytes : List ℕ) × Consumes (R.remaining input.old) (R.remaining input.new) bytes
+    ensures answers { (bytes : List ℕ) × Consumes (R.remaining input.old) (R.remaining input.new) bytes
         × (IsUnderstood (addr_words_made words.now) understood.now → ForBytes (S.all_bytes (source_of index.now))
         (λ b. IsIndex b → AnswersAsked (addr_words_made words.now) (location_in b)
         (ReadFails (Some b) (S.fails_with (source_of index.now))) bytes (R.remaining input.new) (W.contents output.old)
         (W.contents output.new) result)) }
+    ensures blames_writer { BlamesWriter W.fails result }
 {
     if !are_few(understood) {
         if let Some(bytes) = index.whole(&System::new(alloc)) {

@@ -3,6 +3,7 @@ ghost use Rattle.std.specs.Prelude.{◌≡◌, ℕ, List, []};
 ghost use Rattle.std.specs.Io.KnownBytes.{Consumes};
 ghost use Rattle.dl_input.specs.Failing.{Blames};
 ghost use Rattle.dl_open.specs.Files.{FilesStop};
+ghost use Rattle.dl_work.specs.Blaming.{BlamesWriter};
 ghost use Rattle.dl_work.specs.Held.{section_seen};
 ghost use Rattle.dl_work.specs.Work.{OnInput, stopped};
 
@@ -73,6 +74,7 @@ pub fn on_input<'p, F: FileSource, R: Source, W: Destination, D: DamageSink>(
         × (result ≡ Err (Stop.Run RunFault.Read))
         × ¬ FilesStop (F.held files.now) (section_seen section.entry).line_str (section_seen section.entry).strings
         RunFault.Read) }
+    ensures blames_writer { D.hears damages.old damages.old [] → BlamesWriter W.fails result }
 {
     match StringSections::of_files(alloc, files, section.line_str, section.strings) {
         Ok(strings) => {

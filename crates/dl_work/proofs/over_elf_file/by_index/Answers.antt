@@ -35,7 +35,7 @@ returns g c =
     let w = addr_words_made c.args.words.now in
     let reads = g.S.ReadAt.fails_with c.args.file.now in
     let index = c.on_file-answer.new.output.items in
-    let e = c.answer_made-answered.ensures in (
+    let e = c.answer_made-answered.ensures.answers in (
       e.0,
       e.1,
       λ understood f known short. (

@@ -8,10 +8,10 @@ use Rattle.dl_work.specs.OverIndex.{location_in}
 use Rattle.dl_work.proofs.ReadsLemmas.{answers_wider}
 use Rattle.dl_work.proofs.over_index.answer_from.Goals as goal
 
-pub returns-in-Some : goal.returns-in-Some
-returns-in-Some g c =
+pub returns-in-Some-clause-answers : goal.returns-in-Some-clause-answers
+returns-in-Some-clause-answers g c =
     let w = addr_words_made c.args.words.now in
-    let e = c.answer_made.ensures in
+    let e = c.answer_made.ensures.answers in
     let start = g.W.Write.contents c.args.output.now in (
       e.0,
       e.1,
@@ -25,10 +25,10 @@ returns-in-Some g c =
           ((e.2 understood).made (subst IsIndex (sym same) whole))),
     )
 
-pub returns : goal.returns
-returns g c =
+pub returns-clause-answers : goal.returns-clause-answers
+returns-clause-answers g c =
     let w = addr_words_made c.args.words.now in
-    let e = c.answer_asked.ensures in
+    let e = c.answer_asked.ensures.answers in
     let known_of = g.S.ReadAt.all_bytes in
     let same = c.of-finder.ensures in (
       e.0,
