@@ -1,5 +1,5 @@
 -- The command over the line table of a file.
-use Rattle.std.proofs.Common.{◌≡◌, ◌∙◌, ◌&&◌, ℕ, Bool, true, false, List, [], Option, Some, Result, Err, inl, inr}
+use Rattle.std.proofs.Common.{◌≡◌, ◌∙◌, ◌&&◌, ℕ, Bool, true, false, List, [], Option, None, Some, Result, Ok, Err, inl, inr}
 use Rattle.std.proofs.Common.{ap, refl, sym, subst}
 use Rattle.std.specs.declared.io.Error.{Error}
 use Rattle.std.specs.Io.KnownBytes.{Consumes}
@@ -16,24 +16,27 @@ use Rattle.dl_open.specs.declared.object_part.Part.{Part}
 use Rattle.dl_open.specs.declared.stop.FileStop.{FileStop}
 use Rattle.dl_open.specs.Parts.{PartStops}
 use Rattle.dl_open.specs.Tables.{IsWhole, bytes_of, file_dialect, stream_of}
-use Rattle.dl_open.proofs.WiderLemmas.{part_stops_weaker, table_stops_weaker}
+use Rattle.dl_open.specs.Stops.{Stream}
+use Rattle.dl_open.proofs.WiderLemmas.{keeping_wider, part_stops_weaker, stops_at_wider, strings_wider}
+use Rattle.dl_open.proofs.WiderLemmas.{table_stops_weaker}
 use Rattle.dl_work.specs.declared.command.Command.{Command}
 use Rattle.dl_work.specs.Asked.{Does, WithoutTable, is_copy, looks_up, sections_of}
 use Rattle.dl_work.specs.Tables.{EndsAt, OnFile, OnFound, OnFoundWhere, OnLines, OnTable, OnTableWhere, RunsOn}
+use Rattle.dl_work.specs.Tables.{with_bytes}
 
 -- it isn't the copy of an object file
-pub not_refused : (units : FileUnits) (path : Text) (command : Command) (t : LineTable) (part : Option Part)
+pub not_refused : (units : FileUnits) (fails : Error → Type 0) (path : Text) (command : Command) (t : LineTable) (part : Option Part)
     (start now : Option (List ℕ)) (hears : List Damage → Type 0)
     (result : Result Survey FileStop) (is_object : Bool) → (is_copy command && is_object) ≡ false
-    → is_object ≡ t.is_object_file → OnTableWhere false units path command t part start now hears result
-    → OnTable units path command t part start now hears result
-not_refused units path command t part start now hears result is_object not_copy object does =
+    → is_object ≡ t.is_object_file → OnTableWhere false units fails path command t part start now hears result
+    → OnTable units fails path command t part start now hears result
+not_refused units fails path command t part start now hears result is_object not_copy object does =
     let e : (is_copy command && t.is_object_file) ≡ false =
     ap (λ (b : Bool). is_copy command && b) (sym object) ∙ not_copy in
     rw e does
 
 -- the command ran with these options, over a reader of the line section
-pub ran : (units : FileUnits) (path : Text) (command : Command) (t : LineTable)
+pub ran : (units : FileUnits) (fails : Error → Type 0) (path : Text) (command : Command) (t : LineTable)
     (start now left remaining : Option (List ℕ)) (hears : List Damage → Type 0)
     (s strings : Strings) (dialect : Dialect) (limit : ℕ) (answer : Result Survey RunFault)
     (result : Result Survey FileStop)
@@ -41,8 +44,8 @@ pub ran : (units : FileUnits) (path : Text) (command : Command) (t : LineTable)
     → IsWhole t.line_str t.str s → dialect ≡ file_dialect units t → strings ≡ s → limit ≡ SECTION_LIMIT
     → (read : List ℕ) × Consumes remaining left read
     × Does (λ n. Unit {0}) command dialect strings limit read left start now hears answer
-    → EndsAt path (stream_of t.line) answer result → RunsOn units path command t start now hears result
-ran units path command t start now left remaining hears s strings dialect limit answer result known whole ordered in_options
+    → EndsAt fails path (stream_of t.line) answer result → RunsOn units fails path command t start now hears result
+ran units fails path command t start now left remaining hears s strings dialect limit answer result known whole ordered in_options
     limited (read, consumes, does) ends =
     record {
       strings = s;
@@ -64,12 +67,12 @@ plain_known content bytes left read is consumes =
     subst (λ (c : Content). Consumes (Some (bytes_of c)) left read) (sym is) consumes
 
 -- the command is done over the sequences of a part
-pub of_part : (units : FileUnits) (path : Text) (command : Command) (t : LineTable) (part : Part) (chosen : Option Part)
+pub of_part : (units : FileUnits) (fails : Error → Type 0) (path : Text) (command : Command) (t : LineTable) (part : Part) (chosen : Option Part)
     (start now : Option (List ℕ)) (hears : List Damage → Type 0) (result : Result Survey FileStop) → chosen ≡ Some part
-    → OnLines units path command t (Some part) start now hears result
-    → OnLines units path command t chosen start now hears result
-of_part units path command t part chosen start now hears result is done =
-    subst (λ (p : Option Part). OnLines units path command t p start now hears result) (sym is) done
+    → OnLines units fails path command t (Some part) start now hears result
+    → OnLines units fails path command t chosen start now hears result
+of_part units fails path command t part chosen start now hears result is done =
+    subst (λ (p : Option Part). OnLines units fails path command t p start now hears result) (sym is) done
 
 -- it can't be told among which sequences a command looks
 pub found_stops : (units : FileUnits) (fails : Error → Type 0) (path : Text) (name : Option Text) (command : Command) (f : List ℕ)
@@ -84,16 +87,67 @@ found_stops units fails path name command f t start now hears stop looks is_obje
 
 -- ---- the errors that opening and reading may give
 
+ends_wider : (fails wider : Error → Type 0) (path : Text) (stream : Option Stream) (answer : Result Survey RunFault)
+    (result : Result Survey FileStop) → ((e : Error) → fails e → wider e) → EndsAt fails path stream answer result
+    → EndsAt wider path stream answer result
+ends_wider fails wider path stream (Ok survey) result more ends = ends
+ends_wider fails wider path stream (Err f) result more (stop, is, at) =
+    (stop, is, stops_at_wider fails wider path stream f stop more at)
+
+pub runs_wider : (units : FileUnits) (fails wider : Error → Type 0) (path : Text) (command : Command) (t : LineTable)
+    (start now : Option (List ℕ)) (hears : List Damage → Type 0) (result : Result Survey FileStop)
+    → ((e : Error) → fails e → wider e) → RunsOn units fails path command t start now hears result
+    → RunsOn units wider path command t start now hears result
+runs_wider units fails wider path command t start now hears result more runs = record {
+  strings = runs.strings;
+  whole = runs.whole;
+  read = runs.read;
+  left = runs.left;
+  bytes = runs.bytes;
+  answer = runs.answer;
+  done = runs.done;
+  ends = ends_wider fails wider path (stream_of t.line) runs.answer result more runs.ends;
+}
+
+lines_wider : (units : FileUnits) (fails wider : Error → Type 0) (path : Text) (command : Command) (t : LineTable)
+    (part : Option Part) (start now : Option (List ℕ)) (hears : List Damage → Type 0) (result : Result Survey FileStop)
+    → ((e : Error) → fails e → wider e) → OnLines units fails path command t part start now hears result
+    → OnLines units wider path command t part start now hears result
+lines_wider units fails wider path command t None start now hears result more runs =
+    runs_wider units fails wider path command t start now hears result more runs
+lines_wider units fails wider path command t (Some part) start now hears result more (inl (stop, is, why, written, untold)) =
+    inl (stop, is, keeping_wider fails wider path (file_dialect units t) part t.line stop more why, written, untold)
+lines_wider units fails wider path command t (Some part) start now hears result more (inr (kept, is, runs)) =
+    inr (kept, is, runs_wider units fails wider path command (with_bytes t kept) start now hears result more runs)
+
+table_wider : (copies : Bool) (units : FileUnits) (fails wider : Error → Type 0) (path : Text) (command : Command)
+    (t : LineTable) (part : Option Part) (start now : Option (List ℕ)) (hears : List Damage → Type 0)
+    (result : Result Survey FileStop) → ((e : Error) → fails e → wider e)
+    → OnTableWhere copies units fails path command t part start now hears result
+    → OnTableWhere copies units wider path command t part start now hears result
+table_wider true units fails wider path command t part start now hears result more stops = stops
+table_wider false units fails wider path command t part start now hears result more (inl (stop, is, why, written, untold)) =
+    inl (stop, is, strings_wider fails wider path t.line_str t.str stop more why, written, untold)
+table_wider false units fails wider path command t part start now hears result more (inr lines) =
+    inr (lines_wider units fails wider path command t part start now hears result more lines)
+
 on_found_weaker : (looks : Bool) (units : FileUnits) (fails wider : Error → Type 0) (path : Text) (name : Option Text) (command : Command)
     (f : List ℕ) (t : LineTable) (start now : Option (List ℕ)) (hears : List Damage → Type 0)
     (result : Result Survey FileStop)
     → ((e : Error) → fails e → wider e) → OnFoundWhere looks units fails path name command f t start now hears result
     → OnFoundWhere looks units wider path name command f t start now hears result
-on_found_weaker false units fails wider path name command f t start now hears result more found = found
+on_found_weaker false units fails wider path name command f t start now hears result more found =
+    table_wider (is_copy command && t.is_object_file) units fails wider path command t None start now hears result more found
 on_found_weaker true units fails wider path name command f t start now hears result more
     (inl (stop, is, why, written, untold)) =
     inl (stop, is, part_stops_weaker fails wider path f t.is_object_file name stop more why, written, untold)
-on_found_weaker true units fails wider path name command f t start now hears result more (inr found) = inr found
+on_found_weaker true units fails wider path name command f t start now hears result more (inr (part, is, found)) =
+    inr (
+      part,
+      is,
+      table_wider (is_copy command && t.is_object_file) units fails wider path command t part start now hears result more
+          found,
+    )
 
 -- what is done for an open file, by the errors of its source
 pub on_file_weaker : (units : FileUnits) (fails wider : Error → Type 0) (path : Text) (name : Option Text) (command : Command) (f : List ℕ)

@@ -23,18 +23,18 @@ use Rattle.dl_open.specs.Tables.{bytes_of, stream_of}
 use Rattle.dl_work.specs.declared.command.Command.{Command}
 use Rattle.dl_work.specs.Asked.{Does, Outcome, WithoutTable, is_copy, looks_up, sections_of}
 
--- ---- the command over the line section
+-- ---- the command over the line section. fails: the errors that opening and reading the file may give
 
 -- the program answers what its command answered
-abbrev pub EndsAt : (path : Text) (stream : Option Stream) → Result Survey RunFault → Result Survey FileStop
-    → Type 0
-EndsAt path stream answer result = MatchResult answer (λ survey. result ≡ Ok survey)
-    (λ f. (stop : FileStop) × (result ≡ Err stop) × StopsAt path stream f stop)
+abbrev pub EndsAt : (fails : Error → Type 0) (path : Text) (stream : Option Stream) → Result Survey RunFault
+    → Result Survey FileStop → Type 0
+EndsAt fails path stream answer result = MatchResult answer (λ survey. result ≡ Ok survey)
+    (λ f. (stop : FileStop) × (result ≡ Err stop) × StopsAt fails path stream f stop)
 
 -- the command is done, over the bytes of the line section in the file's order, with the file's string sections. read:
 -- the bytes that it read, of which `left` are left
-pub record RunsOn (units : FileUnits) (path : Text) (command : Command) (t : LineTable) (start now : Option (List ℕ))
-    (hears : List Damage → Type 0) (result : Result Survey FileStop) : Type 0 where
+pub record RunsOn (units : FileUnits) (fails : Error → Type 0) (path : Text) (command : Command) (t : LineTable)
+    (start now : Option (List ℕ)) (hears : List Damage → Type 0) (result : Result Survey FileStop) : Type 0 where
   pub strings : Strings
   pub whole : IsWhole t.line_str t.str strings
   pub read : List ℕ
@@ -42,7 +42,7 @@ pub record RunsOn (units : FileUnits) (path : Text) (command : Command) (t : Lin
   pub bytes : Consumes (Some (bytes_of t.line)) left read
   pub answer : Result Survey RunFault
   pub done : Does (λ n. Unit {0}) command (file_dialect units t) strings SECTION_LIMIT read left start now hears answer
-  pub ends : EndsAt path (stream_of t.line) answer result
+  pub ends : EndsAt fails path (stream_of t.line) answer result
 
 -- the table with these bytes of its line section
 abbrev pub with_bytes : LineTable → List ℕ → LineTable
@@ -55,36 +55,36 @@ abbrev pub StopsEarly : Command → (FileStop → Type 0) → Outcome FileStop
 StopsEarly command Reason start now hears result =
     (stop : FileStop) × (result ≡ Err stop) × Reason stop × WithoutTable (λ n. Unit {0}) command start now × hears []
 
-abbrev pub OnLines : FileUnits → (path : Text) → Command → LineTable → Option Part → Outcome FileStop
-OnLines units path command t None start now hears result = RunsOn units path command t start now hears result
-OnLines units path command t (Some part) start now hears result =
-    StopsEarly command (KeepingStops path (file_dialect units t) part t.line) start now hears result
+abbrev pub OnLines : FileUnits → (fails : Error → Type 0) (path : Text) → Command → LineTable → Option Part → Outcome FileStop
+OnLines units fails path command t None start now hears result = RunsOn units fails path command t start now hears result
+OnLines units fails path command t (Some part) start now hears result =
+    StopsEarly command (KeepingStops fails path (file_dialect units t) part t.line) start now hears result
     ⊎ ((kept : List ℕ) × IsKept (file_dialect units t) part t.line kept
-    × RunsOn units path command (with_bytes t kept) start now hears result)
+    × RunsOn units fails path command (with_bytes t kept) start now hears result)
 
 -- an object file isn't copied
-abbrev pub OnTableWhere : (is_object_copy : Bool) → FileUnits → (path : Text) → Command → LineTable → Option Part
+abbrev pub OnTableWhere : (is_object_copy : Bool) → FileUnits → (fails : Error → Type 0) (path : Text) → Command → LineTable → Option Part
     → Outcome FileStop
-OnTableWhere true units path command t part start now hears result =
+OnTableWhere true units fails path command t part start now hears result =
     StopsEarly command (IsAt path ObjectCopy) start now hears result
-OnTableWhere false units path command t part start now hears result =
-    StopsEarly command (StringsStop path t.line_str t.str) start now hears result
-    ⊎ OnLines units path command t part start now hears result
+OnTableWhere false units fails path command t part start now hears result =
+    StopsEarly command (StringsStop fails path t.line_str t.str) start now hears result
+    ⊎ OnLines units fails path command t part start now hears result
 
-abbrev pub OnTable : FileUnits → (path : Text) → Command → LineTable → Option Part → Outcome FileStop
-OnTable units path command t part = OnTableWhere (is_copy command && t.is_object_file) units path command t part
+abbrev pub OnTable : FileUnits → (fails : Error → Type 0) (path : Text) → Command → LineTable → Option Part → Outcome FileStop
+OnTable units fails path command t part = OnTableWhere (is_copy command && t.is_object_file) units fails path command t part
 
--- ---- the file. fails: the errors that opening and reading it may give; name: the section that is looked into
+-- ---- the file. name: the section that is looked into
 
 -- all sequences answer, but where addresses are looked up: then those of a part
 abbrev pub OnFoundWhere : (looks_up : Bool) → FileUnits → (fails : Error → Type 0) (path : Text) (name : Option Text)
     → Command → (f : List ℕ) → LineTable → Outcome FileStop
 OnFoundWhere false units fails path name command f t start now hears result =
-    OnTable units path command t None start now hears result
+    OnTable units fails path command t None start now hears result
 OnFoundWhere true units fails path name command f t start now hears result =
     StopsEarly command (PartStops fails path f t.is_object_file name) start now hears result
     ⊎ ((part : Option Part) × IsPart f t.is_object_file name part
-    × OnTable units path command t part start now hears result)
+    × OnTable units fails path command t part start now hears result)
 
 abbrev pub OnFound : FileUnits → (fails : Error → Type 0) (path : Text) (name : Option Text) → Command → (f : List ℕ)
     → LineTable → Outcome FileStop

@@ -31,9 +31,10 @@ fn on_section<'p, S: ReadAt, W: Write, D: DamageSink>(
     damages: &mut D,
 ) -> Result<Survey, FileStop<'p>>
     requires { options.now.limit ≡ SECTION_LIMIT }
-    ensures { (units : FileUnits) (t : LineTable) → GivesLine S.all_bytes line.old t.line → options.now.dialect ≡ file_dialect units t
+    ensures { (source : _) (units : FileUnits) (t : LineTable)
+        → GivesLine S.all_bytes S.fails_with (S.fails_with source) line.old t.line → options.now.dialect ≡ file_dialect units t
         → IsWhole t.line_str t.str (strings_in options.now) → D.hears damages.old damages.old []
-        → RunsOn units path.entry.now command.entry t (W.contents output.old) (W.contents output.new)
+        → RunsOn units (S.fails_with source) path.entry.now command.entry t (W.contents output.old) (W.contents output.new)
         (D.hears damages.old damages.new) result }
 {
     let stream = line.stream_name();
@@ -56,7 +57,7 @@ fn on_kept<'p, W: Write, D: DamageSink>(
     requires { options.now.limit ≡ SECTION_LIMIT }
     ensures { (units : FileUnits) (t : LineTable) → t.line ≡ Plain bytes.now → options.now.dialect ≡ file_dialect units t
         → IsWhole t.line_str t.str (strings_in options.now) → D.hears damages.old damages.old []
-        → RunsOn units path.entry.now command.entry t (W.contents output.old) (W.contents output.new)
+        → RunsOn units (λ error. ⊥) path.entry.now command.entry t (W.contents output.old) (W.contents output.new)
         (D.hears damages.old damages.new) result }
 {
     let mut input = bytes;
@@ -78,9 +79,10 @@ fn on_lines<'p, S: ReadAt, W: Write, D: DamageSink>(
     damages: &mut D,
 ) -> Result<Survey, FileStop<'p>>
     requires { options.now.limit ≡ SECTION_LIMIT }
-    ensures { (units : FileUnits) (t : LineTable) → GivesLine S.all_bytes line.old t.line → options.now.dialect ≡ file_dialect units t
+    ensures { (source : _) (units : FileUnits) (t : LineTable)
+        → GivesLine S.all_bytes S.fails_with (S.fails_with source) line.old t.line → options.now.dialect ≡ file_dialect units t
         → IsWhole t.line_str t.str (strings_in options.now) → D.hears damages.old damages.old []
-        → OnLines units path.entry.now command.entry t (option_copied part.entry) (W.contents output.old)
+        → OnLines units (S.fails_with source) path.entry.now command.entry t (option_copied part.entry) (W.contents output.old)
         (W.contents output.new) (D.hears damages.old damages.new) result }
 {
     let Some(part) = part else {
@@ -114,8 +116,9 @@ fn on_table<'p, S: ReadAt, W: Write, D: DamageSink>(
     output: &mut W,
     damages: &mut D,
 ) -> Result<Survey, FileStop<'p>>
-    ensures { (t : LineTable) → GivesTable S.all_bytes table.entry t → D.hears damages.old damages.old []
-        → OnTable units path.entry.now command.entry t (option_copied part.entry) (W.contents output.old)
+    ensures { (source : _) (t : LineTable) → GivesTable S.all_bytes S.fails_with (S.fails_with source) table.entry t
+        → D.hears damages.old damages.old []
+        → OnTable units (S.fails_with source) path.entry.now command.entry t (option_copied part.entry) (W.contents output.old)
         (W.contents output.new) (D.hears damages.old damages.new) result }
 {
     let LineFile {
@@ -160,8 +163,8 @@ fn on_found<'p, S: ReadAt, W: Write, D: DamageSink>(
     output: &mut W,
     damages: &mut D,
 ) -> Result<Survey, FileStop<'p>>
-    ensures { ForBytes (S.all_bytes file.now) (λ f. (t : LineTable) → GivesTable S.all_bytes table.entry t
-        → D.hears damages.old damages.old [] → OnFound units (S.fails_with file.now) path.entry.now
+    ensures { ForBytes (S.all_bytes file.now) (λ f. (t : LineTable)
+        → GivesTable S.all_bytes S.fails_with (S.fails_with file.now) table.entry t → D.hears damages.old damages.old [] → OnFound units (S.fails_with file.now) path.entry.now
         (option_map (λ s. s.now) section.entry) command.entry f t (W.contents output.old) (W.contents output.new)
         (D.hears damages.old damages.new) result) }
 {
