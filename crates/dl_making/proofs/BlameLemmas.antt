@@ -11,8 +11,13 @@ use Rattle.dl_making.specs.declared.maker.Maker.{Maker}
 use Rattle.dl_making.specs.Making.{Making, making_story}
 
 -- memory is wanted, and no read failed
-pub never_read : (first : Maker) → Making first first None None [] → NeverBlames making_story first None
-never_read first tells = record { tells = tells; out = Appends-nil None; never = λ visits e. absurd cc }
+pub never_read : {M : Type 0} (Refused : M → Type 0) (first : Maker M) → Making Refused first first None None []
+    → NeverBlames (making_story Refused) first None
+never_read Refused first tells = record {
+  tells = tells;
+  out = Appends-nil None;
+  never = λ visits e. (let is = e.is in absurd cc);
+}
 
 -- a failed read that is told is the one that ended the making
 pub made_read : {A : Type 0} (ended : Result A RunFault) (index : Result (Vec ℕ) NoMemory) (start now : Option (List ℕ))

@@ -9,16 +9,16 @@ ghost use Rattle.dl_making.specs.Writes.{Writes, WritesAround};
 
 use crate::making::{Table, make_index, make_index_around};
 use dl_input::Source;
+use dl_pack::SetMemory;
 use dl_print::{Printer, Summary, WriteFault};
 use dl_run::{Options, RunFault, SECTION_LIMIT, Survey};
-use std::alloc::Global;
 use std::io::Write;
 
 /// Makes the index of a section as `make_index` does, and writes it. Where none can be made, nothing is written.
 ///
 /// The faults are those of `make_index`, and `Write` where the writer fails.
-pub fn write_index<R: Source, W: Write>(
-    alloc: Global,
+pub fn write_index<M: SetMemory, R: Source, W: Write>(
+    memory: &M,
     input: &mut R,
     output: &mut W,
     table: &Table<'_>,
@@ -26,11 +26,11 @@ pub fn write_index<R: Source, W: Write>(
 ) -> Result<Summary, RunFault>
     requires { options.now.limit ≤ SECTION_LIMIT }
     ensures ran { (bs : List ℕ) × Consumes (R.remaining input.old) (R.remaining input.new) bs
-        × Writes options.now.dialect (strings_in options.now) table.now options.now.limit bs (R.remaining input.new)
+        × Writes (M.refuses memory.now) options.now.dialect (strings_in options.now) table.now options.now.limit bs (R.remaining input.new)
         (W.contents output.old) (W.contents output.new) result }
     ensures blames { Blames R.follows R.fails input.old input.new (result ≡ Err RunFault.Read) }
 {
-    let made = make_index(alloc, input, table, options)?;
+    let made = make_index(memory, input, table, options)?;
     match put_bytes(output, made.index.as_slice()) {
         Ok(()) => Ok(made.summary),
         Err(lost) => Err(RunFault::Write { out: lost.out }),
@@ -40,8 +40,8 @@ pub fn write_index<R: Source, W: Write>(
 /// Makes the index of a section as `make_index_around` does, and writes it. Where none can be made, nothing is written.
 ///
 /// The faults are those of `make_index_around`, and `Write` where the writer fails.
-pub fn write_index_around<R: Source, W: Write>(
-    alloc: Global,
+pub fn write_index_around<M: SetMemory, R: Source, W: Write>(
+    memory: &M,
     input: &mut R,
     output: &mut W,
     table: &Table<'_>,
@@ -49,11 +49,11 @@ pub fn write_index_around<R: Source, W: Write>(
 ) -> Result<Survey, RunFault>
     requires { options.now.limit ≤ SECTION_LIMIT }
     ensures ran { (bs : List ℕ) × Consumes (R.remaining input.old) (R.remaining input.new) bs
-        × WritesAround options.now.dialect (strings_in options.now) table.now options.now.limit bs (R.remaining input.new)
+        × WritesAround (M.refuses memory.now) options.now.dialect (strings_in options.now) table.now options.now.limit bs (R.remaining input.new)
         (W.contents output.old) (W.contents output.new) result }
     ensures blames { Blames R.follows R.fails input.old input.new (result ≡ Err RunFault.Read) }
 {
-    let made = make_index_around(alloc, input, table, options)?;
+    let made = make_index_around(memory, input, table, options)?;
     match put_bytes(output, made.index.as_slice()) {
         Ok(()) => Ok(made.survey),
         Err(lost) => Err(RunFault::Write { out: lost.out }),

@@ -11,9 +11,9 @@ use crate::until::{make_index_until, make_index_until_around};
 use crate::writing::put_bytes;
 use dl_input::Source;
 use dl_memory::NoMemory;
+use dl_pack::SetMemory;
 use dl_print::Summary;
 use dl_run::{Options, RunFault, SECTION_LIMIT, Survey};
-use std::alloc::Global;
 use std::io::Write;
 
 /// Makes the index of a section as `make_index_until` does, and writes it: also where the reading ended with a fault, which
@@ -21,8 +21,8 @@ use std::io::Write;
 ///
 /// The faults are those of `make_index_until`, `NoMemory` also where it is refused for the index alone, and before them
 /// `Write` where the writer fails.
-pub fn write_index_until<R: Source, W: Write>(
-    alloc: Global,
+pub fn write_index_until<M: SetMemory, R: Source, W: Write>(
+    memory: &M,
     input: &mut R,
     output: &mut W,
     table: &Table<'_>,
@@ -30,11 +30,11 @@ pub fn write_index_until<R: Source, W: Write>(
 ) -> Result<Summary, RunFault>
     requires { options.now.limit ≤ SECTION_LIMIT }
     ensures ran { (bs : List ℕ) × Consumes (R.remaining input.old) (R.remaining input.new) bs
-        × WritesUntil options.now.dialect (strings_in options.now) table.now options.now.limit bs
+        × WritesUntil (M.refuses memory.now) options.now.dialect (strings_in options.now) table.now options.now.limit bs
         (R.remaining input.new) (W.contents output.old) (W.contents output.new) result }
     ensures blames { Blames R.follows R.fails input.old input.new (result ≡ Err RunFault.Read) }
 {
-    let made = make_index_until(alloc, input, table, options);
+    let made = make_index_until(memory, input, table, options);
     put_made(output, &made.index, made.ended)
 }
 
@@ -42,8 +42,8 @@ pub fn write_index_until<R: Source, W: Write>(
 ///
 /// The faults are those of `make_index_until_around`, `NoMemory` also where it is refused for the index alone, and before
 /// them `Write` where the writer fails.
-pub fn write_index_until_around<R: Source, W: Write>(
-    alloc: Global,
+pub fn write_index_until_around<M: SetMemory, R: Source, W: Write>(
+    memory: &M,
     input: &mut R,
     output: &mut W,
     table: &Table<'_>,
@@ -51,11 +51,11 @@ pub fn write_index_until_around<R: Source, W: Write>(
 ) -> Result<Survey, RunFault>
     requires { options.now.limit ≤ SECTION_LIMIT }
     ensures ran { (bs : List ℕ) × Consumes (R.remaining input.old) (R.remaining input.new) bs
-        × WritesUntilAround options.now.dialect (strings_in options.now) table.now options.now.limit bs
+        × WritesUntilAround (M.refuses memory.now) options.now.dialect (strings_in options.now) table.now options.now.limit bs
         (R.remaining input.new) (W.contents output.old) (W.contents output.new) result }
     ensures blames { Blames R.follows R.fails input.old input.new (result ≡ Err RunFault.Read) }
 {
-    let made = make_index_until_around(alloc, input, table, options);
+    let made = make_index_until_around(memory, input, table, options);
     put_made(output, &made.index, made.ended)
 }
 

@@ -15,7 +15,7 @@ returns-in_err-made-clause-ran g c =
     rw (p.1, p.2) (
       read.0,
       read.1,
-      not_made options.dialect (strings_in options) c.args.table.now options.limit read.0
+      not_made (g.M.Memory.refuses c.args.memory.now) options.dialect (strings_in options) c.args.table.now options.limit read.0
           (g.R.Read.remaining c.make_index.new.input) (g.W.Write.contents c.args.output.now)
           (g.W.Write.contents c.args.output.now) _ read.2 (keeps_same (g.W.Write.contents c.args.output.now)),
     )
@@ -28,7 +28,7 @@ returns-in-Ok-clause-ran g c =
     let new = g.W.Write.contents c.put_bytes.new.output in (
       read.0,
       read.1,
-      written options.dialect (strings_in options) c.args.table.now options.limit read.0
+      written (g.M.Memory.refuses c.args.memory.now) options.dialect (strings_in options) c.args.table.now options.limit read.0
           (g.R.Read.remaining c.make_index.new.input) old new c.in_ok-made.made read.2
           (subst (Appends old new) c.as_slice.ensures.value c.in-Ok.ensures),
     )
@@ -41,7 +41,7 @@ returns-clause-ran g c =
     let new = g.W.Write.contents c.put_bytes.new.output in (
       read.0,
       read.1,
-      lost options.dialect (strings_in options) c.args.table.now options.limit read.0
+      lost (g.M.Memory.refuses c.args.memory.now) options.dialect (strings_in options) c.args.table.now options.limit read.0
           (g.R.Read.remaining c.make_index.new.input) old new c.in_ok-made.made c.in-Err.lost read.2
           (subst (λ text. TellsOut old new text c.in-Err.lost) c.as_slice.ensures.value c.in-Err.ensures),
     )

@@ -15,7 +15,7 @@ returns-in-Ok-clause-ran g c =
     let new = g.W.Write.contents c.put_bytes.new.output in (
       read.0,
       read.1,
-      written_around options.dialect (strings_in options) c.args.table.now options.limit read.0
+      written_around (g.M.Memory.refuses c.args.memory.now) options.dialect (strings_in options) c.args.table.now options.limit read.0
           (g.R.Read.remaining c.make_index_around.new.input) old new c.in_ok-made.made read.2
           (subst (Appends old new) c.as_slice.ensures.value c.in-Ok.ensures),
     )
@@ -28,7 +28,7 @@ returns-clause-ran g c =
     let new = g.W.Write.contents c.put_bytes.new.output in (
       read.0,
       read.1,
-      lost_around options.dialect (strings_in options) c.args.table.now options.limit read.0
+      lost_around (g.M.Memory.refuses c.args.memory.now) options.dialect (strings_in options) c.args.table.now options.limit read.0
           (g.R.Read.remaining c.make_index_around.new.input) old new c.in_ok-made.made c.in-Err.lost read.2
           (subst (λ text. TellsOut old new text c.in-Err.lost) c.as_slice.ensures.value c.in-Err.ensures),
     )

@@ -13,5 +13,5 @@ returns g c first start visits s =
       unit =
           c.args.offset;
     }) start (g.W.Write.contents c.args._output.now) visits more s
-    (λ rows n x. refl) (record { code = refl; directories = refl; strings = refl }) refl refl refl
+    (λ rows n x. refl) (record { memory = refl; code = refl; directories = refl; strings = refl }) refl refl refl
     (λ units e stands. subst (Stands (code_of first) c.args.self.now.runs units) (sym (rows_after-append [] visits more)) stands)
