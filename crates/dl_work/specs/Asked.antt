@@ -211,7 +211,7 @@ abbrev pub GoesOn : (Answers : Result Survey RunFault → Type 0) (hears : List 
 GoesOn Answers hears result = hears [] × Answers result
 
 -- what the command answers, writes and tells. bytes: what was read of a section, which has `left` left. refuses: for how
--- many items memory is refused
+-- many items memory is refused; an index is made of the memory of the system, which may refuse any
 abbrev pub Does : (refuses : ℕ → Type 0) → Command → Dialect → Strings → (limit : ℕ) (bytes : List ℕ) (left : Option (List ℕ)) → Outcome RunFault
 Does refuses Dump dialect s limit bytes left start now = EndsThere (Dumps dialect s limit bytes left start now)
 Does refuses DumpAround dialect s limit bytes left start now = DumpsAround dialect s limit bytes left start now
@@ -230,13 +230,13 @@ Does refuses (Addr question) dialect s limit bytes left start now = EndsThere (�
 Does refuses (AddrAround question) dialect s limit bytes left start now = GoesOn (λ answer.
     (found : Result FoundAround RunFault) × (answer ≡ answered_around found)
     × LocatesAround refuses dialect s question limit bytes left start now found)
-Does refuses (Index table) dialect s limit bytes left start now = EndsThere (Writes dialect s table limit bytes left start now)
+Does refuses (Index table) dialect s limit bytes left start now = EndsThere (Writes (λ n. Unit {0}) dialect s table limit bytes left start now)
 Does refuses (IndexAround table) dialect s limit bytes left start now =
-    GoesOn (WritesAround dialect s table limit bytes left start now)
+    GoesOn (WritesAround (λ n. Unit {0}) dialect s table limit bytes left start now)
 Does refuses (IndexUntil table) dialect s limit bytes left start now =
-    EndsThere (WritesUntil dialect s table limit bytes left start now)
+    EndsThere (WritesUntil (λ n. Unit {0}) dialect s table limit bytes left start now)
 Does refuses (IndexUntilAround table) dialect s limit bytes left start now =
-    GoesOn (WritesUntilAround dialect s table limit bytes left start now)
+    GoesOn (WritesUntilAround (λ n. Unit {0}) dialect s table limit bytes left start now)
 
 -- what `addr` writes of a section without bytes, so that each address has no answer
 abbrev pub Unfound : (refuses : ℕ → Type 0) → Question → (start now : Option (List ℕ)) → Type 0

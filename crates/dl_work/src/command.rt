@@ -19,7 +19,7 @@ use dl_look::Place;
 use dl_making::{
     Table, write_index, write_index_around, write_index_until, write_index_until_around,
 };
-use dl_memory::Memory;
+use dl_memory::{Memory, System};
 use dl_num::Order;
 use dl_open::Sections;
 use dl_run::{
@@ -272,16 +272,16 @@ impl<'a> Command<'a> {
                 answered_around(addr_around(memory, input, output, &question, options))
             }
             Command::Index(table) => {
-                all_whole(write_index(alloc, input, output, &table, options))
+                all_whole(write_index(&System::new(alloc), input, output, &table, options))
             }
             Command::IndexAround(table) => {
-                write_index_around(alloc, input, output, &table, options)
+                write_index_around(&System::new(alloc), input, output, &table, options)
             }
             Command::IndexUntil(table) => {
-                all_whole(write_index_until(alloc, input, output, &table, options))
+                all_whole(write_index_until(&System::new(alloc), input, output, &table, options))
             }
             Command::IndexUntilAround(table) => {
-                write_index_until_around(alloc, input, output, &table, options)
+                write_index_until_around(&System::new(alloc), input, output, &table, options)
             }
         }
     }
