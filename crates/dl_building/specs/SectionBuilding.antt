@@ -39,22 +39,23 @@ pub record IsTableOf (all : Bool) (ranges : List CodeRange) (table : Table) : Ty
   pub says_all : table.all ≡ all
   pub build_id : table.build_id.now ≡ []
 
--- the index of the units up to the end, or of those that are whole; or why there is none
+-- the index of the units up to the end, or of those that are whole; or why there is none. It is made of the memory of the
+-- system, which may refuse any
 abbrev pub IsSectionBuilt : (keep_going : Bool) → Dialect → Strings → Table → (s : List ℕ) → Result SectionIndex RunFault → Type 0
 IsSectionBuilt false dialect strings table s (Ok built) =
     (bytes : List ℕ) × (left : Option (List ℕ)) × Consumes (Some s) left bytes × ((made : Made)
-    × Makes dialect strings table SECTION_LIMIT bytes left (Ok made) × (built.index.items ≡ made.index.items)
+    × Makes (λ n. Unit {0}) dialect strings table SECTION_LIMIT bytes left (Ok made) × (built.index.items ≡ made.index.items)
     × (built.damaged ≡ None))
 IsSectionBuilt false dialect strings table s (Err fault) =
     (bytes : List ℕ) × (left : Option (List ℕ)) × Consumes (Some s) left bytes
-    × Makes dialect strings table SECTION_LIMIT bytes left (Err fault)
+    × Makes (λ n. Unit {0}) dialect strings table SECTION_LIMIT bytes left (Err fault)
 IsSectionBuilt true dialect strings table s (Ok built) =
     (bytes : List ℕ) × (left : Option (List ℕ)) × Consumes (Some s) left bytes × ((made : MadeAround)
-    × MakesAround dialect strings table SECTION_LIMIT bytes left (Ok made) × (built.index.items ≡ made.index.items)
+    × MakesAround (λ n. Unit {0}) dialect strings table SECTION_LIMIT bytes left (Ok made) × (built.index.items ≡ made.index.items)
     × (built.damaged ≡ made.survey.damaged))
 IsSectionBuilt true dialect strings table s (Err fault) =
     (bytes : List ℕ) × (left : Option (List ℕ)) × Consumes (Some s) left bytes
-    × MakesAround dialect strings table SECTION_LIMIT bytes left (Err fault)
+    × MakesAround (λ n. Unit {0}) dialect strings table SECTION_LIMIT bytes left (Err fault)
 
 -- of a room, a length and a fault, p, m and g before the call, and q, n and h after it: the index is put, or it is told why there
 -- is none

@@ -84,7 +84,7 @@ fn index_to_fault(
     ensures { IsSectionBuilt false options.now.dialect (strings_in options.now) table.now section.now result }
 {
     let mut input = section;
-    match make_index(alloc, &mut input, table, options) {
+    match make_index(&System::new(alloc), &mut input, table, options) {
         Ok(made) => Ok(SectionIndex {
             index: made.index,
             damaged: None,
@@ -104,7 +104,7 @@ fn index_around(
     ensures { IsSectionBuilt true options.now.dialect (strings_in options.now) table.now section.now result }
 {
     let mut input = section;
-    match make_index_around(alloc, &mut input, table, options) {
+    match make_index_around(&System::new(alloc), &mut input, table, options) {
         Ok(made) => Ok(SectionIndex {
             index: made.index,
             damaged: made.survey.damaged,

@@ -9,7 +9,7 @@ returns-in-Ok c =
     let rest = c.make_index_around.new.input.now in
     let o = c.args.options.now in
     let made = c.in-Ok.made in
-    let whole = subst (λ (limit : ℕ). MakesAround o.dialect (strings_in o) c.args.table.now limit read.0 (Some rest) (Ok made)) c.requires read.2 in
+    let whole = subst (λ (limit : ℕ). MakesAround (λ n. Unit {0}) o.dialect (strings_in o) c.args.table.now limit read.0 (Some rest) (Ok made)) c.requires read.2 in
     (read.0, Some rest, read.1, (made, whole, refl, refl))
 
 pub returns-in-Err : goal.returns-in-Err
@@ -18,5 +18,5 @@ returns-in-Err c =
     let rest = c.make_index_around.new.input.now in
     let o = c.args.options.now in
     let fault = c.in-Err.fault in
-    let whole = subst (λ (limit : ℕ). MakesAround o.dialect (strings_in o) c.args.table.now limit read.0 (Some rest) (Err fault)) c.requires read.2 in
+    let whole = subst (λ (limit : ℕ). MakesAround (λ n. Unit {0}) o.dialect (strings_in o) c.args.table.now limit read.0 (Some rest) (Err fault)) c.requires read.2 in
     (read.0, Some rest, read.1, whole)
