@@ -4,6 +4,7 @@ use dl_addr::{Asked, CompilationDirectories, Location, Question, Style, print_lo
 use dl_head::FaultKind;
 use dl_index::{Found, IndexRef, open};
 use dl_making::{Table, make_index, make_index_around, make_index_until, make_index_until_around};
+use dl_memory::System;
 use dl_print::Printer;
 use dl_run::{Damage, DamagedUnits, RunFault};
 use std::alloc::Global;
@@ -93,7 +94,7 @@ pub fn index_lines(
         ..plain_table()
     };
     let mut input = section;
-    let made = make_index_around(alloc, &mut input, &table, &options())
+    let made = make_index_around(&System::new(alloc), &mut input, &table, &options())
         .ok()
         .ok_or("no index")?;
     let index = open(made.index.as_slice()).ok().ok_or("damaged index")?;
@@ -105,7 +106,12 @@ pub fn index_lines(
 fn a_stretch_for_each_row(rt: HostRuntime) -> Result<(), Fail> {
     let section = section(rt.alloc(), &[PATHS])?;
     let mut input = section.as_slice();
-    let made = make_index(rt.alloc(), &mut input, &plain_table(), &options());
+    let made = make_index(
+        &System::new(rt.alloc()),
+        &mut input,
+        &plain_table(),
+        &options(),
+    );
     let made = made.ok().ok_or("no index")?;
     let index = open(made.index.as_slice()).ok().ok_or("damaged index")?;
     assert_eq!(rt; index.count(), 12);
@@ -126,10 +132,20 @@ fn indices_of_damaged_sections(rt: HostRuntime) -> Result<(), Fail> {
         offset: 314,
         kind: FaultKind::Truncated,
     };
-    let made = make_index(rt.alloc(), &mut input, &plain_table(), &options());
+    let made = make_index(
+        &System::new(rt.alloc()),
+        &mut input,
+        &plain_table(),
+        &options(),
+    );
     assert!(rt; made.err() == Some(fault));
     let mut input = damaged.as_slice();
-    let made = make_index_around(rt.alloc(), &mut input, &plain_table(), &options());
+    let made = make_index_around(
+        &System::new(rt.alloc()),
+        &mut input,
+        &plain_table(),
+        &options(),
+    );
     let made = made.ok().ok_or("no index")?;
     let units = DamagedUnits {
         first: Damage {
@@ -157,7 +173,12 @@ fn indices_up_to_a_fault(rt: HostRuntime) -> Result<(), Fail> {
     let mut damaged = section(rt.alloc(), &[PATHS, TOP])?;
     damaged.pop();
     let mut input = damaged.as_slice();
-    let made = make_index_until(rt.alloc(), &mut input, &plain_table(), &options());
+    let made = make_index_until(
+        &System::new(rt.alloc()),
+        &mut input,
+        &plain_table(),
+        &options(),
+    );
     let fault = RunFault::Damage {
         offset: 314,
         kind: FaultKind::Truncated,
@@ -166,7 +187,12 @@ fn indices_up_to_a_fault(rt: HostRuntime) -> Result<(), Fail> {
     let index = made.index.ok().ok_or("no index")?;
     assert_front(&rt, rt.alloc(), index.as_slice())?;
     let mut input = damaged.as_slice();
-    let made = make_index_until_around(rt.alloc(), &mut input, &plain_table(), &options());
+    let made = make_index_until_around(
+        &System::new(rt.alloc()),
+        &mut input,
+        &plain_table(),
+        &options(),
+    );
     let survey = made.ended.ok().ok_or("a fault")?;
     assert!(rt; survey.damaged.is_some());
     let index = made.index.ok().ok_or("no index")?;
@@ -185,7 +211,7 @@ fn what_an_index_says_of_its_making(rt: HostRuntime) -> Result<(), Fail> {
             build_id: build_id.get(..len).ok_or("too long")?,
             ..plain_table()
         };
-        let made = make_index(rt.alloc(), &mut input, &table, &options());
+        let made = make_index(&System::new(rt.alloc()), &mut input, &table, &options());
         let made = made.ok().ok_or("no index")?;
         let index = open(made.index.as_slice()).ok().ok_or("damaged index")?;
         assert_eq!(rt; index.has_all_sequences(), all);
@@ -197,7 +223,7 @@ fn what_an_index_says_of_its_making(rt: HostRuntime) -> Result<(), Fail> {
 /// Whether memory is refused from byte `place` on; asserts that else there is an index.
 fn is_refused(rt: &impl Abort, alloc: Global, section: &[u8], place: usize) -> bool {
     let mut input = Hoarding::new(alloc, section, place);
-    match make_index(alloc, &mut input, &plain_table(), &options()) {
+    match make_index(&System::new(alloc), &mut input, &plain_table(), &options()) {
         Ok(made) => {
             assert!(rt; open(made.index.as_slice()).is_ok());
             false

@@ -4,8 +4,8 @@ use dl_addr::{Form, Found, Style};
 use dl_dialogue::{AnswerFault, Answered, answer_lines};
 use dl_index::open;
 use dl_memory::System;
+use dl_output::Destination;
 use std::alloc::Global;
-use std::io::Write;
 use std::process::Abort;
 use std::test::Fail;
 use test_support::{Fault, Sink, Source};
@@ -47,7 +47,7 @@ fn end_of(answered: Result<Answered, AnswerFault>) -> End {
 }
 
 /// Answers the lines of an input from the index.
-pub fn answered<R: dl_input::Source, W: Write>(
+pub fn answered<R: dl_input::Source, W: Destination>(
     alloc: Global,
     input: &mut R,
     output: &mut W,

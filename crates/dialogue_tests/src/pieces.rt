@@ -1,6 +1,7 @@
 //! What is out before each read.
 use crate::lines::{End, answered};
 use dl_input::Source;
+use dl_output::Destination;
 use std::cell::Cell;
 use std::io;
 use std::io::{Read, Write};
@@ -20,6 +21,12 @@ impl Write for Counted<'_> {
 
     fn flush(&mut self) -> io::Result<()> {
         Ok(())
+    }
+}
+
+impl Destination for Counted<'_> {
+    fn write_next(&mut self, bytes: &[u8]) -> io::Result<usize> {
+        self.write(bytes)
     }
 }
 

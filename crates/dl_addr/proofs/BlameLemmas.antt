@@ -1,10 +1,12 @@
--- Which reads are blamed.
+-- Which reads are blamed, and which writes.
 use Rattle.std.proofs.Common.{◌≡◌, Result, Ok, Err}
 use Rattle.dl_print.specs.declared.fault.WriteFault.{WriteFault}
 use Rattle.dl_print.specs.declared.summary.Summary.{Summary}
+use Rattle.dl_print.specs.Output.{BlamesWriter as PrintBlames}
 use Rattle.dl_run.specs.declared.around.Survey.{Survey}
 use Rattle.dl_run.specs.declared.fault.RunFault.{RunFault}
 use Rattle.dl_run.specs.declared.fault.RunFault.TheVariants as fault
+use Rattle.dl_run.specs.Blaming.{BlamesWriter}
 use Rattle.dl_run.specs.Section.{Visit}
 use Rattle.dl_run.proofs.BlameLemmas.{same_answer}
 use Rattle.dl_addr.specs.declared.question.Found.{Found}
@@ -30,3 +32,16 @@ pub told_around_read : (ended : Result Survey RunFault) (printed : Result Found 
 told_around_read ended (Err lost) e = absurd cc
 told_around_read (Ok survey) (Ok found) e = absurd cc
 told_around_read (Err f) (Ok found) e = same_answer f e
+
+-- a failed write that is told is one of the reading or of the lines
+pub told_writer : (fails : Type 0) (ended : Result Summary RunFault) (printed : Result Found WriteFault)
+    → BlamesWriter fails ended → PrintBlames fails printed → BlamesWriter fails (told ended printed)
+told_writer fails ended (Err lost) read lines = lines
+told_writer fails (Ok summary) (Ok found) read lines = tt
+told_writer fails (Err f) (Ok found) read lines = read
+
+pub told_around_writer : (fails : Type 0) (ended : Result Survey RunFault) (printed : Result Found WriteFault)
+    → BlamesWriter fails ended → PrintBlames fails printed → BlamesWriter fails (told_around ended printed)
+told_around_writer fails ended (Err lost) read lines = lines
+told_around_writer fails (Ok survey) (Ok found) read lines = tt
+told_around_writer fails (Err f) (Ok found) read lines = read

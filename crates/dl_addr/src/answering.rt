@@ -7,6 +7,8 @@ ghost use Rattle.std.specs.Io.KnownBytes.{Consumes};
 ghost use Rattle.dl_input.specs.Failing.{Blames};
 ghost use Rattle.dl_look.specs.declared.place.Place as place;
 ghost use Rattle.dl_print.specs.ValueText.{strings_of};
+ghost use Rattle.dl_print.specs.Output.{BlamesWriter as PrintBlames};
+ghost use Rattle.dl_run.specs.Blaming.{BlamesWriter};
 ghost use Rattle.dl_run.specs.Commands.{strings_in};
 ghost use Rattle.dl_run.specs.Section.{Visit};
 ghost use Rattle.dl_addr.specs.declared.locating.Locator as locators;
@@ -25,9 +27,9 @@ use crate::question::{Found, FoundAround, Question};
 use dl_input::Source;
 use dl_look::{Asked, Place};
 use dl_memory::{Memory, NoMemory};
+use dl_output::Destination;
 use dl_print::{Printer, StringSections, Summary, WriteFault};
 use dl_run::{Options, RunFault, SECTION_LIMIT, Survey, read_units, read_units_around};
-use std::io::Write;
 
 /// Answers each address with a line, in the order in which they are asked: its location, by the first
 /// unit whose sequences cover it, or that there is none.
@@ -36,7 +38,7 @@ use std::io::Write;
 /// the fault is answered. Where memory is refused before anything is read, nothing is printed. The places
 /// are held in memory, the tables of one header, and of the paths that answer what their headers have of their texts,
 /// a directory and a name once for each unit.
-pub fn addr<M: Memory, R: Source, W: Write>(
+pub fn addr<M: Memory, R: Source, W: Destination>(
     memory: &M,
     input: &mut R,
     output: &mut W,
@@ -48,6 +50,7 @@ pub fn addr<M: Memory, R: Source, W: Write>(
         × Locates (M.refuses memory.now) options.now.dialect (strings_in options.now) question.now options.now.limit bs
         (R.remaining input.new) (W.contents output.old) (W.contents output.new) result }
     ensures blames { Blames R.follows R.fails input.old input.new (result ≡ Err RunFault.Read) }
+    ensures blames_writer { BlamesWriter W.fails result }
 {
     let strings = StringSections::new(options.debug_line_str, options.debug_str);
     let Ok(mut locator) = locator_of(memory, &strings, question) else {
@@ -75,7 +78,7 @@ fn told(
 /// The section is read as `read_units_around` reads it. Then the lines are printed that the whole units before its end,
 /// or before the fault, answer. The faults are those of `addr` but for `Damage`: of damaged units the answer says what
 /// is wrong with the first, and how many others there are.
-pub fn addr_around<M: Memory, R: Source, W: Write>(
+pub fn addr_around<M: Memory, R: Source, W: Destination>(
     memory: &M,
     input: &mut R,
     output: &mut W,
@@ -87,6 +90,7 @@ pub fn addr_around<M: Memory, R: Source, W: Write>(
         × LocatesAround (M.refuses memory.now) options.now.dialect (strings_in options.now) question.now
         options.now.limit bs (R.remaining input.new) (W.contents output.old) (W.contents output.new) result }
     ensures blames { Blames R.follows R.fails input.old input.new (result ≡ Err RunFault.Read) }
+    ensures blames_writer { BlamesWriter W.fails result }
 {
     let strings = StringSections::new(options.debug_line_str, options.debug_str);
     let Ok(mut locator) = locator_of(memory, &strings, question) else {
@@ -148,16 +152,17 @@ fn places_of<M: Memory>(memory: &M, asked: &[Asked], base: u64) -> Result<Vec<Pl
 }
 
 /// Prints the line of each address that is asked for.
-fn print_all<M: Memory, W: Write>(
+fn print_all<M: Memory, W: Destination>(
     locator: &Locator<'_, '_, '_, M>,
     output: &mut W,
     question: &Question<'_>,
 ) -> Result<Found, WriteFault>
-    ensures { (first : locators.Locator M) (start held : Option (List ℕ)) (visits : List Visit)
+    ensures printed { (first : locators.Locator M) (start held : Option (List ℕ)) (visits : List Visit)
         → Locating first locator.now start held visits
         → IsMadeFor first (map (looked_up question.now.base) question.now.asked.now)
         → PrintsAll (W.contents output.old) (W.contents output.new) question.now
         (answer_for first visits question.now.base) result }
+    ensures blames_writer { PrintBlames W.fails result }
 {
     let mut printer = Printer::new();
     let mut found = Found::All;

@@ -12,11 +12,11 @@ use dl_dirs::CompilationDirectories;
 use dl_head::Header;
 use dl_look::{CodeRanges, Finders, LiveRows, Place};
 use dl_memory::{Memory, NoMemory};
+use dl_output::Destination;
 use dl_path::{beside_table, has_directory_0, is_whole_path};
 use dl_print::StringSections;
 use dl_rows::{Flow, Row};
 use dl_run::{AroundDamage, Damage, RunFault, Visitor};
-use std::io::Write;
 
 /// Looks places up in the rows of live sequences, unit by unit, and keeps the paths of those that it finds.
 #[derive(Drop)]
@@ -37,7 +37,7 @@ pub struct Locator<'s, 'o, 'q, M> {
     kept: Vec<usize>,
 }
 
-impl<W: Write, M: Memory> Visitor<W> for Locator<'_, '_, '_, M> {
+impl<W: Destination, M: Memory> Visitor<W> for Locator<'_, '_, '_, M> {
     ghost use Rattle.dl_addr.specs.Locating.{locate_story};
     ghost use Rattle.dl_memory.specs.Refusals.{WasRefused};
 
@@ -81,7 +81,7 @@ impl<W: Write, M: Memory> Visitor<W> for Locator<'_, '_, '_, M> {
     }
 }
 
-impl<W: Write, M: Memory> AroundDamage<W> for Locator<'_, '_, '_, M> {
+impl<W: Destination, M: Memory> AroundDamage<W> for Locator<'_, '_, '_, M> {
     fn damaged(&mut self, _damage: Damage) {
         self.finders.forget_unit();
         self.live = LiveRows::new();

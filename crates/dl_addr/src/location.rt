@@ -2,7 +2,7 @@
 
 ghost use Rattle.std.specs.Prelude.{◌≡◌, [], Some, if◌then◌else◌, option_map, unwrap_or};
 ghost use Rattle.std.specs.Option.{option_copied};
-ghost use Rattle.dl_print.specs.Output.{Prints};
+ghost use Rattle.dl_print.specs.Output.{BlamesWriter as PrintBlames, Prints};
 ghost use Rattle.dl_path.specs.Shown.{basename};
 ghost use Rattle.dl_addr.specs.Locations.{location_line, location_seen};
 
@@ -11,9 +11,9 @@ use crate::locating::{Answer, Position};
 use crate::printing::print_line;
 use crate::style::Style;
 use dl_look::Asked;
+use dl_output::Destination;
 use dl_path::basename;
 use dl_print::{Printer, WriteFault};
-use std::io::Write;
 
 /// What is told of an address: of the row that answers it, and of its file.
 #[derive(Clone, Copy, Debug, PartialEq, Eq)]
@@ -30,15 +30,16 @@ pub struct Location<'a> {
 }
 
 /// Prints the line of what is asked, where this is told of it: the one that `addr` prints where its units answer so.
-pub fn print_location<W: Write>(
+pub fn print_location<W: Destination>(
     printer: &mut Printer,
     output: &mut W,
     style: Style<'_>,
     asked: Asked,
     location: Option<Location<'_>>,
 ) -> Result<(), WriteFault>
-    ensures { Prints (W.contents output.old) (W.contents output.new) printer.old printer.new
+    ensures printed { Prints (W.contents output.old) (W.contents output.new) printer.old printer.new
         (location_line style.entry asked (option_map location_seen location.entry)) result }
+    ensures blames_writer { PrintBlames W.fails result }
 {
     match location {
         Some(location) => print_told(printer, output, style, asked, location),
@@ -47,15 +48,16 @@ pub fn print_location<W: Write>(
 }
 
 /// Prints the line of what is told, whose path lies in one text.
-fn print_told<W: Write>(
+fn print_told<W: Destination>(
     printer: &mut Printer,
     output: &mut W,
     style: Style<'_>,
     asked: Asked,
     location: Location<'_>,
 ) -> Result<(), WriteFault>
-    ensures { Prints (W.contents output.old) (W.contents output.new) printer.old printer.new
+    ensures printed { Prints (W.contents output.old) (W.contents output.new) printer.old printer.new
         (location_line style.entry asked (Some (location_seen location.entry))) result }
+    ensures blames_writer { PrintBlames W.fails result }
 {
     let path = printed_path(style.basenames, location.path);
     let texts = [KeptText::new(KeptBytes::Lent(bytes_or_none(path)))];

@@ -2,7 +2,7 @@
 
 ghost use Rattle.std.specs.Prelude.{◌≡◌, ◌++◌, [], codes, unwrap_or};
 ghost use Rattle.std.specs.Option.{option_copied};
-ghost use Rattle.dl_print.specs.Output.{Prints};
+ghost use Rattle.dl_print.specs.Output.{BlamesWriter as PrintBlames, Prints};
 ghost use Rattle.dl_addr.specs.declared.style.Form.TheVariants as all_forms;
 ghost use Rattle.dl_path.specs.Paths.{slash_after};
 ghost use Rattle.dl_addr.specs.Printing.{inner_text, named_text};
@@ -11,19 +11,20 @@ ghost use Rattle.dl_addr.specs.Texts.{path_in_table, path_kept, path_named};
 
 use crate::kept::{KeptBytes, KeptPath, KeptText};
 use crate::style::Form;
+use dl_output::Destination;
 use dl_path::{print_json_text, print_shown, wants_slash};
 use dl_print::{Printer, WriteFault};
-use std::io::Write;
 
 /// Prints a path as it stands in a line of this form, or what stands for one that isn't known.
-pub fn print_path<W: Write>(
+pub fn print_path<W: Destination>(
     printer: &mut Printer,
     output: &mut W,
     form: Form,
     path: KeptPath<'_, '_>,
 ) -> Result<(), WriteFault>
-    ensures { Prints (W.contents output.old) (W.contents output.new) printer.old printer.new
+    ensures printed { Prints (W.contents output.old) (W.contents output.new) printer.old printer.new
         (named_text form (path_kept path.entry)) result }
+    ensures blames_writer { PrintBlames W.fails result }
 {
     match path.text(path.file.name) {
         Some(name) => print_known(printer, output, form, path, name),
@@ -32,15 +33,16 @@ pub fn print_path<W: Write>(
 }
 
 /// Prints a path whose file's own path is this one.
-fn print_known<W: Write>(
+fn print_known<W: Destination>(
     printer: &mut Printer,
     output: &mut W,
     form: Form,
     path: KeptPath<'_, '_>,
     name: &KeptText<'_>,
 ) -> Result<(), WriteFault>
-    ensures { Prints (W.contents output.old) (W.contents output.new) printer.old printer.new
+    ensures printed { Prints (W.contents output.old) (W.contents output.new) printer.old printer.new
         (text_in form (path_named path.entry name.now)) result }
+    ensures blames_writer { PrintBlames W.fails result }
 {
     match form {
         Form::Location | Form::AddressAndLocation => {
@@ -51,13 +53,14 @@ fn print_known<W: Write>(
 }
 
 /// Prints what stands for a path that isn't known.
-fn print_no_path<W: Write>(
+fn print_no_path<W: Destination>(
     printer: &mut Printer,
     output: &mut W,
     form: Form,
 ) -> Result<(), WriteFault>
-    ensures { Prints (W.contents output.old) (W.contents output.new) printer.old printer.new
+    ensures printed { Prints (W.contents output.old) (W.contents output.new) printer.old printer.new
         (no_path_text form) result }
+    ensures blames_writer { PrintBlames W.fails result }
 {
     match form {
         Form::Location | Form::AddressAndLocation => printer.put(output, b"??"),
@@ -66,14 +69,15 @@ fn print_no_path<W: Write>(
 }
 
 /// Prints the JSON string of a path.
-fn print_quoted<W: Write>(
+fn print_quoted<W: Destination>(
     printer: &mut Printer,
     output: &mut W,
     path: KeptPath<'_, '_>,
     name: &KeptText<'_>,
 ) -> Result<(), WriteFault>
-    ensures { Prints (W.contents output.old) (W.contents output.new) printer.old printer.new
+    ensures printed { Prints (W.contents output.old) (W.contents output.new) printer.old printer.new
         (text_in all_forms.Json (path_named path.entry name.now)) result }
+    ensures blames_writer { PrintBlames W.fails result }
 {
     printer.put(output, b"\"")?;
     print_rooted(printer, output, Form::Json, path, name)?;
@@ -81,15 +85,16 @@ fn print_quoted<W: Write>(
 }
 
 /// Prints a path under its compilation directory, where there is one.
-fn print_rooted<W: Write>(
+fn print_rooted<W: Destination>(
     printer: &mut Printer,
     output: &mut W,
     form: Form,
     path: KeptPath<'_, '_>,
     name: &KeptText<'_>,
 ) -> Result<(), WriteFault>
-    ensures { Prints (W.contents output.old) (W.contents output.new) printer.old printer.new
+    ensures printed { Prints (W.contents output.old) (W.contents output.new) printer.old printer.new
         (inner_text form (path_named path.entry name.now)) result }
+    ensures blames_writer { PrintBlames W.fails result }
 {
     let Some(root) = path.root else {
         return print_parts(printer, output, form, path, name);
@@ -100,15 +105,16 @@ fn print_rooted<W: Write>(
 }
 
 /// Prints the parts of a path, one after the other.
-fn print_parts<W: Write>(
+fn print_parts<W: Destination>(
     printer: &mut Printer,
     output: &mut W,
     form: Form,
     path: KeptPath<'_, '_>,
     name: &KeptText<'_>,
 ) -> Result<(), WriteFault>
-    ensures { Prints (W.contents output.old) (W.contents output.new) printer.old printer.new
+    ensures printed { Prints (W.contents output.old) (W.contents output.new) printer.old printer.new
         (inner_text form (path_in_table path.entry name.now)) result }
+    ensures blames_writer { PrintBlames W.fails result }
 {
     print_directory(printer, output, form, path.text(path.file.base))?;
     print_directory(printer, output, form, path.text(path.file.directory))?;
@@ -117,15 +123,16 @@ fn print_parts<W: Write>(
 
 /// Prints a directory, with what stands between it and a path in it; nothing where there is none.
 #[inline]
-fn print_directory<W: Write>(
+fn print_directory<W: Destination>(
     printer: &mut Printer,
     output: &mut W,
     form: Form,
     directory: Option<&KeptText<'_>>,
 ) -> Result<(), WriteFault>
-    ensures { Prints (W.contents output.old) (W.contents output.new) printer.old printer.new
+    ensures printed { Prints (W.contents output.old) (W.contents output.new) printer.old printer.new
         (inner_text form (unwrap_or (option_copied directory.entry) [])
         ++ slash_after (unwrap_or (option_copied directory.entry) [])) result }
+    ensures blames_writer { PrintBlames W.fails result }
 {
     match directory {
         Some(directory) => print_folder(printer, output, form, directory),
@@ -135,14 +142,15 @@ fn print_directory<W: Write>(
 
 /// Prints a directory that is there.
 #[inline]
-fn print_folder<W: Write>(
+fn print_folder<W: Destination>(
     printer: &mut Printer,
     output: &mut W,
     form: Form,
     directory: &KeptText<'_>,
 ) -> Result<(), WriteFault>
-    ensures { Prints (W.contents output.old) (W.contents output.new) printer.old printer.new
+    ensures printed { Prints (W.contents output.old) (W.contents output.new) printer.old printer.new
         (inner_text form directory.now ++ slash_after directory.now) result }
+    ensures blames_writer { PrintBlames W.fails result }
 {
     print_text(printer, output, form, directory)?;
     print_slash(printer, output, directory.bytes())
@@ -150,13 +158,14 @@ fn print_folder<W: Write>(
 
 /// Prints what stands between a directory and a path in it.
 #[inline]
-fn print_slash<W: Write>(
+fn print_slash<W: Destination>(
     printer: &mut Printer,
     output: &mut W,
     directory: &[u8],
 ) -> Result<(), WriteFault>
-    ensures { Prints (W.contents output.old) (W.contents output.new) printer.old printer.new
+    ensures printed { Prints (W.contents output.old) (W.contents output.new) printer.old printer.new
         (slash_after directory.now) result }
+    ensures blames_writer { PrintBlames W.fails result }
 {
     if wants_slash(directory) {
         printer.put(output, b"/")
@@ -167,14 +176,15 @@ fn print_slash<W: Write>(
 
 /// Prints a text as it stands in a path.
 #[inline]
-fn print_text<W: Write>(
+fn print_text<W: Destination>(
     printer: &mut Printer,
     output: &mut W,
     form: Form,
     text: &KeptText<'_>,
 ) -> Result<(), WriteFault>
-    ensures { Prints (W.contents output.old) (W.contents output.new) printer.old printer.new
+    ensures printed { Prints (W.contents output.old) (W.contents output.new) printer.old printer.new
         (inner_text form text.now) result }
+    ensures blames_writer { PrintBlames W.fails result }
 {
     if text.is_plain() {
         return printer.put(output, text.bytes());

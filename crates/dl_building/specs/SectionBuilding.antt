@@ -1,5 +1,5 @@
 -- What the call answers that makes the index of a section. s: the bytes of the section; ranges: where there is code; keep_going:
--- damaged units are gone around.
+-- damaged units are gone around; refuses: for how many items memory is refused.
 use Rattle.std.specs.Prelude.{◌≡◌, ◌⊎◌, ℕ, Bool, true, false, ◌||◌, ◌==◌, if◌then◌else◌, List, [], length, map, Option, Some, None}
 use Rattle.std.specs.Prelude.{unwrap_or, Result, Ok, Err}
 use Rattle.std.specs.Io.KnownBytes.{Consumes}
@@ -13,6 +13,7 @@ use Rattle.dl_dirs.specs.Compilation.{directory_by}
 use Rattle.dl_head.specs.declared.dialect.Dialect.{Dialect}
 use Rattle.dl_look.specs.declared.code_ranges.AddressRange.{AddressRange}
 use Rattle.dl_look.specs.Ranges.{is_in}
+use Rattle.dl_memory.specs.Refusals.{IsRefused}
 use Rattle.dl_making.specs.declared.making.Made.{Made}
 use Rattle.dl_making.specs.declared.making.MadeAround.{MadeAround}
 use Rattle.dl_making.specs.declared.making.Table.{Table}
@@ -40,35 +41,35 @@ pub record IsTableOf (all : Bool) (ranges : List CodeRange) (table : Table) : Ty
   pub build_id : table.build_id.now ≡ []
 
 -- the index of the units up to the end, or of those that are whole; or why there is none
-abbrev pub IsSectionBuilt : (keep_going : Bool) → Dialect → Strings → Table → (s : List ℕ) → Result SectionIndex RunFault → Type 0
-IsSectionBuilt false dialect strings table s (Ok built) =
+abbrev pub IsSectionBuilt : (refuses : ℕ → Type 0) → (keep_going : Bool) → Dialect → Strings → Table → (s : List ℕ) → Result SectionIndex RunFault → Type 0
+IsSectionBuilt refuses false dialect strings table s (Ok built) =
     (bytes : List ℕ) × (left : Option (List ℕ)) × Consumes (Some s) left bytes × ((made : Made)
-    × Makes dialect strings table SECTION_LIMIT bytes left (Ok made) × (built.index.items ≡ made.index.items)
+    × Makes refuses dialect strings table SECTION_LIMIT bytes left (Ok made) × (built.index.items ≡ made.index.items)
     × (built.damaged ≡ None))
-IsSectionBuilt false dialect strings table s (Err fault) =
+IsSectionBuilt refuses false dialect strings table s (Err fault) =
     (bytes : List ℕ) × (left : Option (List ℕ)) × Consumes (Some s) left bytes
-    × Makes dialect strings table SECTION_LIMIT bytes left (Err fault)
-IsSectionBuilt true dialect strings table s (Ok built) =
+    × Makes refuses dialect strings table SECTION_LIMIT bytes left (Err fault)
+IsSectionBuilt refuses true dialect strings table s (Ok built) =
     (bytes : List ℕ) × (left : Option (List ℕ)) × Consumes (Some s) left bytes × ((made : MadeAround)
-    × MakesAround dialect strings table SECTION_LIMIT bytes left (Ok made) × (built.index.items ≡ made.index.items)
+    × MakesAround refuses dialect strings table SECTION_LIMIT bytes left (Ok made) × (built.index.items ≡ made.index.items)
     × (built.damaged ≡ made.survey.damaged))
-IsSectionBuilt true dialect strings table s (Err fault) =
+IsSectionBuilt refuses true dialect strings table s (Err fault) =
     (bytes : List ℕ) × (left : Option (List ℕ)) × Consumes (Some s) left bytes
-    × MakesAround dialect strings table SECTION_LIMIT bytes left (Err fault)
+    × MakesAround refuses dialect strings table SECTION_LIMIT bytes left (Err fault)
 
 -- of a room, a length and a fault, p, m and g before the call, and q, n and h after it: the index is put, or it is told why there
 -- is none
-abbrev pub PutsSection : (keep_going : Bool) → Dialect → Strings → Table → (s p q : List ℕ) (m n : ℕ) (g h : FaultRecord)
+abbrev pub PutsSection : (refuses : ℕ → Type 0) → (keep_going : Bool) → Dialect → Strings → Table → (s p q : List ℕ) (m n : ℕ) (g h : FaultRecord)
     → Status → Type 0
-PutsSection keep_going dialect strings table s p q m n g h end =
-    ((built : SectionIndex) × IsSectionBuilt keep_going dialect strings table s (Ok built)
+PutsSection refuses keep_going dialect strings table s p q m n g h end =
+    ((built : SectionIndex) × IsSectionBuilt refuses keep_going dialect strings table s (Ok built)
     × PutsIndex built.index.items built.damaged p q n g h end)
-    ⊎ ((fault : RunFault) × IsSectionBuilt keep_going dialect strings table s (Err fault) × (q ≡ p) × (n ≡ m)
+    ⊎ ((fault : RunFault) × IsSectionBuilt refuses keep_going dialect strings table s (Err fault) × (q ≡ p) × (n ≡ m)
     × (h ≡ unwrap_or (run_record fault) g) × (end ≡ status_by (run_record fault)))
 
 -- `build_section`; memory may be refused for the ranges too
-abbrev pub BuildsSection : (keep_going : Bool) → Dialect → Strings → (all : Bool) (ranges : List CodeRange) (s p q : List ℕ)
+abbrev pub BuildsSection : (refuses : ℕ → Type 0) → (keep_going : Bool) → Dialect → Strings → (all : Bool) (ranges : List CodeRange) (s p q : List ℕ)
     (m n : ℕ) (g h : FaultRecord) → Status → Type 0
-BuildsSection keep_going dialect strings all ranges s p q m n g h end =
-    ((end ≡ status.NoMemory) × (q ≡ p) × (n ≡ m) × (h ≡ g))
-    ⊎ ((table : Table) × IsTableOf all ranges table × PutsSection keep_going dialect strings table s p q m n g h end)
+BuildsSection refuses keep_going dialect strings all ranges s p q m n g h end =
+    ((end ≡ status.NoMemory) × IsRefused refuses (length ranges) × (q ≡ p) × (n ≡ m) × (h ≡ g))
+    ⊎ ((table : Table) × IsTableOf all ranges table × PutsSection refuses keep_going dialect strings table s p q m n g h end)

@@ -9,7 +9,8 @@ use crate::one_file::OneFile;
 use crate::room::put;
 use dl_calls::{FaultRecord, Status};
 use dl_cmd::{IndexWords, UnitWords};
-use dl_memory::Memory;
+use dl_making::SetMemory;
+use dl_memory::Held;
 use dl_run::Survey;
 use dl_work::{Stop, index};
 
@@ -42,7 +43,7 @@ fn words(all: bool, keep_going: bool) -> IndexWords<'static>
 }
 
 /// Makes the index of the ELF file that bytes are, as the program does.
-fn index_of_file<M: Memory>(
+fn index_of_file<M: SetMemory>(
     memory: &M,
     file: &[u8],
     all: bool,
@@ -52,10 +53,10 @@ fn index_of_file<M: Memory>(
 {
     let words = words(all, keep_going);
     let files = OneFile { bytes: file };
-    let mut made = Vec::new(memory.alloc());
+    let mut made = Held::new(memory);
     match index(memory, &words, &files, &mut made) {
         Ok(survey) => Ok(Built {
-            index: made,
+            index: made.bytes,
             survey,
         }),
         Err(stop) => Err(stop),
@@ -68,7 +69,7 @@ fn index_of_file<M: Memory>(
 /// Done: the index stands in the room's first bytes, and how many these are is told. NoRoom: this alone is told. Fault: the
 /// fault is told; and where units are damaged that are gone around, the index too. NoMemory: also where the index would
 /// have 2^32 texts. What isn't told stays as it was.
-pub fn build_file<M: Memory>(
+pub fn build_file<M: SetMemory>(
     memory: &M,
     file: &[u8],
     all: bool,

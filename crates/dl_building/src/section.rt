@@ -1,6 +1,7 @@
 //! The call that makes the index of a section.
 
-ghost use Rattle.std.specs.Prelude.{◌≡◌, ℕ, true, false, IfOk, map};
+ghost use Rattle.std.specs.Prelude.{◌≡◌, ℕ, true, false, IfOk, OnErr, length, map};
+ghost use Rattle.dl_memory.specs.Refusals.{IsRefused};
 ghost use Rattle.std.specs.List.{list_any};
 ghost use Rattle.dl_addr.specs.Code.{is_code};
 ghost use Rattle.dl_calls.specs.Calls.{dialect_of, goes_on};
@@ -15,10 +16,9 @@ use crate::room::put;
 use dl_calls::{FaultRecord, Status, dialect_of, goes_on};
 use dl_dirs::CompilationDirectories;
 use dl_look::{AddressRange, CodeRanges};
-use dl_making::{Table, make_index, make_index_around};
-use dl_memory::{NoMemory, System};
+use dl_making::{SetMemory, Table, make_index, make_index_around};
+use dl_memory::{Memory, NoMemory};
 use dl_run::{DamagedUnits, Options, RunFault, SECTION_LIMIT};
-use std::alloc::Global;
 
 /// A range of addresses that have code.
 #[repr(C)]
@@ -39,52 +39,60 @@ pub struct SectionIndex {
 }
 
 /// The ranges as the look-up takes them.
-fn address_ranges(alloc: Global, ranges: &[CodeRange]) -> Result<Vec<AddressRange>, NoMemory>
-    ensures { IfOk result (λ addresses. addresses.items ≡ map address_range ranges.now) }
+fn address_ranges<M: Memory>(
+    memory: &M,
+    ranges: &[CodeRange],
+) -> Result<Vec<AddressRange>, NoMemory>
+    ensures ranges { IfOk result (λ addresses. addresses.items ≡ map address_range ranges.now) }
+    ensures refused { OnErr result (IsRefused (M.refuses memory.now) (length ranges.now)) }
 {
-    let mut addresses = Vec::new(alloc);
+    let mut addresses = Vec::new(memory.alloc());
     for range in ranges {
         let address = AddressRange {
             start: range.start,
             size: range.size,
         };
-        if addresses.push(address).is_err() {
-            return Err(NoMemory);
-        }
+        memory.push(&mut addresses, address)?;
     }
     Ok(addresses)
 }
 
 /// Where these ranges are, for the look-up.
-fn ranges_of(alloc: Global, ranges: &[CodeRange]) -> Result<CodeRanges, NoMemory>
-    ensures { IfOk result (λ code. (a : ℕ) → has_code code a ≡ list_any (is_in a) (map address_range ranges.now)) }
+fn ranges_of<M: Memory>(memory: &M, ranges: &[CodeRange]) -> Result<CodeRanges, NoMemory>
+    ensures code { IfOk result (λ code. (a : ℕ) → has_code code a ≡ list_any (is_in a) (map address_range ranges.now)) }
+    ensures refused { OnErr result (IsRefused (M.refuses memory.now) (length ranges.now)) }
 {
-    let addresses = address_ranges(alloc, ranges)?;
-    CodeRanges::build(&System::new(alloc), addresses.as_slice())
+    let addresses = address_ranges(memory, ranges)?;
+    CodeRanges::build(memory, addresses.as_slice())
 }
 
 /// In which code sequences count: in these ranges, or everywhere where all sequences do, or no range is given.
-fn code_of(alloc: Global, all: bool, ranges: &[CodeRange]) -> Result<Option<CodeRanges>, NoMemory>
-    ensures { IfOk result (λ code. (a : ℕ) → is_code code a ≡ is_live all ranges.now a) }
+fn code_of<M: Memory>(
+    memory: &M,
+    all: bool,
+    ranges: &[CodeRange],
+) -> Result<Option<CodeRanges>, NoMemory>
+    ensures code { IfOk result (λ code. (a : ℕ) → is_code code a ≡ is_live all ranges.now a) }
+    ensures refused { OnErr result (IsRefused (M.refuses memory.now) (length ranges.now)) }
 {
     if all || ranges.is_empty() {
         return Ok(None);
     }
-    Ok(Some(ranges_of(alloc, ranges)?))
+    Ok(Some(ranges_of(memory, ranges)?))
 }
 
 /// The index of a section, up to a damaged unit.
-fn index_to_fault(
-    alloc: Global,
+fn index_to_fault<M: SetMemory>(
+    memory: &M,
     section: &[u8],
     table: &Table<'_>,
     options: &Options<'_>,
 ) -> Result<SectionIndex, RunFault>
     requires { options.now.limit ≡ SECTION_LIMIT }
-    ensures { IsSectionBuilt false options.now.dialect (strings_in options.now) table.now section.now result }
+    ensures { IsSectionBuilt (M.refuses memory.now) false options.now.dialect (strings_in options.now) table.now section.now result }
 {
     let mut input = section;
-    match make_index(alloc, &mut input, table, options) {
+    match make_index(memory, &mut input, table, options) {
         Ok(made) => Ok(SectionIndex {
             index: made.index,
             damaged: None,
@@ -94,17 +102,17 @@ fn index_to_fault(
 }
 
 /// The index of a section, around damaged units.
-fn index_around(
-    alloc: Global,
+fn index_around<M: SetMemory>(
+    memory: &M,
     section: &[u8],
     table: &Table<'_>,
     options: &Options<'_>,
 ) -> Result<SectionIndex, RunFault>
     requires { options.now.limit ≡ SECTION_LIMIT }
-    ensures { IsSectionBuilt true options.now.dialect (strings_in options.now) table.now section.now result }
+    ensures { IsSectionBuilt (M.refuses memory.now) true options.now.dialect (strings_in options.now) table.now section.now result }
 {
     let mut input = section;
-    match make_index_around(alloc, &mut input, table, options) {
+    match make_index_around(memory, &mut input, table, options) {
         Ok(made) => Ok(SectionIndex {
             index: made.index,
             damaged: made.survey.damaged,
@@ -114,26 +122,26 @@ fn index_around(
 }
 
 /// The index of a section, up to a damaged unit or around such units.
-fn section_index(
-    alloc: Global,
+fn section_index<M: SetMemory>(
+    memory: &M,
     section: &[u8],
     keep_going: bool,
     table: &Table<'_>,
     options: &Options<'_>,
 ) -> Result<SectionIndex, RunFault>
     requires { options.now.limit ≡ SECTION_LIMIT }
-    ensures { IsSectionBuilt keep_going options.now.dialect (strings_in options.now) table.now section.now result }
+    ensures { IsSectionBuilt (M.refuses memory.now) keep_going options.now.dialect (strings_in options.now) table.now section.now result }
 {
     if keep_going {
-        index_around(alloc, section, table, options)
+        index_around(memory, section, table, options)
     } else {
-        index_to_fault(alloc, section, table, options)
+        index_to_fault(memory, section, table, options)
     }
 }
 
 /// Puts the index of a section, made with a table, into a room.
-fn put_section(
-    alloc: Global,
+fn put_section<M: SetMemory>(
+    memory: &M,
     section: &[u8],
     keep_going: bool,
     table: &Table<'_>,
@@ -143,10 +151,10 @@ fn put_section(
     fault: &mut FaultRecord,
 ) -> Status
     requires { options.now.limit ≡ SECTION_LIMIT }
-    ensures { PutsSection keep_going options.now.dialect (strings_in options.now) table.now section.now room.old room.new
+    ensures { PutsSection (M.refuses memory.now) keep_going options.now.dialect (strings_in options.now) table.now section.now room.old room.new
         len.old len.new fault.old fault.new result }
 {
-    match section_index(alloc, section, keep_going, table, options) {
+    match section_index(memory, section, keep_going, table, options) {
         Ok(made) => put(made.index.as_slice(), made.damaged, room, len, fault),
         Err(run) => tell_run(run, fault),
     }
@@ -157,8 +165,8 @@ fn put_section(
 /// `.debug_line_str` and `.debug_str`.
 ///
 /// Done, NoRoom, Fault, NoMemory: as of `build_file`.
-pub fn build_section(
-    alloc: Global,
+pub fn build_section<M: SetMemory>(
+    memory: &M,
     section: &[u8],
     how: u8,
     all: bool,
@@ -169,10 +177,10 @@ pub fn build_section(
     len: &mut usize,
     fault: &mut FaultRecord,
 ) -> Status
-    ensures { BuildsSection (goes_on how) (dialect_of how) (both_strings line_str.now str.now) all code.now section.now
+    ensures { BuildsSection (M.refuses memory.now) (goes_on how) (dialect_of how) (both_strings line_str.now str.now) all code.now section.now
         room.old room.new len.old len.new fault.old fault.new result }
 {
-    let Ok(code) = code_of(alloc, all, code) else {
+    let Ok(code) = code_of(memory, all, code) else {
         return Status::NoMemory;
     };
     let table = Table {
@@ -188,7 +196,7 @@ pub fn build_section(
         limit: SECTION_LIMIT,
     };
     put_section(
-        alloc,
+        memory,
         section,
         goes_on(how),
         &table,

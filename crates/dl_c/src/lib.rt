@@ -136,7 +136,7 @@ pub extern "C" fn boxantrel_copy(
     fault: &mut FaultRecord,
 ) -> u32
     ensures { (status : Status) × (result ≡ status_code status)
-        × Copies (λ n. Unit {0}) (dialect_of how) section.now room.old room.new len.old len.new fault.old fault.new status }
+        × Copies (Unit {0}) (λ n. Unit {0}) (dialect_of how) section.now room.old room.new len.old len.new fault.old fault.new status }
 {
     dl_calls::copy(&System::new(alloc), section, how, room, len, fault).code()
 }
@@ -305,16 +305,7 @@ pub extern "C" fn boxantrel_index_build(
     ensures { (status : Status) × (result ≡ status_code status)
         × BuildsFile (λ n. Unit {0}) file.now all keep_going room.old room.new len.old len.new fault.old fault.new status }
 {
-    dl_building::build_file(
-        &System::new(alloc),
-        file,
-        all,
-        keep_going,
-        room,
-        len,
-        fault,
-    )
-    .code()
+    dl_building::build_file(&System::new(alloc), file, all, keep_going, room, len, fault).code()
 }
 
 /// As `dl_building::build_section`.
@@ -332,11 +323,20 @@ pub extern "C" fn boxantrel_index_build_section(
     fault: &mut FaultRecord,
 ) -> u32
     ensures { (status : Status) × (result ≡ status_code status)
-        × BuildsSection (goes_on how) (dialect_of how) (both_strings line_str.now str.now) all code.now section.now
+        × BuildsSection (λ n. Unit {0}) (goes_on how) (dialect_of how) (both_strings line_str.now str.now) all code.now section.now
         room.old room.new len.old len.new fault.old fault.new status }
 {
     dl_building::build_section(
-        alloc, section, how, all, line_str, str, code, room, len, fault,
+        &System::new(alloc),
+        section,
+        how,
+        all,
+        line_str,
+        str,
+        code,
+        room,
+        len,
+        fault,
     )
     .code()
 }

@@ -26,11 +26,11 @@ runs refuses dialect d is s v start none left result ran =
     )
 
 -- a copy that was made is put into the room, or isn't
-pub put_is : (refuses : ℕ → Type 0) (dialect : Dialect) (s v p q : List ℕ) (m n : ℕ) (f : FaultRecord) (summary : Summary) (end : Status)
-    → Runs refuses dialect s v (Ok summary) → Puts v p q n end → Copies refuses dialect s p q m n f f end
-put_is refuses dialect s v p q m n f summary status.Done ran puts = (v, summary, ran, puts, refl)
-put_is refuses dialect s v p q m n f summary status.NoRoom ran puts = (v, summary, ran, puts, refl)
-put_is refuses dialect s v p q m n f summary status.Fault ran puts = absurd puts
-put_is refuses dialect s v p q m n f summary status.NoAnswer ran puts = absurd puts
-put_is refuses dialect s v p q m n f summary status.NoMemory ran puts = absurd puts
-put_is refuses dialect s v p q m n f summary status.OtherVersion ran puts = absurd puts
+pub put_is : (may_refuse : Type 0) (refuses : ℕ → Type 0) (dialect : Dialect) (s v p q : List ℕ) (m n : ℕ) (f : FaultRecord) (summary : Summary) (end : Status)
+    → Runs refuses dialect s v (Ok summary) → Puts v p q n end → Copies may_refuse refuses dialect s p q m n f f end
+put_is may_refuse refuses dialect s v p q m n f summary status.Done ran puts = (v, summary, ran, puts, refl)
+put_is may_refuse refuses dialect s v p q m n f summary status.NoRoom ran puts = (v, summary, ran, puts, refl)
+put_is may_refuse refuses dialect s v p q m n f summary status.Fault ran puts = absurd puts
+put_is may_refuse refuses dialect s v p q m n f summary status.NoAnswer ran puts = absurd puts
+put_is may_refuse refuses dialect s v p q m n f summary status.NoMemory ran puts = absurd puts
+put_is may_refuse refuses dialect s v p q m n f summary status.OtherVersion ran puts = absurd puts

@@ -1,6 +1,6 @@
 -- What the call that writes all units anew answers. s: the bytes of a section. refuses: for how many items memory is
 -- refused. DWARF 5, section 6.2.4.
-use Rattle.std.specs.Prelude.{◌≡◌, ◌<◌, ◌≤◌, ◌^◌, ⊤, ℕ, List, [], length, Option, Some, Result, Ok, Err}
+use Rattle.std.specs.Prelude.{◌≡◌, ◌+◌, ◌<◌, ◌≤◌, ◌^◌, ⊤, ℕ, List, [], length, Option, Some, Result, Ok, Err}
 use Rattle.std.specs.Io.KnownBytes.{Consumes}
 use Rattle.dl_head.specs.declared.dialect.Dialect.{Dialect}
 use Rattle.dl_head.specs.Dialect.{version_5}
@@ -33,24 +33,25 @@ TellsFault (run.Damage offset kind) g = g ≡ record_of offset kind
 TellsFault (run.Emit offset f) g = g ≡ record_of offset UnitTooLong
 TellsFault other g = ⊥
 
--- a fault of the command for which memory, or the section's length, is to blame
-abbrev pub IsWant : RunFault → Type 0
-IsWant run.NoMemory = ⊤
-IsWant (run.Write out) = ⊤
-IsWant run.SectionTooLong = ⊤
-IsWant other = ⊥
+-- a fault of the command for which memory, or the section's length, is to blame; may_refuse: some memory of the kind is
+-- refused, which the copy is held in
+abbrev pub IsWant : (may_refuse : Type 0) → RunFault → Type 0
+IsWant may_refuse run.NoMemory = ⊤
+IsWant may_refuse (run.Write out) = out + 2 ^ 64 < 2 ^ 128 → may_refuse
+IsWant may_refuse run.SectionTooLong = ⊤
+IsWant may_refuse other = ⊥
 
 -- `copy`: of a room, a length and a fault, p, m and f before it, and q, n and g after it, only what the status says is
 -- written
-abbrev pub Copies : (refuses : ℕ → Type 0) → Dialect → (s p q : List ℕ) (m n : ℕ) (f g : FaultRecord) → Status → Type 0
-Copies refuses dialect s p q m n f g status.Done =
+abbrev pub Copies : (may_refuse : Type 0) (refuses : ℕ → Type 0) → Dialect → (s p q : List ℕ) (m n : ℕ) (f g : FaultRecord) → Status → Type 0
+Copies may_refuse refuses dialect s p q m n f g status.Done =
     (v : List ℕ) × (summary : Summary) × Runs refuses dialect s v (Ok summary) × Puts v p q n status.Done × (g ≡ f)
-Copies refuses dialect s p q m n f g status.NoRoom =
+Copies may_refuse refuses dialect s p q m n f g status.NoRoom =
     (v : List ℕ) × (summary : Summary) × Runs refuses dialect s v (Ok summary) × Puts v p q n status.NoRoom × (g ≡ f)
-Copies refuses dialect s p q m n f g status.Fault =
+Copies may_refuse refuses dialect s p q m n f g status.Fault =
     (v : List ℕ) × (r : RunFault) × Runs refuses dialect s v (Err r) × TellsFault r g × (q ≡ p) × (n ≡ m)
-Copies refuses dialect s p q m n f g status.OtherVersion =
+Copies may_refuse refuses dialect s p q m n f g status.OtherVersion =
     (v : List ℕ) × (offset : ℕ) × Runs refuses dialect s v (Err (run.ForeignUnit offset)) × (q ≡ p) × (n ≡ m) × (g ≡ f)
-Copies refuses dialect s p q m n f g status.NoMemory =
-    (v : List ℕ) × (r : RunFault) × Runs refuses dialect s v (Err r) × IsWant r × (q ≡ p) × (n ≡ m) × (g ≡ f)
-Copies refuses dialect s p q m n f g status.NoAnswer = ⊥
+Copies may_refuse refuses dialect s p q m n f g status.NoMemory =
+    (v : List ℕ) × (r : RunFault) × Runs refuses dialect s v (Err r) × IsWant may_refuse r × (q ≡ p) × (n ≡ m) × (g ≡ f)
+Copies may_refuse refuses dialect s p q m n f g status.NoAnswer = ⊥

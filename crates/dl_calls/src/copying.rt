@@ -2,40 +2,15 @@
 
 ghost use Rattle.dl_calls.specs.Calls.{dialect_of};
 ghost use Rattle.dl_calls.specs.CopyCalls.{Copies, Puts};
+ghost use Rattle.dl_memory.specs.Refusals.{MayRefuse};
 
 use crate::checking::dialect_of;
 use crate::record::FaultRecord;
 use crate::room::fill;
 use crate::status::Status;
 use dl_head::FaultKind;
-use dl_memory::{Memory, NoMemory};
+use dl_memory::{Held, Memory};
 use dl_run::{Options, RunFault, SECTION_LIMIT};
-use std::io;
-use std::io::{ErrorKind, Write};
-
-/// The copy of a section, held in memory.
-#[derive(Drop)]
-struct Held<'m, M> {
-    memory: &'m M,
-    bytes: Vec<u8>,
-}
-
-impl<M: Memory> Write for Held<'_, M> {
-    ghost use Rattle.std.specs.Prelude.{Some};
-
-    ghost contents = { λ held. Some held.bytes.items };
-
-    fn write(&mut self, bytes: &[u8]) -> io::Result<usize> {
-        match self.memory.extend_from_slice(&mut self.bytes, bytes) {
-            Ok(()) => Ok(bytes.len()),
-            Err(NoMemory) => Err(io::Error::from(ErrorKind::OutOfMemory)),
-        }
-    }
-
-    fn flush(&mut self) -> io::Result<()> {
-        Ok(())
-    }
-}
 
 /// Writes all units of a section anew, as `dl_run::copy` does.
 ///
@@ -51,7 +26,7 @@ pub fn copy<M: Memory>(
     len: &mut usize,
     fault: &mut FaultRecord,
 ) -> Status
-    ensures { Copies (M.refuses memory.now) (dialect_of how) section.now room.old room.new len.old len.new fault.old fault.new result }
+    ensures { Copies (MayRefuse M.refuses) (M.refuses memory.now) (dialect_of how) section.now room.old room.new len.old len.new fault.old fault.new result }
 {
     let options = Options {
         dialect: dialect_of(how),
@@ -60,10 +35,7 @@ pub fn copy<M: Memory>(
         limit: SECTION_LIMIT,
     };
     let mut input = section;
-    let mut held = Held {
-        memory,
-        bytes: Vec::new(memory.alloc()),
-    };
+    let mut held = Held::new(memory);
     match dl_run::copy(memory, &mut input, &mut held, &options) {
         Ok(_) => put(held.bytes.as_slice(), room, len),
         Err(RunFault::Damage { offset, kind }) => {

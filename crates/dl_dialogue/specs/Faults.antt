@@ -1,10 +1,12 @@
--- Why nothing is told of an address.
-use Rattle.std.specs.Prelude.{ℕ, List, Option, Result, Ok, Err}
+-- Why nothing is told of an address, and when a write is blamed.
+use Rattle.std.specs.Prelude.{⊤, ℕ, ◌+◌, ◌^◌, ◌<◌, List, Option, Result, Ok, Err, IfErr}
 use Rattle.std.specs.declared.io.Error.{Error}
 use Rattle.dl_memory.specs.Refusals.{WasRefused}
 use Rattle.dl_index_file.specs.Reading.{ReadFails}
 use Rattle.dl_index_file.specs.declared.fault.TextFault as text
 use Rattle.dl_index_file.specs.declared.fault.TextFault.TheVariants as of
+use Rattle.dl_dialogue.specs.declared.fault.AnswerFault.{AnswerFault}
+use Rattle.dl_dialogue.specs.declared.fault.AnswerFault.TheVariants as answer
 use Rattle.dl_dialogue.specs.declared.fault.TellFault.{TellFault}
 use Rattle.dl_dialogue.specs.declared.fault.TellFault.TheVariants.{NoMemory, Read}
 
@@ -25,3 +27,11 @@ of_text of.NoMemory = NoMemory
 abbrev pub as_told : Result (Unit {0}) text.TextFault → Result (Unit {0}) TellFault
 as_told (Ok x) = Ok x
 as_told (Err fault) = Err (of_text fault)
+
+-- a failed write is told only where the writer fails, or where so many bytes are out that 128 bits can't count more
+abbrev pub IsBlamed : (fails : Type 0) → AnswerFault → Type 0
+IsBlamed fails (answer.Write lost) = lost.out + 2 ^ 64 < 2 ^ 128 → fails
+IsBlamed fails other = ⊤
+
+abbrev pub BlamesWriter : {A : Type 0} → (fails : Type 0) → Result A AnswerFault → Type 0
+BlamesWriter fails result = IfErr result (IsBlamed fails)

@@ -6,7 +6,7 @@ ghost use Rattle.dl_addr.specs.Locations.{location_seen};
 ghost use Rattle.dl_addr.specs.Commands.{is_answered};
 ghost use Rattle.dl_addr.specs.declared.question.Found.TheVariants as all_found;
 ghost use Rattle.dl_dialogue.specs.Answers.{AnswersAll, Manner, Determines, answer_by};
-ghost use Rattle.dl_dialogue.specs.Faults.{TellFails};
+ghost use Rattle.dl_dialogue.specs.Faults.{BlamesWriter, TellFails};
 ghost use Rattle.dl_dialogue.specs.Standing.{stopped, written};
 ghost use Rattle.dl_dialogue.specs.Staying.{Stays};
 
@@ -15,9 +15,9 @@ use crate::telling::Tell;
 use dl_addr::{Found, Location, Style, print_location};
 use dl_look::Asked;
 use dl_memory::Memory;
+use dl_output::Destination;
 use dl_print::{Printer, WriteFault};
 use std::alloc::Global;
-use std::io::Write;
 
 /// What was answered, and how.
 #[derive(Drop)]
@@ -91,7 +91,7 @@ impl<'q> Answers<'q> {
     ghost use Rattle.std.specs.Io.KnownBytes.{Appends};
     ghost use Rattle.dl_dialogue.specs.Answers.{Determines, Manner, StopsBy, lines_by};
     ghost use Rattle.dl_asked.specs.AskedLines.{and_asked};
-    ghost use Rattle.dl_dialogue.specs.Faults.{TellFails};
+    ghost use Rattle.dl_dialogue.specs.Faults.{BlamesWriter, TellFails};
     ghost use Rattle.dl_dialogue.specs.Standing.{Stands};
     ghost use Rattle.dl_dialogue.specs.Staying.{Stays};
     ghost use Rattle.dl_print.specs.Printed.{Printed};
@@ -118,7 +118,7 @@ impl<'q> Answers<'q> {
     }
 
     /// Answers what is asked by a line, which may be held back.
-    pub fn answer<M: Memory, T: Tell, W: Write>(
+    pub fn answer<M: Memory, T: Tell, W: Destination>(
         &mut self,
         memory: &M,
         teller: &mut T,
@@ -133,6 +133,7 @@ impl<'q> Answers<'q> {
             → MatchResult result
             (λ _. Stands m start (W.contents output.new) (before ++ asked ∷ []) printer.new self.new)
             (StopsBy m (TellFails (T.fails_with first) (M.refuses memory.now)) start (W.contents output.new) (before ++ asked ∷ [])) }
+        ensures blames_writer { BlamesWriter W.fails result }
     {
         match told(memory, teller, self.base, asked, &mut self.path) {
             Ok(location) => {
@@ -144,7 +145,7 @@ impl<'q> Answers<'q> {
     }
 
     /// The same, where something is asked.
-    pub fn answer_if_asked<M: Memory, T: Tell, W: Write>(
+    pub fn answer_if_asked<M: Memory, T: Tell, W: Destination>(
         &mut self,
         memory: &M,
         teller: &mut T,
@@ -159,6 +160,7 @@ impl<'q> Answers<'q> {
             → MatchResult result
             (λ _. Stands m start (W.contents output.new) (before ++ and_asked asked []) printer.new self.new)
             (StopsBy m (TellFails (T.fails_with first) (M.refuses memory.now)) start (W.contents output.new) (before ++ and_asked asked [])) }
+        ensures blames_writer { BlamesWriter W.fails result }
     {
         match asked {
             Some(asked) => self.answer(memory, teller, printer, output, asked),
@@ -167,7 +169,7 @@ impl<'q> Answers<'q> {
     }
 
     /// The same, and writes all lines that were held back.
-    pub fn answer_last<M: Memory, T: Tell, W: Write>(
+    pub fn answer_last<M: Memory, T: Tell, W: Destination>(
         &mut self,
         memory: &M,
         teller: &mut T,
@@ -183,18 +185,24 @@ impl<'q> Answers<'q> {
             (λ _. Stands m start (W.contents output.new) (before ++ and_asked asked []) printer.new self.new
             × Appends start (W.contents output.new) (lines_by m (before ++ and_asked asked [])))
             (StopsBy m (TellFails (T.fails_with first) (M.refuses memory.now)) start (W.contents output.new) (before ++ and_asked asked [])) }
+        ensures blames_writer { BlamesWriter W.fails result }
     {
         self.answer_if_asked(memory, teller, printer, output, asked)?;
         self.flush(printer, output)
     }
 
     /// Writes the lines that were held back.
-    pub fn flush<W: Write>(&self, printer: &mut Printer, output: &mut W) -> Result<(), AnswerFault>
-        ensures { (m : Manner) (start : Option (List ℕ)) (asked : List question.Asked)
+    pub fn flush<W: Destination>(
+        &self,
+        printer: &mut Printer,
+        output: &mut W,
+    ) -> Result<(), AnswerFault>
+        ensures flushed { (m : Manner) (start : Option (List ℕ)) (asked : List question.Asked)
             → Stands m start (W.contents output.old) asked printer.old self.now → MatchResult result
             (λ _. Stands m start (W.contents output.new) asked printer.new self.now
             × Appends start (W.contents output.new) (lines_by m asked))
             (StopsBy m (λ _. ⊥) start (W.contents output.new) asked) }
+        ensures blames_writer { BlamesWriter W.fails result }
     {
         written(printer.flush(output))
     }
@@ -204,7 +212,7 @@ impl<'q> Answers<'q> {
 /// that there is none. All lines are written out.
 ///
 /// Where nothing can be told of an address, the lines of those before it are written out, and its fault is answered.
-pub fn answer_all<M: Memory, T: Tell, W: Write>(
+pub fn answer_all<M: Memory, T: Tell, W: Destination>(
     memory: &M,
     teller: &mut T,
     style: Style<'_>,
@@ -212,9 +220,10 @@ pub fn answer_all<M: Memory, T: Tell, W: Write>(
     asked: &[Asked],
     output: &mut W,
 ) -> Result<Found, AnswerFault>
-    ensures { (f : ℕ → Option locations.Location) → Determines (T.tells teller.old) f
+    ensures answers { (f : ℕ → Option locations.Location) → Determines (T.tells teller.old) f
         → AnswersAll (record { style = style.entry; base = base; told = f }) (TellFails (T.fails_with teller.old) (M.refuses memory.now)) asked.now
         (W.contents output.old) (W.contents output.new) result }
+    ensures blames_writer { BlamesWriter W.fails result }
 {
     let mut printer = Printer::new();
     let mut answers = Answers::new(memory.alloc(), style, base);

@@ -6,7 +6,7 @@ ghost use Rattle.dl_input.specs.Failing.{Blames};
 ghost use Rattle.dl_addr.specs.Location.{Location};
 ghost use Rattle.dl_dialogue.specs.Answers.{Determines};
 ghost use Rattle.dl_dialogue.specs.Dialogues.{AnswersLines, IsLong};
-ghost use Rattle.dl_dialogue.specs.Faults.{TellFails};
+ghost use Rattle.dl_dialogue.specs.Faults.{BlamesWriter, TellFails};
 
 use crate::answers::Answers;
 use crate::fault::AnswerFault;
@@ -15,10 +15,10 @@ use dl_addr::{Found, Style};
 use dl_asked::{CurrentLine, LastLine, OtherLine};
 use dl_input::Source;
 use dl_memory::Memory;
+use dl_output::Destination;
 use dl_print::Printer;
 use dl_run::Input;
 use std::alloc::Global;
-use std::io::Write;
 
 /// What came of all lines.
 #[derive(Debug, Drop)]
@@ -42,7 +42,7 @@ impl<'q> Dialogue<'q> {
     ghost use Rattle.dl_asked.specs.AskedLines.{asked_in};
     ghost use Rattle.dl_dialogue.specs.Answers.{Determines, Manner, StopsBy};
     ghost use Rattle.dl_dialogue.specs.Dialogues.{Talks, StopsIn, Ends};
-    ghost use Rattle.dl_dialogue.specs.Faults.{TellFails};
+    ghost use Rattle.dl_dialogue.specs.Faults.{BlamesWriter, TellFails};
     ghost use Rattle.dl_dialogue.specs.Standing.{Speaks};
     ghost use Rattle.dl_dialogue.specs.Staying.{Stays};
     ghost use Rattle.dl_print.specs.Printed.{Printed};
@@ -62,7 +62,7 @@ impl<'q> Dialogue<'q> {
 
     /// Takes the next piece of the input, and answers each line of it that has ended. Nothing is held back: when this is
     /// done, all answers are written out.
-    pub fn take<M: Memory, T: Tell, W: Write>(
+    pub fn take<M: Memory, T: Tell, W: Destination>(
         &mut self,
         memory: &M,
         teller: &mut T,
@@ -77,6 +77,7 @@ impl<'q> Dialogue<'q> {
             → MatchResult result
             (λ _. Talks m hex start (W.contents output.new) (done ++ piece.now) printer.new self.new)
             (StopsIn m hex (TellFails (T.fails_with first) (M.refuses memory.now)) start (W.contents output.new) (done ++ piece.now)) }
+        ensures blames_writer { BlamesWriter W.fails result }
     {
         for byte in piece {
             self.take_byte(memory, teller, printer, output, *byte)?;
@@ -85,7 +86,7 @@ impl<'q> Dialogue<'q> {
     }
 
     /// Takes a byte. The line that it ends is answered, which may be held back.
-    fn take_byte<M: Memory, T: Tell, W: Write>(
+    fn take_byte<M: Memory, T: Tell, W: Destination>(
         &mut self,
         memory: &M,
         teller: &mut T,
@@ -100,6 +101,7 @@ impl<'q> Dialogue<'q> {
             → MatchResult result
             (λ _. Speaks m hex start (W.contents output.new) (done ++ byte ∷ []) printer.new self.new)
             (StopsIn m hex (TellFails (T.fails_with first) (M.refuses memory.now)) start (W.contents output.new) (done ++ byte ∷ [])) }
+        ensures blames_writer { BlamesWriter W.fails result }
     {
         let asked = self.line.take(byte);
         self.answers
@@ -107,7 +109,7 @@ impl<'q> Dialogue<'q> {
     }
 
     /// Takes the end of the input, and answers the last line, where that lacks its 0x0a.
-    pub fn end<M: Memory, T: Tell, W: Write>(
+    pub fn end<M: Memory, T: Tell, W: Destination>(
         self,
         memory: &M,
         teller: &mut T,
@@ -120,6 +122,7 @@ impl<'q> Dialogue<'q> {
             → Talks m hex start (W.contents output.old) done printer.old self.entry
             → MatchResult result (Ends m hex start (W.contents output.new) done)
             (StopsBy m (TellFails (T.fails_with first) (M.refuses memory.now)) start (W.contents output.new) (asked_in hex done)) }
+        ensures blames_writer { BlamesWriter W.fails result }
     {
         let Dialogue { mut answers, line } = self;
         let LastLine { asked, no_address } = line.end();
@@ -140,7 +143,7 @@ impl<'q> Dialogue<'q> {
 ///
 /// `Input` where the reader fails: then each line that has ended was answered. Where nothing can be told of an address, the
 /// lines before it were answered. Memory is taken for one path.
-pub fn answer_lines<M: Memory, T: Tell, R: Source, W: Write>(
+pub fn answer_lines<M: Memory, T: Tell, R: Source, W: Destination>(
     memory: &M,
     teller: &mut T,
     style: Style<'_>,
@@ -156,6 +159,7 @@ pub fn answer_lines<M: Memory, T: Tell, R: Source, W: Write>(
     ensures blames { Blames R.follows R.fails input.old input.new ((result ≡ Err AnswerFault.Input)
         × ((f : ℕ → Option Location) × Determines (T.tells teller.old) f)
         × ¬ IsLong (R.remaining input.old) (R.remaining input.new)) }
+    ensures blames_writer { BlamesWriter W.fails result }
 {
     let mut buffer = Input::new();
     let mut printer = Printer::new();

@@ -5,7 +5,7 @@ ghost use Rattle.std.specs.Result.{result_err};
 ghost use Rattle.std.specs.IoError.{error_kind};
 ghost use Rattle.std.specs.declared.io.Error.{Error};
 ghost use Rattle.std.specs.Io.KnownBytes.{ReadConsumes};
-ghost use Rattle.dl_elf.specs.Reader.{reader_remaining, reader_error, ReaderFails, known_range};
+ghost use Rattle.dl_elf.specs.Reader.{reader_left, reader_remaining, reader_error, RangeFails, ReaderFails, Takes, known_range};
 
 use crate::source::{ReadAt, shorter};
 use std::io;
@@ -31,6 +31,8 @@ impl<'a, S: ReadAt> SectionReader<'a, S> {
     pub fn new(source: &'a S, offset: u64, size: u64) -> SectionReader<'a, S>
         ensures bytes { reader_remaining S.all_bytes result ≡ known_range (S.all_bytes source.entry.now) offset size }
         ensures error { reader_error result ≡ None }
+        ensures fails { (error : Error) → ReaderFails S.all_bytes S.fails_with result error
+            → RangeFails S.all_bytes S.fails_with source.entry.now offset size error }
     {
         SectionReader {
             source,
@@ -55,6 +57,7 @@ impl<'a, S: ReadAt> SectionReader<'a, S> {
         ensures fails { IfErr result (ReaderFails S.all_bytes S.fails_with self.old) }
         ensures later { (error : Error) → ReaderFails S.all_bytes S.fails_with self.new error
             → ReaderFails S.all_bytes S.fails_with self.old error }
+        ensures left { Takes (reader_left self.old) (reader_left self.new) result }
     {
         let room = shorter(buffer.len(), self.left);
         if room == 0 {
@@ -90,6 +93,7 @@ impl<'a, S: ReadAt> Read for SectionReader<'a, S> {
         ensures fails { IfErr result (ReaderFails S.all_bytes S.fails_with self.old) }
         ensures later { (error : Error) → ReaderFails S.all_bytes S.fails_with self.new error
             → ReaderFails S.all_bytes S.fails_with self.old error }
+        ensures left { Takes (reader_left self.old) (reader_left self.new) result }
         ensures error { reader_error self.new ≡ result_err result }
     {
         let result = self.read_next(buffer);

@@ -41,7 +41,7 @@ in_range_all h i out [] e = absurd cc
 in_range_all h i out (r ∷ rows) e =
     in_range (is_in_range h r) i out (out_of_range h (i + 1) rows) (in_range_all h (i + 1) out rows) e
 
-no_write : (h : Params) (out : ℕ) (rows : List Row) → rows_refusal h rows ≡ Some (fault.Write out) → ⊥
+pub no_write : (h : Params) (out : ℕ) (rows : List Row) → rows_refusal h rows ≡ Some (fault.Write out) → ⊥
 no_write h out rows e =
     in_range_all h 0 out rows (if_refused _ _ fault.OpcodeBase (fault.Write out) (λ same. absurd cc)
     (if_refused _ _ fault.Version (fault.Write out) (λ same. absurd cc) e))

@@ -1,6 +1,6 @@
 //! The program of a unit, which grows by rows. Section 6.2.5.
 
-ghost use Rattle.std.specs.Prelude.{◌≡◌, ◌≤◌, ◌+◌, ◌++◌, ◌∷◌, [], ℕ, List, length, take, IfOk, IfErr, OnOk, OnErr};
+ghost use Rattle.std.specs.Prelude.{◌≡◌, ◌≤◌, ◌+◌, ◌++◌, ◌∷◌, [], ℕ, List, Err, length, take, IfOk, IfErr, OnOk, OnErr};
 ghost use Rattle.dl_field.specs.declared.params.Params.{Params};
 ghost use Rattle.dl_field.specs.Layout.{standard_params};
 ghost use Rattle.dl_field.specs.Usable.{IsUsable};
@@ -20,9 +20,9 @@ use crate::unit::is_in_range;
 use dl_head::{Format, Header, Params, write_header};
 use dl_memory::{Memory, NoMemory};
 use dl_num::Order;
+use dl_output::Destination;
 use dl_rows::Row;
 use std::alloc::Global;
-use std::io::Write;
 use std::marker::Model;
 
 /// The program of a unit, which grows by rows. What is held of them is the bytes that are written for them.
@@ -150,11 +150,16 @@ impl Program {
     ///
     /// The faults are those of `write_unit`, in their order. With the program after it, it is read again as a unit of
     /// this header and exactly these rows.
-    pub fn write_header<W: Write>(&self, output: &mut W, header: &Header) -> Result<u64, EmitFault>
+    pub fn write_header<W: Destination>(
+        &self,
+        output: &mut W,
+        header: &Header,
+    ) -> Result<u64, EmitFault>
         ensures written { (rows : List Row) → IsGrown self.now self.now.order header.now.params rows
             → WritesUnitHeader self.now.order header.now rows (W.contents output.old) (W.contents output.new) result }
         ensures readable { (rows : List Row) → IsGrown self.now self.now.order header.now.params rows
             → OnOk result (IsUnitAgain (version_5 self.now.order) header.now rows) }
+        ensures blames { (out : ℕ) → result ≡ Err (EmitFault.Write out) → W.fails }
     {
         let params = header.params();
         if params.version != 5 {

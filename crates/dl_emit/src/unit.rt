@@ -1,7 +1,7 @@
 //! Units, measured and written. Section 6.2.4.
 
 ghost use Rattle.std.specs.Prelude.{◌≡◌, ◌<◌, ◌≤◌, ◌+◌, ◌^◌, ◌-◌, length, take, min, None, Some};
-ghost use Rattle.std.specs.Prelude.{IsTrue, IfOk, IfErr, OnOk};
+ghost use Rattle.std.specs.Prelude.{ℕ, Err, IsTrue, IfOk, IfErr, OnErr, OnOk};
 ghost use Rattle.dl_field.specs.Usable.{IsUsable};
 ghost use Rattle.dl_table.specs.Writing.{Writes};
 ghost use Rattle.dl_emit.specs.WrittenUnit.{is_in_range as is_in_range_of, rows_refusal, program_bytes};
@@ -18,8 +18,8 @@ use crate::program::{ROW, keep, put_row};
 use dl_head::counted::put;
 use dl_head::{HeadWrite, Header, Params, header_len, write_header};
 use dl_num::Order;
+use dl_output::Destination;
 use dl_rows::Row;
-use std::io::Write;
 
 /// How many bytes `write_unit` writes for this header and these rows, or why it writes none.
 pub fn measure(header: &Header, rows: &[Row]) -> Result<u64, EmitFault>
@@ -40,7 +40,7 @@ pub fn measure(header: &Header, rows: &[Row]) -> Result<u64, EmitFault>
 /// `TooLong` where unit_length would be above 0xffffffef in the 32-bit format or above 2^40 in the
 /// 64-bit format. After a write that failed exactly the first `out` bytes are out. What was written
 /// is read again as a unit of this header, which comes to exactly these rows.
-pub fn write_unit<W: Write>(
+pub fn write_unit<W: Destination>(
     output: &mut W,
     order: Order,
     header: &Header,
@@ -49,6 +49,7 @@ pub fn write_unit<W: Write>(
     ensures written { WritesUnit order header.now rows.now
         (W.contents output.old) (W.contents output.new) result }
     ensures readable { OnOk result (IsUnitAgain (version_5 order) header.now rows.now) }
+    ensures blames { (out : ℕ) → result ≡ Err (EmitFault.Write out) → W.fails }
 {
     let program_len = program_len(header.params(), rows)?;
     let out = write_header(output, order, header, program_len)?;
@@ -95,7 +96,7 @@ fn program_len(params: &Params, rows: &[Row]) -> Result<u64, EmitFault>
 }
 
 /// Writes the program of these rows on top of the `out` bytes that are out.
-fn write_program<W: Write>(
+fn write_program<W: Destination>(
     output: &mut W,
     mut out: u64,
     order: Order,
@@ -105,6 +106,7 @@ fn write_program<W: Write>(
     requires usable { IsUsable params.now }
     ensures written { Writes (W.contents output.old) (W.contents output.new) out
         (program_bytes order params.now rows.now) result }
+    ensures blames { OnErr result W.fails }
 {
     let mut buffer = [0; BUFFER_LEN];
     let mut held = 0;
@@ -118,7 +120,7 @@ fn write_program<W: Write>(
 }
 
 /// Writes the bytes that are held at the front of the buffer, where there is no room beside them for a row.
-fn make_room<W: Write>(
+fn make_room<W: Destination>(
     output: &mut W,
     out: u64,
     buffer: &[u8; BUFFER_LEN],
@@ -128,6 +130,7 @@ fn make_room<W: Write>(
     ensures written { Gathers (W.contents output.old) (W.contents output.new) out
         (take held.old buffer.now) (take held.new buffer.now) result }
     ensures room { OnOk result (held.new + ROW ≤ BUFFER_LEN) }
+    ensures blames { OnErr result W.fails }
 {
     if BUFFER_LEN - *held >= ROW {
         return Ok(out);

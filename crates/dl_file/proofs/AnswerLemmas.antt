@@ -1,5 +1,5 @@
 -- The forms of answers, from one part to the whole.
-use Rattle.std.proofs.Common.{◌≡◌, ◌∙◌, ℕ, zero, suc, List, Option, None, Some, Result, Ok, Err, refl, sym, ap, subst}
+use Rattle.std.proofs.Common.{◌≡◌, ℕ, List, Option, None, Some, Result, Ok, Err, refl, sym, ap}
 use Rattle.dl_elf.specs.declared.fault.ElfFault.{ElfFault}
 use Rattle.dl_elf.specs.declared.fault.ElfFault.TheVariants as fault
 use Rattle.dl_elf.specs.declared.fault.Part.TheVariants as part
@@ -9,20 +9,17 @@ use Rattle.dl_elf.specs.declared.name.SectionName.{SectionName}
 use Rattle.dl_elf.specs.Answers.{IfRead}
 use Rattle.dl_reloc.specs.declared.apply.RelocationFault.{RelocationFault}
 use Rattle.dl_reloc.specs.declared.apply.RelocationFault.TheVariants.{UnknownType, PlaceOutside, SymbolOutside, Damaged}
-use Rattle.dl_elf.specs.declared.compression.CompressionHeader.{CompressionHeader}
 use Rattle.dl_elf.specs.declared.named.NamedSection.{NamedSection}
-use Rattle.dl_elf.specs.Sections.{section_bytes, section_range}
 use Rattle.dl_file.specs.declared.content_reader.ContentReader.{ContentReader}
 use Rattle.dl_file.specs.declared.line_reader.LineReader.TheVariants.{File}
-use Rattle.dl_file.specs.LineTable.{Content, Gives, IsInflatedWith, IsLineBy, Plain, content_by, inflated_content}
-use Rattle.dl_file.specs.LineTable.{plain_content}
+use Rattle.dl_file.specs.LineTable.{Content, Gives, GivesLine, Inflated, IsLine, Plain, content, line_by}
 use Rattle.std.specs.Option.{option_map}
 use Rattle.std.specs.Result.{result_err}
 use Rattle.dl_file.specs.declared.read_fault.ReadFault.TheVariants.{Read}
 use Rattle.dl_file.specs.Faults.{Tells}
 use Rattle.dl_file.specs.ContentReader.{EndsBy}
-use Rattle.dl_file.specs.Relocations.{bytes_with, fault_of, line_bytes, relocations_of}
-use Rattle.dl_file.specs.Answering.{IsCounted, IsMade, OpensLine, StopsReading}
+use Rattle.dl_file.specs.Relocations.{fault_of, relocations_of}
+use Rattle.dl_file.specs.Answering.{IsCounted, IsHad, IsMade, OpensLine}
 
 -- a fault that is the answer
 pub fault_is_made : (answer : Result (List ℕ) ElfFault) (made : List ℕ) (why : ElfFault) → answer ≡ Err why
@@ -55,74 +52,45 @@ fault_counted number whole (fault.Read error) told is = tt
 fault_counted number whole (fault.Damaged part.SectionHeaders) told is = told is
 fault_counted number whole other told is = absurd is
 
--- ---- the line section. header: its compression header, where it is compressed
+-- ---- the line section
+
+-- a reader of its bytes is one of a line section
+line_of : {S : Type 0} {g : _} (all_bytes : S → Option (List ℕ)) (fails_with : S → Error → Type 0) (fails : Error → Type 0)
+    (reader : ContentReader S g) (content : Content) → Gives all_bytes fails_with fails reader content
+    → GivesLine all_bytes fails_with fails (File reader) content
+line_of all_bytes fails_with fails reader (Plain bytes) gives = gives
+line_of all_bytes fails_with fails reader (Inflated name bytes damage) gives = gives
 
 -- it has no relocations
-pub opened_line : {S : Type 0} {g : _} (all_bytes : S → Option (List ℕ)) (header : Option CompressionHeader) (e : Elf)
-    (f : List ℕ) (line : NamedSection) (Memory : Type 0) (reader : ContentReader S g)
-    → relocations_of e f line.number ≡ Some 0 → Gives all_bytes reader (content_by f line header)
-    → OpensLine all_bytes (IsLineBy header e f line) Memory (Ok (File reader))
-opened_line all_bytes None e f line Memory reader none gives =
-    (Plain (section_bytes line.header f), sym (ap plain_content (ap (bytes_with e f line) none)), gives)
-opened_line all_bytes (Some header) e f line Memory reader none gives =
-    let whole : Content = inflated_content line.name header (section_range line.header) f in (
-      whole,
-      subst (λ (n : Option ℕ). IsInflatedWith whole n (Ok whole)) (sym none) refl,
-      gives,
-    )
-
--- of a compressed section with relocations every fault is one of its faults
-any_fault : (whole : Content) (count : ℕ) (why : ElfFault) → ¬ (count ≡ 0)
-    → IsInflatedWith whole (Some count) (Err why)
-any_fault whole zero why some = absurd (some refl)
-any_fault whole (suc n) why some = tt
-
-any_bytes : (whole : Content) (count : ℕ) (bytes : List ℕ) → ¬ (count ≡ 0)
-    → IsInflatedWith whole (Some count) (Ok (Plain bytes))
-any_bytes whole zero bytes some = absurd (some refl)
-any_bytes whole (suc n) bytes some = (bytes, refl)
-
--- the answer of a section with `count` sections of relocations
-pub line_answers : (header : Option CompressionHeader) (e : Elf) (f : List ℕ) (line : NamedSection) (count : ℕ)
-    (why : ElfFault) → relocations_of e f line.number ≡ Some count → ¬ (count ≡ 0)
-    → (◌≡◌ {A = Option CompressionHeader} header None → line_bytes e f line ≡ Err why)
-    → IsLineBy header e f line (Err why)
-line_answers None e f line count why told some plain = sym (ap plain_content (plain refl))
-line_answers (Some header) e f line count why told some plain =
-    let whole : Content = inflated_content line.name header (section_range line.header) f in
-    subst (λ (n : Option ℕ). IsInflatedWith whole n (Err why)) (sym told) (any_fault whole count why some)
-
-pub line_has : (header : Option CompressionHeader) (e : Elf) (f : List ℕ) (line : NamedSection) (count : ℕ)
-    (bytes : List ℕ) → relocations_of e f line.number ≡ Some count → ¬ (count ≡ 0)
-    → (◌≡◌ {A = Option CompressionHeader} header None → line_bytes e f line ≡ Ok bytes)
-    → IsLineBy header e f line (Ok (Plain bytes))
-line_has None e f line count bytes told some plain = sym (ap plain_content (plain refl))
-line_has (Some header) e f line count bytes told some plain =
-    let whole : Content = inflated_content line.name header (section_range line.header) f in
-    subst (λ (n : Option ℕ). IsInflatedWith whole n (Ok (Plain bytes))) (sym told) (any_bytes whole count bytes some)
+pub opened_line : {S : Type 0} {g : _} (all_bytes : S → Option (List ℕ)) (fails_with : S → Error → Type 0)
+    (fails : Error → Type 0) (e : Elf) (f : List ℕ) (line : NamedSection) (Memory : Type 0) (reader : ContentReader S g)
+    → relocations_of e f line.number ≡ Some 0 → Gives all_bytes fails_with fails reader (content e f line)
+    → OpensLine all_bytes fails_with fails (IsLine e f line) Memory (Ok (File reader))
+opened_line all_bytes fails_with fails e f line Memory reader none gives = (
+  content e f line,
+  sym (ap (line_by e f line (content e f line)) none),
+  line_of all_bytes fails_with fails reader (content e f line) gives,
+)
 
 -- it has some, and its bytes can't be had
-pub unread_opens : {S : Type 0} (g : _) (all_bytes : S → Option (List ℕ)) (header : Option CompressionHeader) (e : Elf)
-    (f : List ℕ) (line : NamedSection) (Memory : Type 0) (Fails : Error → Type 0) (count : ℕ) (why : ElfFault)
-    → relocations_of e f line.number ≡ Some count → ¬ (count ≡ 0) → Memory
-    → (◌≡◌ {A = Option CompressionHeader} header None → StopsReading Fails why)
-    → OpensLine {g = g} all_bytes (IsLineBy header e f line) Memory (Err why)
-unread_opens g all_bytes header e f line Memory Fails count (fault.Read error) told some memory stops = tt
-unread_opens g all_bytes header e f line Memory Fails count fault.NoMemory told some memory stops = memory
-unread_opens g all_bytes header e f line Memory Fails count other told some memory stops =
-    line_answers header e f line count other told some (λ none. absurd (stops none))
+pub unread_opens : {S : Type 0} (g : _) (all_bytes : S → Option (List ℕ)) (fails_with : S → Error → Type 0)
+    (fails : Error → Type 0) (IsAnswer : Result Content ElfFault → Type 0) (Memory : Type 0)
+    (answer : Result (List ℕ) ElfFault) (why : ElfFault) → Memory
+    → ((first : ElfFault) → answer ≡ Err first → IsAnswer (Err first)) → IsHad answer (Err why)
+    → OpensLine {g = g} all_bytes fails_with fails IsAnswer Memory (Err why)
+unread_opens g all_bytes fails_with fails IsAnswer Memory answer (fault.Read error) memory is had = tt
+unread_opens g all_bytes fails_with fails IsAnswer Memory answer fault.NoMemory memory is had = memory
+unread_opens g all_bytes fails_with fails IsAnswer Memory answer other memory is had = is other had
 
 -- or its relocations can't be applied
-pub unmade_opens : {S : Type 0} (g : _) (all_bytes : S → Option (List ℕ)) (header : Option CompressionHeader) (e : Elf)
-    (f : List ℕ) (line : NamedSection) (Memory : Type 0) (answer : Result (List ℕ) ElfFault) (made : List ℕ) (count : ℕ)
-    (why : ElfFault) → relocations_of e f line.number ≡ Some count → ¬ (count ≡ 0) → Memory
-    → line_bytes e f line ≡ answer
-    → (◌≡◌ {A = Option CompressionHeader} header None → IsMade {A = Unit {0}} answer made (Err why))
-    → OpensLine {g = g} all_bytes (IsLineBy header e f line) Memory (Err why)
-unmade_opens g all_bytes header e f line Memory answer made count (fault.Read error) told some memory same is = tt
-unmade_opens g all_bytes header e f line Memory answer made count fault.NoMemory told some memory same is = memory
-unmade_opens g all_bytes header e f line Memory answer made count other told some memory same is =
-    line_answers header e f line count other told some (λ none. same ∙ is none)
+pub unmade_opens : {S : Type 0} (g : _) (all_bytes : S → Option (List ℕ)) (fails_with : S → Error → Type 0)
+    (fails : Error → Type 0) (IsAnswer : Result Content ElfFault → Type 0) (Memory : Type 0)
+    (answer : Result (List ℕ) ElfFault) (made : List ℕ) (why : ElfFault) → Memory
+    → ((first : ElfFault) → answer ≡ Err first → IsAnswer (Err first)) → IsMade {A = Unit {0}} answer made (Err why)
+    → OpensLine {g = g} all_bytes fails_with fails IsAnswer Memory (Err why)
+unmade_opens g all_bytes fails_with fails IsAnswer Memory answer made (fault.Read error) memory is made' = tt
+unmade_opens g all_bytes fails_with fails IsAnswer Memory answer made fault.NoMemory memory is made' = memory
+unmade_opens g all_bytes fails_with fails IsAnswer Memory answer made other memory is made' = is other made'
 
 -- ---- why a read failed
 

@@ -1,9 +1,9 @@
 -- What a reader of a compressed section gives.
-use Rattle.std.proofs.Common.{◌≡◌, inl, inr, ℕ, ◌+◌, ◌-◌, ◌<◌, ◌≤◌, ◌^◌, min, List, length, take, drop, Option}
+use Rattle.std.proofs.Common.{◌≡◌, inl, inr, true, ◌==◌, ℕ, ◌+◌, ◌-◌, ◌<◌, ◌≤◌, ◌^◌, min, List, length, take, drop, Option}
 use Rattle.std.proofs.Common.{Some, None, option_map, Result, Ok, Err, refl, sym, ap, ◌∙◌, arith}
 use Rattle.std.proofs.Common.{length-take}
 use Rattle.std.proofs.Common.{nat_lt}
-use Rattle.std.proofs.lemmas.Bool.{cases_Bool, ltb-false, ltb-true}
+use Rattle.std.proofs.lemmas.Bool.{cases_Bool, eqb-true, leb-true, ltb-false, ltb-true}
 use Rattle.std.proofs.lemmas.List.{drop-drop, drop-take}
 use Rattle.std.proofs.Math.ListN.{drop_of_length-le}
 use Rattle.std.proofs.Math.Logic.{∥∥₁_elim, ∥∥₁_prop}
@@ -12,7 +12,9 @@ use Rattle.std.specs.Io.KnownBytes.{Keeps, ReadConsumes}
 use Rattle.std.specs.declared.io.Error.{Error}
 use Rattle.dl_elf.specs.declared.compression.CompressionHeader.{CompressionHeader}
 use Rattle.dl_elf.specs.declared.file.Range.{Range}
-use Rattle.dl_elf.specs.Reader.{known_range}
+use Rattle.dl_elf.specs.Reader.{RangeFails, known_range}
+use Rattle.dl_elf.specs.Sections.{lies_within}
+use Rattle.dl_file.specs.Faults.{FailsOnly}
 use Rattle.dl_zlib.specs.Zlib.{given}
 use Rattle.dl_file.specs.Inflating.{damage, inflated, stream_in}
 use Rattle.dl_file.specs.ContentReader.{EndsBy, left_of}
@@ -148,3 +150,26 @@ fails_known told (Some b) old new (DamagedStream at) error buffer next = (
   ∥∥₁_elim next (hlevel props) (λ x. (x b refl).1.0),
   ∥∥₁_elim next (hlevel props) (λ x. (x b refl).1.1),
 )
+
+-- ---- with which errors the reads of a range fail
+
+-- a range that lies in the file doesn't end early
+pub not_early : (f : List ℕ) (offset size : ℕ) → lies_within offset size f ≡ true → 0 < size
+    → ¬ (length f < offset + size)
+not_early f offset size within some early = elim (cases_Bool (size == 0)) [
+  | inl none ↦ absurd (omega (arith, some, eqb-true size 0 none))
+  | inr more ↦ absurd (omega (arith, early, leb-true (offset + size) (length f) (rw more at within)))
+]
+
+-- nor does the stream in it
+pub stream_not_early : (f : List ℕ) (offset size front at left : ℕ) → lies_within offset size f ≡ true → length f < 2 ^ 64
+    → at ≡ min (offset + front) (2 ^ 64 - 1) → left ≡ size - front → 0 < left → ¬ (length f < at + left)
+stream_not_early f offset size front at left within short place few some early =
+    not_early f offset size within (omega (arith, few, some)) (omega (arith, early, place, few, some))
+
+pub range_only : {S : Type 0} (all_bytes : S → Option (List ℕ)) (fails_with : S → Error → Type 0) (source : S) (f : List ℕ)
+    (offset size : ℕ) → all_bytes source ≡ Some f → length f < 2 ^ 64 → (0 < size → ¬ (length f < offset + size))
+    → FailsOnly (RangeFails all_bytes fails_with source offset size) (fails_with source)
+range_only all_bytes fails_with source f offset size is short lies error (inl given) = given
+range_only all_bytes fails_with source f offset size is short lies error (inr early) =
+    absurd (lies early.1 (early.2 f is short))

@@ -1,8 +1,9 @@
 -- The sections of units of .debug_info.
 use Rattle.std.proofs.Common.{◌≡◌, ◌⊎◌, ℕ, Bool, true, false, List, Option, Some, None, Result, Ok, Err, MatchOption}
-use Rattle.std.proofs.Common.{MatchResult, refl, sym, ap, subst, option_map}
+use Rattle.std.proofs.Common.{MatchResult, refl, sym, subst, option_map}
 use Rattle.std.specs.Prelude.{if◌then◌else◌, ◌||◌, is_some}
 use Rattle.std.specs.Option.{option_and_then}
+use Rattle.std.specs.declared.io.Error.{Error}
 use Rattle.dl_elf.specs.Compressed.{section_damage}
 use Rattle.dl_elf.specs.declared.fault.ElfFault.{ElfFault}
 use Rattle.dl_elf.specs.declared.fault.ElfFault.TheVariants as fault
@@ -16,6 +17,7 @@ use Rattle.dl_elf.specs.Sections.{opened, range_within, section_range}
 use Rattle.dl_file.specs.declared.info_file.InfoFile.{InfoFile}
 use Rattle.dl_file.specs.declared.info_file.InfoSections.{InfoSections}
 use Rattle.dl_file.specs.declared.line_reader.LineReader.{LineReader}
+use Rattle.dl_file.specs.Answering.{InfoLiesIn, LiesIn}
 use Rattle.dl_file.specs.InfoTable.{HasInfo, InfoTable, IsInfoOf, OpensUnits, info_sections, named_section}
 use Rattle.dl_file.specs.InfoTable.{OpensInfo, OpensInfoOf, TakesMemoryForInfo, readable}
 use Rattle.dl_file.specs.LineTable.{Content, GivesLine, HasStream, IsLine, option_or, refused}
@@ -26,20 +28,20 @@ abbrev UnitsMemory : Elf → List ℕ → InfoSections → Type 0
 UnitsMemory e f c = HasRelocations e f c.info.number ⊎ HasStream e f (Some c.info)
 
 -- its relocations can't be applied
-pub no_units : {S : Type 0} {g : _} (all_bytes : S → Option (List ℕ)) (e : Elf) (f : List ℕ) (c : InfoSections)
+pub no_units : {S : Type 0} {g : _} (all_bytes : S → Option (List ℕ)) (fails_with : S → Error → Type 0) (fails : Error → Type 0) (e : Elf) (f : List ℕ) (c : InfoSections)
     (found : Option (LineReader S g)) → found ≡ None
-    → OpensUnits all_bytes (IsLine e f c.info) (UnitsMemory e f c) (Ok found)
+    → OpensUnits all_bytes fails_with fails (IsLine e f c.info) (UnitsMemory e f c) (Ok found)
     → (t : Option InfoTable) × IsInfoOf e f c t × (t ≡ None)
-no_units all_bytes e f c None is (first, answer) = (None, (Err first, answer, refl), refl)
-no_units all_bytes e f c (Some reader) is opens = absurd (cc is)
+no_units all_bytes fails_with fails e f c None is (first, answer) = (None, (Err first, answer, refl), refl)
+no_units all_bytes fails_with fails e f c (Some reader) is opens = absurd (cc is)
 
 -- there is a reader of its bytes
-pub some_units : {S : Type 0} {g : _} (all_bytes : S → Option (List ℕ)) (e : Elf) (f : List ℕ) (c : InfoSections)
+pub some_units : {S : Type 0} {g : _} (all_bytes : S → Option (List ℕ)) (fails_with : S → Error → Type 0) (fails : Error → Type 0) (e : Elf) (f : List ℕ) (c : InfoSections)
     (found : Option (LineReader S g)) (reader : LineReader S g) → found ≡ Some reader
-    → OpensUnits all_bytes (IsLine e f c.info) (UnitsMemory e f c) (Ok found)
-    → (info : Content) × IsLine e f c.info (Ok info) × GivesLine all_bytes reader info
-some_units {S = S} {g = g} all_bytes e f c found reader is opens =
-    subst (λ (o : Option (LineReader S g)). OpensUnits all_bytes (IsLine e f c.info) (UnitsMemory e f c) (Ok o)) is opens
+    → OpensUnits all_bytes fails_with fails (IsLine e f c.info) (UnitsMemory e f c) (Ok found)
+    → (info : Content) × IsLine e f c.info (Ok info) × GivesLine all_bytes fails_with fails reader info
+some_units {S = S} {g = g} all_bytes fails_with fails e f c found reader is opens =
+    subst (λ (o : Option (LineReader S g)). OpensUnits all_bytes fails_with fails (IsLine e f c.info) (UnitsMemory e f c) (Ok o)) is opens
 
 -- what the sections come to is what the file comes to
 pub has_info : (f : List ℕ) (e : Elf) (at : Sections) (t : Option InfoTable) → Ok e ≡ opened f → AreFound e f at
@@ -77,10 +79,14 @@ named_within : (e : Elf) (f : List ℕ) (o : Option NamedSection) (r : NamedSect
 named_within e f None r is = absurd (cc is)
 named_within e f (Some s) r is = readable_within e f s r is
 
+lies_in : (e : Elf) (f : List ℕ) (o n : Option NamedSection) → option_and_then (readable e f) o ≡ n → LiesIn f n
+lies_in e f o None is = tt
+lies_in e f o (Some r) is = named_within e f o r is
+
 pub info_within : (e : Elf) (f : List ℕ) (at : Sections) (c : InfoSections) → Some c ≡ info_sections e f at
-    → range_within (section_range c.info.header) f ≡ true
+    → InfoLiesIn f c
 info_within e f at c is =
-    by (named_section e f at DebugInfo ZdebugInfo) (named_section e f at DebugAbbrev ZdebugAbbrev) refl is
+    by (named_section e f at DebugInfo ZdebugInfo) (named_section e f at DebugAbbrev ZdebugAbbrev) refl refl is
   where
     with_both : NamedSection → NamedSection → InfoSections
     with_both info abbreviations = record {
@@ -92,22 +98,28 @@ info_within e f at c is =
     }
 
     by : (o p : Option NamedSection) → named_section e f at DebugInfo ZdebugInfo ≡ o
-        → Some c ≡ option_and_then (λ info. option_map (with_both info) p) o
-        → range_within (section_range c.info.header) f ≡ true
-    by None p found is = absurd (cc is)
-    by (Some info) None found is = absurd (cc is)
-    by (Some info) (Some abbreviations) found is =
+        → named_section e f at DebugAbbrev ZdebugAbbrev ≡ p
+        → Some c ≡ option_and_then (λ info. option_map (with_both info) p) o → InfoLiesIn f c
+    by None p found besides is = absurd (cc is)
+    by (Some info) None found besides is = absurd (cc is)
+    by (Some info) (Some abbreviations) found besides is =
         let both : c ≡ with_both info abbreviations = cc is in
-        subst (λ (n : NamedSection). range_within (section_range n.header) f ≡ true)
-        (sym (ap (λ (x : InfoSections). x.info) both)) (named_within e f (option_or (at DebugInfo) (at ZdebugInfo)) info found)
+        let lie : InfoLiesIn f (with_both info abbreviations) = record {
+          info = named_within e f (option_or (at DebugInfo) (at ZdebugInfo)) info found;
+          abbreviations = named_within e f (option_or (at DebugAbbrev) (at ZdebugAbbrev)) abbreviations besides;
+          str_offsets = lies_in e f (option_or (at DebugStrOffsets) (at ZdebugStrOffsets)) _ refl;
+          str = lies_in e f (option_or (at DebugStr) (at ZdebugStr)) _ refl;
+          line_str = lies_in e f (option_or (at DebugLineStr) (at ZdebugLineStr)) _ refl;
+        } in
+        subst (λ (x : InfoSections). InfoLiesIn f x) (sym both) lie
 
 -- what opening the sections that were found answers is what opening the file does
-pub opens_info : {S : Type 0} {g : _} (all_bytes : S → Option (List ℕ)) (f : List ℕ) (e : Elf) (at : Sections)
+pub opens_info : {S : Type 0} {g : _} (all_bytes : S → Option (List ℕ)) (fails_with : S → Error → Type 0) (fails : Error → Type 0) (f : List ℕ) (e : Elf) (at : Sections)
     (c : InfoSections) (result : Result (Option (InfoFile S g)) ElfFault) → Ok e ≡ opened f → AreFound e f at
-    → Some c ≡ info_sections e f at → OpensInfoOf all_bytes (IsInfoOf e f c) (TakesMemoryForInfo e f c) result
-    → OpensInfo all_bytes f result
-opens_info all_bytes f e at c (Ok file) is found these (t, has, gives) =
+    → Some c ≡ info_sections e f at → OpensInfoOf all_bytes fails_with fails (IsInfoOf e f c) (TakesMemoryForInfo e f c) result
+    → OpensInfo all_bytes fails_with fails f result
+opens_info all_bytes fails_with fails f e at c (Ok file) is found these (t, has, gives) =
     (t, has_info f e at t is found (of_sections e f at (Some c) t these has), gives)
-opens_info all_bytes f e at c (Err (fault.Read error)) is found these opens = opens
-opens_info all_bytes f e at c (Err fault.NoMemory) is found these opens = (e, sym is, at, found, c, sym these, opens)
-opens_info all_bytes f e at c (Err other) is found these opens = opens
+opens_info all_bytes fails_with fails f e at c (Err (fault.Read error)) is found these opens = opens
+opens_info all_bytes fails_with fails f e at c (Err fault.NoMemory) is found these opens = (e, sym is, at, found, c, sym these, opens)
+opens_info all_bytes fails_with fails f e at c (Err other) is found these opens = opens

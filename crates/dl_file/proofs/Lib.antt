@@ -10,3 +10,4 @@ pub mod DamageLemmas
 pub mod FollowLemmas
 pub mod PlaceLemmas
 pub mod InfoLemmas
+pub mod WholeLemmas

@@ -1,13 +1,19 @@
 -- The answer of a file whose headers were read.
 use Rattle.std.proofs.Common.{◌≡◌, ℕ, ◌*◌, ◌==◌, not, nat_le, nat_lt, List, Option, None, Some, Result, Ok, Err}
-use Rattle.std.proofs.Common.{MatchResult, MatchOption, inl, inr, option_map, refl, sym, subst}
+use Rattle.std.proofs.Common.{MatchResult, MatchOption, inl, inr, option_map, refl, sym, subst, true, ◌∙◌}
 use Rattle.std.proofs.lemmas.Bool.{cases_Bool}
+use Rattle.std.specs.declared.io.Error.{Error}
 use Rattle.dl_elf.specs.declared.header.FileHeader.{FileHeader}
 use Rattle.dl_elf.specs.declared.section.SectionHeader.{SectionHeader}
 use Rattle.dl_elf.specs.declared.file.Elf.{Elf}
 use Rattle.dl_elf.specs.declared.fault.ElfFault.{ElfFault}
 use Rattle.dl_elf.specs.declared.fault.ElfFault.TheVariants as fault
 use Rattle.dl_elf.specs.Answers.{Answers}
+use Rattle.dl_elf.specs.Compressed.{section_damage}
+use Rattle.dl_elf.specs.declared.fault.Part.{Part}
+use Rattle.dl_elf.specs.declared.fault.Part.TheVariants as part
+use Rattle.dl_elf.specs.declared.named.NamedSection.{NamedSection}
+use Rattle.std.specs.Option.{option_and_then}
 use Rattle.dl_elf.specs.Elf.{file_header, section_header_size}
 use Rattle.dl_elf.specs.Sections.{counted, from_first, lies_within, opened, opened_with, range_within, section_count}
 use Rattle.dl_elf.specs.Sections.{name_table_number, section_in, section_range, with_names}
@@ -18,10 +24,10 @@ use Rattle.dl_elf.specs.Found.{AreFound, Sections}
 use Rattle.dl_file.specs.declared.line_file.Chosen.{Chosen}
 use Rattle.dl_file.specs.declared.line_file.Wanted.{Wanted}
 use Rattle.dl_file.specs.declared.line_file.LineFile.{LineFile}
-use Rattle.dl_file.specs.Answering.{OpensTable}
+use Rattle.dl_file.specs.Answering.{LiesIn, OpensTable}
 use Rattle.dl_file.specs.LineTable.{Content, HasLineTable, IsLine, IsLineTable, IsTableOf, LineTable, Opens, chosen}
 use Rattle.dl_file.specs.LineTable.{IsWithoutLineSection, TakesMemoryFor, first_damage, first_refused}
-use Rattle.dl_file.specs.LineTable.{with_line}
+use Rattle.dl_file.specs.LineTable.{option_or, with_line}
 
 -- none of the wanted sections has damage, and none is compressed otherwise than with zlib
 pub table_whole : (e : Elf) (f : List ℕ) (c : Chosen) (line : Result Content ElfFault)
@@ -29,6 +35,35 @@ pub table_whole : (e : Elf) (f : List ℕ) (c : Chosen) (line : Result Content E
     → first_damage e f c ≡ None → first_refused e f c ≡ None → IsLine e f c.line line → result ≡ with_line e f c line
     → IsTableOf e f c result
 table_whole e f c line result undamaged unrefused is table = rw (undamaged, unrefused) (line, is, table)
+
+-- sections without damage lie in the file
+lies : (e : Elf) (f : List ℕ) (s : NamedSection) (found : Option Part) → found ≡ section_damage e f s → found ≡ None
+    → range_within (section_range s.header) f ≡ true
+lies e f s found is none = elim (cases_Bool (range_within (section_range s.header) f)) [
+  | inl within ↦ within
+  | inr out ↦ (let damaged : section_damage e f s ≡ Some (part.Section s.name) = rw out refl in
+      absurd (cc (sym none ∙ (is ∙ damaged))))
+]
+
+lies_where : (e : Elf) (f : List ℕ) (o : Option NamedSection) → option_and_then (section_damage e f) o ≡ None → LiesIn f o
+lies_where e f None none = tt
+lies_where e f (Some s) none = lies e f s (section_damage e f s) refl none
+
+second_none : {A : Type 0} (o p : Option A) → ◌≡◌ {A = Option A} (option_or o p) None → ◌≡◌ {A = Option A} p None
+second_none None p is = is
+second_none (Some x) p is = absurd (cc is)
+
+first_none : {A : Type 0} (o p : Option A) → ◌≡◌ {A = Option A} (option_or o p) None → ◌≡◌ {A = Option A} o None
+first_none None p is = refl
+first_none (Some x) p is = absurd (cc is)
+
+pub strings_lie : (e : Elf) (f : List ℕ) (c : Chosen) → first_damage e f c ≡ None
+    → LiesIn f c.debug_line_str × LiesIn f c.debug_str
+strings_lie e f c none =
+    let both = second_none (section_damage e f c.line) _ none in (
+      lies_where e f c.debug_line_str (first_none (option_and_then (section_damage e f) c.debug_line_str) _ both),
+      lies_where e f c.debug_str (second_none (option_and_then (section_damage e f) c.debug_line_str) _ both),
+    )
 
 -- what the sections of the names come to is what the file comes to
 pub has_table : (f : List ℕ) (e : Elf) (at : Sections) (wanted : Wanted) (result : Result LineTable ElfFault)
@@ -83,12 +118,12 @@ header_free f (Some h) = elim (cases_Bool (h.table_offset == 0)) [
 -- ---- what open_line_file answers
 
 -- the fault of a file whose headers can't be read
-pub opens_fault : {S : Type 0} (g : _) (all_bytes : S → Option (List ℕ)) (f : List ℕ) (wanted : Wanted) (why : ElfFault)
-    → Answers (opened f) (Err why) → Opens {g = g} all_bytes f wanted (Err why)
-opens_fault g all_bytes f wanted (fault.Read error) is = tt
-opens_fault g all_bytes f wanted fault.NoMemory is =
+pub opens_fault : {S : Type 0} (g : _) (all_bytes : S → Option (List ℕ)) (fails_with : S → Error → Type 0) (fails : Error → Type 0) (f : List ℕ) (wanted : Wanted) (why : ElfFault)
+    → Answers (opened f) (Err why) → Opens {g = g} all_bytes fails_with fails f wanted (Err why)
+opens_fault g all_bytes fails_with fails f wanted (fault.Read error) is = tt
+opens_fault g all_bytes fails_with fails f wanted fault.NoMemory is =
     absurd (subst MemoryIsFree (sym is) (header_free f (file_header f)))
-opens_fault g all_bytes f wanted other is =
+opens_fault g all_bytes fails_with fails f wanted other is =
     let P : Result Elf ElfFault → Type 0 =
     λ r. MatchResult r (λ e. (at : Sections) × AreFound e f at × IsLineTable e f at wanted (Err other))
     (λ first. ◌≡◌ {A = Result LineTable ElfFault} (Err other) (Err first)) in
@@ -102,16 +137,16 @@ is_table e f at wanted c result is table =
     λ slot. MatchOption slot (IsWithoutLineSection e f at result) (λ c. IsTableOf e f c result) in subst P is table
 
 -- what the wanted sections come to is what the file comes to
-pub opens_table : {S : Type 0} {g : _} (all_bytes : S → Option (List ℕ)) (f : List ℕ) (wanted : Wanted) (e : Elf)
+pub opens_table : {S : Type 0} {g : _} (all_bytes : S → Option (List ℕ)) (fails_with : S → Error → Type 0) (fails : Error → Type 0) (f : List ℕ) (wanted : Wanted) (e : Elf)
     (at : Sections) (c : Chosen) (result : Result (LineFile S g) ElfFault) → Ok e ≡ opened f → AreFound e f at
-    → Some c ≡ chosen at wanted → OpensTable all_bytes (IsTableOf e f c) (TakesMemoryFor e f c) result
-    → Opens all_bytes f wanted result
-opens_table all_bytes f wanted e at c (Ok file) is found these (t, table, gives) =
+    → Some c ≡ chosen at wanted → OpensTable all_bytes fails_with fails (IsTableOf e f c) (TakesMemoryFor e f c) result
+    → Opens all_bytes fails_with fails f wanted result
+opens_table all_bytes fails_with fails f wanted e at c (Ok file) is found these (t, table, gives) =
     (t, has_table f e at wanted (Ok t) is found (is_table e f at wanted c (Ok t) these table), gives)
-opens_table all_bytes f wanted e at c (Err (fault.Read error)) is found these table = tt
-opens_table all_bytes f wanted e at c (Err fault.NoMemory) is found these has =
+opens_table all_bytes fails_with fails f wanted e at c (Err (fault.Read error)) is found these table = tt
+opens_table all_bytes fails_with fails f wanted e at c (Err fault.NoMemory) is found these has =
     (e, sym is, at, found, c, sym these, has)
-opens_table all_bytes f wanted e at c (Err other) is found these table =
+opens_table all_bytes fails_with fails f wanted e at c (Err other) is found these table =
     has_table f e at wanted (Err other) is found (is_table e f at wanted c (Err other) these table)
 
 -- there is no line section

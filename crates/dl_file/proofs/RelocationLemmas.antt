@@ -1,8 +1,8 @@
 -- Sections of relocations, one section header further on.
 use Rattle.std.proofs.Common.{◌≡◌, ℕ, zero, suc, ◌+◌, ◌-◌, ◌<◌, ◌≤◌, true, false}
-use Rattle.std.proofs.Common.{Bool, if◌then◌else◌, nat_le, List, Option}
+use Rattle.std.proofs.Common.{Bool, if◌then◌else◌, List, Option}
 use Rattle.std.proofs.Common.{Some, None, Ok, Err, arith, inl, inr, refl, ap, ◌∙◌}
-use Rattle.std.proofs.lemmas.Bool.{cases_lt, le-leb, lt-leb}
+use Rattle.std.proofs.lemmas.Bool.{cases_lt, le-ltb, lt-ltb}
 use Rattle.std.proofs.lemmas.Option.{none-some, same_Some}
 use Rattle.dl_elf.specs.declared.file.Elf.{Elf}
 use Rattle.dl_elf.specs.declared.named.NamedSection.{NamedSection}
@@ -12,8 +12,9 @@ use Rattle.dl_elf.specs.declared.fault.ElfFault.TheVariants as fault
 use Rattle.dl_elf.specs.declared.fault.Part.TheVariants as part
 use Rattle.dl_elf.specs.Elf.{is_object, relocates}
 use Rattle.dl_elf.specs.Forward.{IsBackward}
-use Rattle.dl_elf.specs.Sections.{section_bytes, section_in}
-use Rattle.dl_file.specs.Relocations.{HasRelocations, and_then, line_bytes, bytes_with, relocated_at, relocated_upto}
+use Rattle.dl_elf.specs.Sections.{section_in}
+use Rattle.dl_file.specs.LineTable.{Content, held_bytes, line_by, plain_content}
+use Rattle.dl_file.specs.Relocations.{HasRelocations, and_then, relocated_at, relocated_upto}
 use Rattle.dl_file.specs.Relocations.{relocated_if, relocations_at, relocations_in, relocations_of}
 use Rattle.dl_file.specs.Relocations.{relocations_upto, sum_of}
 
@@ -82,28 +83,31 @@ some_relocations e f number (suc n) told some = (n, told)
 
 -- ---- what they make of the line section
 
--- a file without relocations of its line section
-pub bytes_without : (e : Elf) (f : List ℕ) (line : NamedSection) (n : ℕ)
-    → relocations_of e f line.number ≡ Some n → n ≡ 0 → line_bytes e f line ≡ Ok (section_bytes line.header f)
-bytes_without e f line n told none = ap (bytes_with e f line) (told ∙ ap Some none)
-
 -- with more than are taken
-pub bytes_refused : (e : Elf) (f : List ℕ) (line : NamedSection) (n : ℕ)
-    → relocations_of e f line.number ≡ Some n → 16 < n
-    → line_bytes e f line ≡ Err (fault.Damaged (part.Relocations line.name))
-bytes_refused e f line zero told many = absurd (omega (arith, many))
-bytes_refused e f line (suc n) told many =
-    let past : nat_le 16 n ≡ true = le-leb 16 n (omega (arith, many)) in
-    ap (bytes_with e f line) told ∙ rw past refl
+pub line_refused : (e : Elf) (f : List ℕ) (line : NamedSection) (whole : Content) (n : ℕ) → 16 < n
+    → line_by e f line whole (Some n) ≡ Err (fault.Damaged (part.Relocations line.name))
+line_refused e f line whole zero many = absurd (omega (arith, many))
+line_refused e f line whole (suc n) many = rw (lt-ltb 16 (suc n) many) refl
 
 -- with as many as are taken
-pub bytes_relocated : (e : Elf) (f : List ℕ) (line : NamedSection) (n : ℕ)
-    → relocations_of e f line.number ≡ Some n → ¬ (n ≡ 0) → n ≤ 16
-    → line_bytes e f line ≡ relocated_upto e f line (e.count - 1)
-bytes_relocated e f line zero told some few = absurd (some refl)
-bytes_relocated e f line (suc n) told some few =
-    let past : nat_le 16 n ≡ false = lt-leb 16 n (omega (arith, few)) in
-    ap (bytes_with e f line) told ∙ rw past refl
+line_taken : (e : Elf) (f : List ℕ) (line : NamedSection) (whole : Content) (n : ℕ) → ¬ (n ≡ 0) → n ≤ 16
+    → line_by e f line whole (Some n)
+    ≡ plain_content (and_then (λ b. relocated_upto e f line b (e.count - 1)) (held_bytes whole))
+line_taken e f line whole zero some few = absurd (some refl)
+line_taken e f line whole (suc n) some few = rw (le-ltb 16 (suc n) few) refl
+
+pub line_made : (e : Elf) (f : List ℕ) (line : NamedSection) (whole : Content) (n : ℕ) (b : List ℕ) → ¬ (n ≡ 0) → n ≤ 16
+    → held_bytes whole ≡ Ok b
+    → line_by e f line whole (Some n) ≡ plain_content (relocated_upto e f line b (e.count - 1))
+line_made e f line whole n b some few held =
+    line_taken e f line whole n some few
+    ∙ ap (λ r. plain_content (and_then (λ b. relocated_upto e f line b (e.count - 1)) r)) held
+
+pub line_unread : (e : Elf) (f : List ℕ) (line : NamedSection) (whole : Content) (n : ℕ) (why : ElfFault) → ¬ (n ≡ 0)
+    → n ≤ 16 → held_bytes whole ≡ Err why → line_by e f line whole (Some n) ≡ Err why
+line_unread e f line whole n why some few held =
+    line_taken e f line whole n some few
+    ∙ ap (λ r. plain_content (and_then (λ b. relocated_upto e f line b (e.count - 1)) r)) held
 
 pub no_sum : (m n : Option ℕ) → sum_of m n ≡ Some 0 → (m ≡ Some 0) × (n ≡ Some 0)
 no_sum None n is = absurd (none-some 0 is)
@@ -123,49 +127,49 @@ not_relocated e f line None b is = absurd (none-some 0 is)
 not_relocated e f line (Some s) b is = rw (not_one (relocates line.number s) is) refl
 
 -- sections of which none is of relocations
-pub none_relocated : (e : Elf) (f : List ℕ) (line : NamedSection) (n : ℕ)
-    → relocations_upto e f line.number n ≡ Some 0 → relocated_upto e f line n ≡ Ok (section_bytes line.header f)
-none_relocated e f line zero is = refl
-none_relocated e f line (suc n) is =
+pub none_relocated : (e : Elf) (f : List ℕ) (line : NamedSection) (b : List ℕ) (n : ℕ)
+    → relocations_upto e f line.number n ≡ Some 0 → relocated_upto e f line b n ≡ Ok b
+none_relocated e f line b zero is = refl
+none_relocated e f line b (suc n) is =
     let p = no_sum (relocations_upto e f line.number n) (relocations_at e f line.number (suc n)) is in
-    ap (and_then (relocated_at e f line (suc n))) (none_relocated e f line n p.0)
-    ∙ not_relocated e f line (section_in e.header f (suc n)) (section_bytes line.header f) p.1
+    ap (and_then (relocated_at e f line (suc n))) (none_relocated e f line b n p.0)
+    ∙ not_relocated e f line (section_in e.header f (suc n)) b p.1
 
 -- those of section n, after those before it
-pub next_relocated : (e : Elf) (f : List ℕ) (line : NamedSection) (n : ℕ) (before after : List ℕ) → 1 ≤ n
-    → relocated_upto e f line (n - 1) ≡ Ok before → relocated_at e f line n before ≡ Ok after
-    → relocated_upto e f line (n + 1 - 1) ≡ Ok after
-next_relocated e f line n before after from so_far next =
+pub next_relocated : (e : Elf) (f : List ℕ) (line : NamedSection) (b : List ℕ) (n : ℕ) (before after : List ℕ) → 1 ≤ n
+    → relocated_upto e f line b (n - 1) ≡ Ok before → relocated_at e f line n before ≡ Ok after
+    → relocated_upto e f line b (n + 1 - 1) ≡ Ok after
+next_relocated e f line b n before after from so_far next =
     let on : n + 1 - 1 ≡ suc (n - 1) = omega (arith, from) in
     let back : suc (n - 1) ≡ n = omega (arith, from) in
-    ap (λ k. relocated_upto e f line k) on
+    ap (λ k. relocated_upto e f line b k) on
     ∙ (ap (and_then (relocated_at e f line (suc (n - 1)))) so_far
     ∙ (ap (λ k. relocated_at e f line k before) back ∙ next))
 
 -- a fault decides, whatever follows
-fault_stays : (e : Elf) (f : List ℕ) (line : NamedSection) (end n : ℕ) (first : ElfFault) → n ≤ end
-    → relocated_upto e f line n ≡ Err first → relocated_upto e f line end ≡ Err first
-fault_stays e f line zero n first le is =
+fault_stays : (e : Elf) (f : List ℕ) (line : NamedSection) (b : List ℕ) (end n : ℕ) (first : ElfFault) → n ≤ end
+    → relocated_upto e f line b n ≡ Err first → relocated_upto e f line b end ≡ Err first
+fault_stays e f line b zero n first le is =
     let none : zero ≡ n = omega (arith, le) in
-    ap (λ k. relocated_upto e f line k) none ∙ is
-fault_stays e f line (suc end) n first le is = elim (cases_lt n (suc end)) [
+    ap (λ k. relocated_upto e f line b k) none ∙ is
+fault_stays e f line b (suc end) n first le is = elim (cases_lt n (suc end)) [
   | inl less ↦ ap (and_then (relocated_at e f line (suc end)))
-      (fault_stays e f line end n first (omega (arith, less)) is)
-  | inr more ↦ (let same : suc end ≡ n = omega (arith, le, more) in ap (λ k. relocated_upto e f line k) same ∙ is)
+      (fault_stays e f line b end n first (omega (arith, less)) is)
+  | inr more ↦ (let same : suc end ≡ n = omega (arith, le, more) in ap (λ k. relocated_upto e f line b k) same ∙ is)
 ]
 
 -- section n has a fault, and those before it have none
-pub relocated_to_fault : (e : Elf) (f : List ℕ) (line : NamedSection) (n : ℕ) (before : List ℕ) (first : ElfFault)
-    → 1 ≤ n → n < e.count → relocated_upto e f line (n - 1) ≡ Ok before → relocated_at e f line n before ≡ Err first
-    → relocated_upto e f line (e.count - 1) ≡ Err first
-relocated_to_fault e f line n before first from less so_far next =
+pub relocated_to_fault : (e : Elf) (f : List ℕ) (line : NamedSection) (b : List ℕ) (n : ℕ) (before : List ℕ) (first : ElfFault)
+    → 1 ≤ n → n < e.count → relocated_upto e f line b (n - 1) ≡ Ok before → relocated_at e f line n before ≡ Err first
+    → relocated_upto e f line b (e.count - 1) ≡ Err first
+relocated_to_fault e f line b n before first from less so_far next =
     let back : suc (n - 1) ≡ n = omega (arith, from) in
-    fault_stays e f line (e.count - 1) (suc (n - 1)) first (omega (arith, from, less))
+    fault_stays e f line b (e.count - 1) (suc (n - 1)) first (omega (arith, from, less))
     (ap (and_then (relocated_at e f line (suc (n - 1)))) so_far
     ∙ (ap (λ k. relocated_at e f line k before) back ∙ next))
 
 -- all sections were looked at
-pub relocated_whole : (e : Elf) (f : List ℕ) (line : NamedSection) (n : ℕ) (b : List ℕ) → n - 1 ≤ e.count - 1
-    → e.count ≤ n → relocated_upto e f line (n - 1) ≡ Ok b → relocated_upto e f line (e.count - 1) ≡ Ok b
-relocated_whole e f line n b within past is =
-    let end : e.count - 1 ≡ n - 1 = omega (arith, within, past) in ap (λ k. relocated_upto e f line k) end ∙ is
+pub relocated_whole : (e : Elf) (f : List ℕ) (line : NamedSection) (b : List ℕ) (n : ℕ) (after : List ℕ) → n - 1 ≤ e.count - 1
+    → e.count ≤ n → relocated_upto e f line b (n - 1) ≡ Ok after → relocated_upto e f line b (e.count - 1) ≡ Ok after
+relocated_whole e f line b n after within past is =
+    let end : e.count - 1 ≡ n - 1 = omega (arith, within, past) in ap (λ k. relocated_upto e f line b k) end ∙ is

@@ -1,14 +1,20 @@
 -- The forms of contracts inside the crate, over an answer that the definitions give. No promise rests on this file.
-use Rattle.std.specs.Prelude.{◌≡◌, ◌-◌, ℕ, List, Option, Some, None, Result, Ok, Err}
+use Rattle.std.specs.Prelude.{◌≡◌, ◌-◌, ℕ, true, List, Option, Some, None, IfSome, Result, Ok, Err}
+use Rattle.std.specs.Global.{Vec}
 use Rattle.std.specs.declared.io.Error.{Error}
 use Rattle.dl_elf.specs.declared.name.SectionName.{SectionName}
 use Rattle.dl_elf.specs.declared.fault.ElfFault.{ElfFault}
 use Rattle.dl_elf.specs.declared.fault.ElfFault.TheVariants as fault
 use Rattle.dl_elf.specs.declared.fault.Part.TheVariants as part
 use Rattle.dl_elf.specs.declared.file.Elf.{Elf}
+use Rattle.dl_elf.specs.declared.named.NamedSection.{NamedSection}
+use Rattle.dl_elf.specs.Sections.{range_within, section_range}
+use Rattle.dl_file.specs.declared.info_file.InfoSections.{InfoSections}
 use Rattle.dl_reloc.specs.declared.placed.Placed.{Placed}
 use Rattle.dl_file.specs.declared.relocating.RelocationSections.{RelocationSections}
 use Rattle.dl_file.specs.Relocations.{relocations_of, relocations_upto}
+use Rattle.dl_file.specs.declared.read_fault.ReadFault.{ReadFault}
+use Rattle.dl_file.specs.declared.read_fault.ReadFault.TheVariants.{Read, DamagedStream}
 use Rattle.dl_file.specs.declared.line_file.LineFile.{LineFile}
 use Rattle.dl_file.specs.declared.content_reader.ContentReader.{ContentReader}
 use Rattle.dl_file.specs.declared.line_reader.LineReader.{LineReader}
@@ -20,11 +26,18 @@ StopsReading Fails (fault.Read error) = Fails error
 StopsReading Fails fault.NoMemory = Unit {0}
 StopsReading Fails other = ⊥
 
--- the stream of the section of this name is damaged, or a growth was refused
-abbrev pub StopsInflating : SectionName → ElfFault → Type 0
-StopsInflating name (fault.DamagedStream n at) = n ≡ name
-StopsInflating name fault.NoMemory = Unit {0}
-StopsInflating name other = ⊥
+-- all bytes of this section, or its damage; or a read failed, or a growth was refused
+abbrev pub IsHad : (answer : Result (List ℕ) ElfFault) → Result (Vec ℕ) ElfFault → Type 0
+IsHad answer (Ok bytes) = answer ≡ Ok bytes.items
+IsHad answer (Err (fault.Read error)) = Unit {0}
+IsHad answer (Err fault.NoMemory) = Unit {0}
+IsHad answer (Err other) = answer ≡ Err other
+
+-- the damage of the section of this name, which is told where a read of it failed so
+abbrev pub IsToldAs : SectionName → Option ReadFault → ElfFault → Type 0
+IsToldAs name (Some (DamagedStream at)) f = f ≡ fault.DamagedStream name at
+IsToldAs name (Some (Read error)) f = f ≡ fault.Read error
+IsToldAs name None f = f ≡ fault.NoMemory
 
 -- these bytes were made, or the fault is told; or a read failed, or a growth was refused
 abbrev pub IsMade : {A : Type 0} → (answer : Result (List ℕ) ElfFault) (made : List ℕ) → Result A ElfFault → Type 0
@@ -52,35 +65,47 @@ AreFound e f number (Ok found) =
     (relocations_of e f number ≡ Some found.count) × (relocations_upto e f number (found.first - 1) ≡ Some 0)
 AreFound e f number (Err why) = IsCounted (relocations_of e f number) (Err why)
 
+-- a section lies in the file, where there is one
+abbrev pub LiesIn : List ℕ → Option NamedSection → Type 0
+LiesIn f section = IfSome section (λ s. range_within (section_range s.header) f ≡ true)
+
+-- those of .debug_info that were found lie in the file
+pub record InfoLiesIn (f : List ℕ) (found : InfoSections) : Type 0 where
+  pub info : range_within (section_range found.info.header) f ≡ true
+  pub abbreviations : range_within (section_range found.abbreviations.header) f ≡ true
+  pub str_offsets : LiesIn f found.str_offsets
+  pub str : LiesIn f found.debug_str
+  pub line_str : LiesIn f found.debug_line_str
+
 -- a reader of these bytes; memory is refused only where `Memory` says so
-abbrev pub OpensContent : {S : Type 0} {g : _} → (S → Option (List ℕ)) → Content → (Memory : Type 0)
+abbrev pub OpensContent : {S : Type 0} {g : _} → (S → Option (List ℕ)) → (S → Error → Type 0) → (fails : Error → Type 0) → Content → (Memory : Type 0)
     → Result (ContentReader S g) ElfFault → Type 0
-OpensContent all_bytes content Memory (Ok reader) = Gives all_bytes reader content
-OpensContent all_bytes content Memory (Err (fault.Read error)) = Unit {0}
-OpensContent all_bytes content Memory (Err fault.NoMemory) = Memory
-OpensContent all_bytes content Memory (Err other) = ⊥
+OpensContent all_bytes fails_with fails content Memory (Ok reader) = Gives all_bytes fails_with fails reader content
+OpensContent all_bytes fails_with fails content Memory (Err (fault.Read error)) = Unit {0}
+OpensContent all_bytes fails_with fails content Memory (Err fault.NoMemory) = Memory
+OpensContent all_bytes fails_with fails content Memory (Err other) = ⊥
 
 -- the same where there is a section
-abbrev pub OpensOption : {S : Type 0} {g : _} → (S → Option (List ℕ)) → Option Content → (Memory : Type 0)
+abbrev pub OpensOption : {S : Type 0} {g : _} → (S → Option (List ℕ)) → (S → Error → Type 0) → (fails : Error → Type 0) → Option Content → (Memory : Type 0)
     → Result (Option (ContentReader S g)) ElfFault → Type 0
-OpensOption all_bytes content Memory (Ok reader) = GivesOption all_bytes reader content
-OpensOption all_bytes content Memory (Err (fault.Read error)) = Unit {0}
-OpensOption all_bytes content Memory (Err fault.NoMemory) = Memory
-OpensOption all_bytes content Memory (Err other) = ⊥
+OpensOption all_bytes fails_with fails content Memory (Ok reader) = GivesOption all_bytes fails_with fails reader content
+OpensOption all_bytes fails_with fails content Memory (Err (fault.Read error)) = Unit {0}
+OpensOption all_bytes fails_with fails content Memory (Err fault.NoMemory) = Memory
+OpensOption all_bytes fails_with fails content Memory (Err other) = ⊥
 
 -- a reader of the line section, or the fault
-abbrev pub OpensLine : {S : Type 0} {g : _} → (S → Option (List ℕ)) → (IsAnswer : Result Content ElfFault → Type 0)
+abbrev pub OpensLine : {S : Type 0} {g : _} → (S → Option (List ℕ)) → (S → Error → Type 0) → (fails : Error → Type 0) → (IsAnswer : Result Content ElfFault → Type 0)
     (Memory : Type 0) → Result (LineReader S g) ElfFault → Type 0
-OpensLine all_bytes IsAnswer Memory (Ok reader) =
-    (content : Content) × IsAnswer (Ok content) × GivesLine all_bytes reader content
-OpensLine all_bytes IsAnswer Memory (Err (fault.Read error)) = Unit {0}
-OpensLine all_bytes IsAnswer Memory (Err fault.NoMemory) = Memory
-OpensLine all_bytes IsAnswer Memory (Err other) = IsAnswer (Err other)
+OpensLine all_bytes fails_with fails IsAnswer Memory (Ok reader) =
+    (content : Content) × IsAnswer (Ok content) × GivesLine all_bytes fails_with fails reader content
+OpensLine all_bytes fails_with fails IsAnswer Memory (Err (fault.Read error)) = Unit {0}
+OpensLine all_bytes fails_with fails IsAnswer Memory (Err fault.NoMemory) = Memory
+OpensLine all_bytes fails_with fails IsAnswer Memory (Err other) = IsAnswer (Err other)
 
 -- the same of the readers of a line table
-abbrev pub OpensTable : {S : Type 0} {g : _} → (S → Option (List ℕ)) → (IsAnswer : Result LineTable ElfFault → Type 0)
+abbrev pub OpensTable : {S : Type 0} {g : _} → (S → Option (List ℕ)) → (S → Error → Type 0) → (fails : Error → Type 0) → (IsAnswer : Result LineTable ElfFault → Type 0)
     (Memory : Type 0) → Result (LineFile S g) ElfFault → Type 0
-OpensTable all_bytes IsAnswer Memory (Ok file) = (t : LineTable) × IsAnswer (Ok t) × GivesTable all_bytes file t
-OpensTable all_bytes IsAnswer Memory (Err (fault.Read error)) = Unit {0}
-OpensTable all_bytes IsAnswer Memory (Err fault.NoMemory) = Memory
-OpensTable all_bytes IsAnswer Memory (Err other) = IsAnswer (Err other)
+OpensTable all_bytes fails_with fails IsAnswer Memory (Ok file) = (t : LineTable) × IsAnswer (Ok t) × GivesTable all_bytes fails_with fails file t
+OpensTable all_bytes fails_with fails IsAnswer Memory (Err (fault.Read error)) = Unit {0}
+OpensTable all_bytes fails_with fails IsAnswer Memory (Err fault.NoMemory) = Memory
+OpensTable all_bytes fails_with fails IsAnswer Memory (Err other) = IsAnswer (Err other)

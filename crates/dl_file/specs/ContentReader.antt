@@ -5,7 +5,7 @@ use Rattle.std.specs.declared.io.Error.{Error}
 use Rattle.dl_elf.specs.declared.name.SectionName.{SectionName}
 use Rattle.dl_elf.specs.declared.compression.CompressionHeader.{CompressionHeader}
 use Rattle.dl_elf.specs.Reader.{known_range, reader_remaining, reader_error, ReaderFails}
-use Rattle.dl_file.specs.Faults.{FollowsBy, IsAfter, IsDamage}
+use Rattle.dl_file.specs.Faults.{FollowsBy, IsAfter, IsDamage, MayFailBy}
 use Rattle.dl_file.specs.Inflating.{inflated, damage}
 use Rattle.dl_file.specs.declared.inflated_reader.InflatedReader.{InflatedReader}
 use Rattle.dl_file.specs.declared.read_fault.ReadFault.{ReadFault}
@@ -38,6 +38,11 @@ inflated_remaining all_bytes r = left_of r.told.header (stream_bytes all_bytes r
 abbrev pub inflated_damage : {S : Type 0} {g : _} → (S → Option (List ℕ)) → InflatedReader S g → Option (Option ℕ)
 inflated_damage all_bytes r = option_map (damage r.told.header r.told.section_size) (stream_bytes all_bytes r)
 
+-- a read of the file for it fails with this error
+abbrev pub StreamFails : {S : Type 0} {g : _} → (S → Option (List ℕ)) → (S → Error → Type 0) → InflatedReader S g → Error
+    → Type 0
+StreamFails all_bytes fails_with r error = ReaderFails all_bytes fails_with r.at.stream error
+
 -- a read says that the bytes end only where there is no damage, and tells damage only where it is, once no bytes are left
 abbrev pub EndsBy : (damage : Option (Option ℕ)) → (left : Option (List ℕ)) → (fault : Option ReadFault) → Result ℕ Error
     → (buffer : List ℕ) → Type 0
@@ -67,12 +72,12 @@ abbrev pub content_fault : {S : Type 0} {g : _} → ContentReader S g → Option
 content_fault (Plain reader) = option_map Read (reader_error reader)
 content_fault (Inflated reader) = stream_fault reader.value
 
--- a read fails with this error: of a section that isn't compressed, as its reader does
+-- a read of the file for it fails with this error: of a section that is compressed, one of its stream
 abbrev pub ContentFails : {S : Type 0} {g : _} → (S → Option (List ℕ)) → (S → Error → Type 0) → ContentReader S g
     → Error
     → Type 0
 ContentFails all_bytes fails_with (Plain reader) error = ReaderFails all_bytes fails_with reader error
-ContentFails all_bytes fails_with (Inflated reader) error = Unit {0}
+ContentFails all_bytes fails_with (Inflated reader) error = StreamFails all_bytes fails_with reader.value error
 
 -- what a reader has become by reads, of which the last so many failed
 abbrev pub ContentFollows : {S : Type 0} {g : _} → (S → Option (List ℕ)) → (S → Error → Type 0)
@@ -83,4 +88,4 @@ ContentFollows all_bytes fails_with =
 -- a read of it may fail
 abbrev pub ContentMayFail : {S : Type 0} {g : _} → (S → Option (List ℕ)) → (S → Error → Type 0) → ContentReader S g
     → Type 0
-ContentMayFail all_bytes fails_with reader = (error : Error) × ContentFails all_bytes fails_with reader error
+ContentMayFail all_bytes fails_with = MayFailBy (content_damage all_bytes) (ContentFails all_bytes fails_with)

@@ -26,11 +26,29 @@ abbrev pub IsAfter : (left : List ℕ) → ReadFault → Type 0
 IsAfter left (Read error) = Unit {0}
 IsAfter left (DamagedStream at) = left ≡ []
 
+-- reads of the file fail with these errors alone
+abbrev pub FailsOnly : (Fails fails : Error → Type 0) → Type 0
+FailsOnly Fails fails = (error : Error) → Fails error → fails error
+
+-- a read of the file is told only with an error that it may give
+abbrev pub IsReadOf : (Fails : Error → Type 0) → ReadFault → Type 0
+IsReadOf Fails (Read error) = Fails error
+IsReadOf Fails (DamagedStream at) = Unit {0}
+
 -- what a reader has become by reads, of which the last so many failed: its damage is that of the first, why the last read
--- failed is true of it, and reads fail as those of the first may
+-- failed is true of it and kept, and reads of the file fail as those for the first may
 pub record FollowsBy {R : Type 0} (damage : R → Option (Option ℕ)) (fault : R → Option ReadFault)
     (Fails : R → Error → Type 0) (first : R) (failed : ℕ) (now : R) : Type 0 where
   pub same : damage now ≡ damage first
   pub told : IfSome (damage first) (λ at. IfSome (fault now) (IsDamage at))
   pub later : (error : Error) → Fails now error → Fails first error
-  pub failed_by : (failed ≡ 0) ⊎ ((error : Error) × Fails first error)
+  pub read : IfSome (fault now) (IsReadOf (Fails first))
+  pub kept : (failed ≡ 0) ⊎ ((why : ReadFault) × (fault now ≡ Some why))
+
+-- the bytes are known to be damaged, or they aren't known
+abbrev pub MayHaveDamage : (damage : Option (Option ℕ)) → Type 0
+MayHaveDamage damage = IfSome damage (λ at. ¬ (at ≡ None))
+
+-- a read may fail: one of the file, or by damage
+abbrev pub MayFailBy : {R : Type 0} → (damage : R → Option (Option ℕ)) → (Fails : R → Error → Type 0) → R → Type 0
+MayFailBy damage Fails reader = ((error : Error) × Fails reader error) ⊎ MayHaveDamage (damage reader)

@@ -1,9 +1,10 @@
 -- How far a stream was read. b: its bytes. No promise rests on how this is said.
-use Rattle.std.specs.Prelude.{◌≡◌, ◌⊎◌, ℕ, ◌+◌, ◌-◌, ◌<◌, ◌≤◌, ◌^◌, nat_lt, List, ◌++◌, length, take, drop, Option}
+use Rattle.std.specs.Prelude.{◌≡◌, ◌⊎◌, ℕ, ◌+◌, ◌*◌, ◌-◌, ◌<◌, ◌≤◌, ◌^◌, nat_lt, List, ◌++◌, length, take, drop, Option}
 use Rattle.std.specs.Prelude.{Some}
 use Rattle.std.specs.Prelude.{Result, Ok, Err, None}
 use Rattle.dl_elf.specs.declared.file.Range.{Range}
-use Rattle.dl_elf.specs.Reader.{known_range, reader_remaining}
+use Rattle.dl_elf.specs.Reader.{known_range, reader_left, reader_remaining}
+use Rattle.dl_zlib.specs.Progress.{weight}
 use Rattle.dl_zlib.specs.StreamStands.{StandsFor, waiting}
 use Rattle.dl_file.specs.declared.read_fault.ReadFault.{ReadFault}
 use Rattle.dl_file.specs.declared.read_fault.ReadFault.TheVariants.{DamagedStream}
@@ -19,6 +20,10 @@ use Rattle.dl_file.specs.Faults.{IsAfter, IsDamage}
 -- bytes of the piece that weren't fed yet
 abbrev pub unfed : {S : Type 0} → StreamReader S → List ℕ
 unfed r = take (r.filled - r.fed) (drop r.fed r.piece)
+
+-- how much may come of the bytes that it holds, and of those that are left: each part of the stream lessens it
+abbrev pub worth : {S : Type 0} → StreamReader S → ℕ
+worth r = weight r.inflate + 40 * (r.filled - r.fed) + 41 * reader_left r.stream
 
 -- these bytes were used, and this output was taken
 pub record StandsAt {S : Type 0} (all_bytes : S → Option (List ℕ)) (told : Told) (r : StreamReader S)

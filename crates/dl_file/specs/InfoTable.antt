@@ -3,6 +3,7 @@ use Rattle.std.specs.Prelude.{◌≡◌, ◌⊎◌, ℕ, ◌||◌, if◌then◌e
 use Rattle.std.specs.Prelude.{option_and_then}
 use Rattle.std.specs.Prelude.{Result, Ok, Err, MatchResult, MatchOption}
 use Rattle.dl_num.specs.declared.fixed.Order.{Order}
+use Rattle.std.specs.declared.io.Error.{Error}
 use Rattle.dl_elf.specs.declared.fault.ElfFault.{ElfFault}
 use Rattle.dl_elf.specs.declared.fault.ElfFault.TheVariants as fault
 use Rattle.dl_elf.specs.declared.file.Elf.{Elf}
@@ -88,39 +89,40 @@ TakesInfoMemory f = (e : Elf) × (opened f ≡ Ok e) × (at : Sections) × AreFo
 -- ---- readers
 
 -- the readers of a file give these bytes
-pub record GivesInfo {S : Type 0} {g : _} (all_bytes : S → Option (List ℕ)) (file : InfoFile S g) (t : InfoTable)
+pub record GivesInfo {S : Type 0} {g : _} (all_bytes : S → Option (List ℕ)) (fails_with : S → Error → Type 0)
+    (fails : Error → Type 0) (file : InfoFile S g) (t : InfoTable)
     : Type 0 where
   pub order : file.order ≡ t.order
-  pub info : GivesLine all_bytes file.info t.info
-  pub abbreviations : Gives all_bytes file.abbreviations t.abbreviations
-  pub str_offsets : GivesOption all_bytes file.str_offsets t.str_offsets
-  pub str : GivesOption all_bytes file.debug_str t.str
-  pub line_str : GivesOption all_bytes file.debug_line_str t.line_str
+  pub info : GivesLine all_bytes fails_with fails file.info t.info
+  pub abbreviations : Gives all_bytes fails_with fails file.abbreviations t.abbreviations
+  pub str_offsets : GivesOption all_bytes fails_with fails file.str_offsets t.str_offsets
+  pub str : GivesOption all_bytes fails_with fails file.debug_str t.str
+  pub line_str : GivesOption all_bytes fails_with fails file.debug_line_str t.line_str
 
-abbrev pub GivesInfoOption : {S : Type 0} {g : _} → (S → Option (List ℕ)) → Option (InfoFile S g) → Option InfoTable
+abbrev pub GivesInfoOption : {S : Type 0} {g : _} → (S → Option (List ℕ)) → (S → Error → Type 0) → (fails : Error → Type 0) → Option (InfoFile S g) → Option InfoTable
     → Type 0
-GivesInfoOption all_bytes None t = t ≡ None
-GivesInfoOption all_bytes (Some file) None = ⊥
-GivesInfoOption all_bytes (Some file) (Some t) = GivesInfo all_bytes file t
+GivesInfoOption all_bytes fails_with fails None t = t ≡ None
+GivesInfoOption all_bytes fails_with fails (Some file) None = ⊥
+GivesInfoOption all_bytes fails_with fails (Some file) (Some t) = GivesInfo all_bytes fails_with fails file t
 
 -- a reader of .debug_info, or none where its relocations can't be applied; memory is refused only where `Memory` says so
-abbrev pub OpensUnits : {S : Type 0} {g : _} → (S → Option (List ℕ)) → (IsAnswer : Result Content ElfFault → Type 0)
+abbrev pub OpensUnits : {S : Type 0} {g : _} → (S → Option (List ℕ)) → (S → Error → Type 0) → (fails : Error → Type 0) → (IsAnswer : Result Content ElfFault → Type 0)
     (Memory : Type 0) → Result (Option (LineReader S g)) ElfFault → Type 0
-OpensUnits all_bytes IsAnswer Memory (Ok (Some reader)) =
-    (content : Content) × IsAnswer (Ok content) × GivesLine all_bytes reader content
-OpensUnits all_bytes IsAnswer Memory (Ok None) = (first : ElfFault) × IsAnswer (Err first)
-OpensUnits all_bytes IsAnswer Memory (Err (fault.Read error)) = Unit {0}
-OpensUnits all_bytes IsAnswer Memory (Err fault.NoMemory) = Memory
-OpensUnits all_bytes IsAnswer Memory (Err other) = ⊥
+OpensUnits all_bytes fails_with fails IsAnswer Memory (Ok (Some reader)) =
+    (content : Content) × IsAnswer (Ok content) × GivesLine all_bytes fails_with fails reader content
+OpensUnits all_bytes fails_with fails IsAnswer Memory (Ok None) = (first : ElfFault) × IsAnswer (Err first)
+OpensUnits all_bytes fails_with fails IsAnswer Memory (Err (fault.Read error)) = Unit {0}
+OpensUnits all_bytes fails_with fails IsAnswer Memory (Err fault.NoMemory) = Memory
+OpensUnits all_bytes fails_with fails IsAnswer Memory (Err other) = ⊥
 
 -- what comes of units of which `Is` tells: their readers, or a read failed, or memory was refused
-abbrev pub OpensInfoOf : {S : Type 0} {g : _} → (S → Option (List ℕ)) → (Is : Option InfoTable → Type 0)
+abbrev pub OpensInfoOf : {S : Type 0} {g : _} → (S → Option (List ℕ)) → (S → Error → Type 0) → (fails : Error → Type 0) → (Is : Option InfoTable → Type 0)
     (Memory : Type 0) → Result (Option (InfoFile S g)) ElfFault → Type 0
-OpensInfoOf all_bytes Is Memory (Ok file) = (t : Option InfoTable) × Is t × GivesInfoOption all_bytes file t
-OpensInfoOf all_bytes Is Memory (Err (fault.Read error)) = Unit {0}
-OpensInfoOf all_bytes Is Memory (Err fault.NoMemory) = Memory
-OpensInfoOf all_bytes Is Memory (Err other) = ⊥
+OpensInfoOf all_bytes fails_with fails Is Memory (Ok file) = (t : Option InfoTable) × Is t × GivesInfoOption all_bytes fails_with fails file t
+OpensInfoOf all_bytes fails_with fails Is Memory (Err (fault.Read error)) = Unit {0}
+OpensInfoOf all_bytes fails_with fails Is Memory (Err fault.NoMemory) = Memory
+OpensInfoOf all_bytes fails_with fails Is Memory (Err other) = ⊥
 
-abbrev pub OpensInfo : {S : Type 0} {g : _} → (S → Option (List ℕ)) → List ℕ → Result (Option (InfoFile S g)) ElfFault
+abbrev pub OpensInfo : {S : Type 0} {g : _} → (S → Option (List ℕ)) → (S → Error → Type 0) → (fails : Error → Type 0) → List ℕ → Result (Option (InfoFile S g)) ElfFault
     → Type 0
-OpensInfo all_bytes f result = OpensInfoOf all_bytes (HasInfo f) (TakesInfoMemory f) result
+OpensInfo all_bytes fails_with fails f result = OpensInfoOf all_bytes fails_with fails (HasInfo f) (TakesInfoMemory f) result

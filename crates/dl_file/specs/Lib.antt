@@ -9,6 +9,7 @@ pub mod InfoTable
 pub mod Places
 pub mod Code
 -- For what a value stands; public contracts name this, and don't rest on how it is said.
+pub mod Inflates
 pub mod InStep
 -- Of contracts inside the crate, and of proofs; no public contract reaches these.
 pub mod Answering

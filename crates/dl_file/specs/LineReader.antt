@@ -3,7 +3,7 @@ use Rattle.std.specs.Prelude.{ℕ, List, Option, None, Some, drop}
 use Rattle.std.specs.Io.Cursor.{cursor_inner, cursor_position, cursor_remaining}
 use Rattle.std.specs.declared.io.Error.{Error}
 use Rattle.dl_elf.specs.declared.name.SectionName.{SectionName}
-use Rattle.dl_file.specs.Faults.{FollowsBy}
+use Rattle.dl_file.specs.Faults.{FollowsBy, MayFailBy}
 use Rattle.dl_file.specs.declared.read_fault.ReadFault.{ReadFault}
 use Rattle.dl_file.specs.declared.line_reader.LineReader.{LineReader}
 use Rattle.dl_file.specs.declared.line_reader.LineReader.TheVariants.{File, Held}
@@ -34,7 +34,7 @@ abbrev pub line_fault : {S : Type 0} {g : _} → LineReader S g → Option ReadF
 line_fault (File reader) = content_fault reader
 line_fault (Held bytes) = None
 
--- a read fails with this error: it is one of the file; reads of bytes that are held don't fail
+-- a read of the file for it fails with this error; bytes that are held need none
 abbrev pub LineReaderFails : {S : Type 0} {g : _} → (S → Option (List ℕ)) → (S → Error → Type 0) → LineReader S g
     → Error → Type 0
 LineReaderFails all_bytes fails_with (File reader) error = ContentFails all_bytes fails_with reader error
@@ -48,4 +48,4 @@ LineReaderFollows all_bytes fails_with =
 
 -- a read of it may fail
 abbrev pub LineReaderMayFail : {S : Type 0} {g : _} → (S → Option (List ℕ)) → (S → Error → Type 0) → LineReader S g → Type 0
-LineReaderMayFail all_bytes fails_with reader = (error : Error) × LineReaderFails all_bytes fails_with reader error
+LineReaderMayFail all_bytes fails_with = MayFailBy (line_damage all_bytes) (LineReaderFails all_bytes fails_with)

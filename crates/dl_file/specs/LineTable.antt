@@ -1,5 +1,5 @@
 -- What open_line_file answers. f: the bytes of a file; e: the file as it is opened.
-use Rattle.std.specs.Prelude.{◌≡◌, ◌⊎◌, ℕ, zero, Bool, List, Option, Some, None, option_map, option_and_then}
+use Rattle.std.specs.Prelude.{◌≡◌, ◌⊎◌, ℕ, zero, suc, Bool, List, Option, Some, None, option_map, option_and_then}
 use Rattle.std.specs.Prelude.{Result, Ok, Err, MatchResult, MatchOption, is_some}
 use Rattle.dl_num.specs.declared.fixed.Order.{Order}
 use Rattle.dl_elf.specs.declared.file.Elf.{Elf}
@@ -19,6 +19,8 @@ use Rattle.dl_elf.specs.declared.compression.Compression.{Compression}
 use Rattle.dl_elf.specs.declared.compression.Compression.TheVariants.{Zlib}
 use Rattle.dl_elf.specs.declared.compression.CompressionHeader.{CompressionHeader}
 use Rattle.dl_elf.specs.declared.fault.Part.{Part}
+use Rattle.dl_elf.specs.declared.fault.Part.TheVariants as part
+use Rattle.std.specs.declared.io.Error.{Error}
 use Rattle.dl_elf.specs.declared.fault.ElfFault.{ElfFault}
 use Rattle.dl_elf.specs.declared.fault.ElfFault.TheVariants as fault
 use Rattle.dl_elf.specs.Elf.{is_object}
@@ -27,10 +29,11 @@ use Rattle.dl_elf.specs.Sections.{section_bytes, section_range, opened}
 use Rattle.dl_elf.specs.Found.{AreFound, Sections}
 use Rattle.dl_elf.specs.Compressed.{section_damage, compression_header}
 use Rattle.dl_elf.specs.Notes.{build_id_of, build_id_bytes}
+use Rattle.dl_file.specs.Faults.{FailsOnly}
 use Rattle.dl_file.specs.Inflating.{damage, inflated, stream_in}
-use Rattle.dl_file.specs.ContentReader.{content_damage, content_remaining, content_fault, stream_name}
-use Rattle.dl_file.specs.LineReader.{line_damage, line_remaining, line_fault, line_stream}
-use Rattle.dl_file.specs.Relocations.{HasRelocations, line_bytes, relocations_of}
+use Rattle.dl_file.specs.ContentReader.{ContentFails, content_damage, content_remaining, content_fault, stream_name}
+use Rattle.dl_file.specs.LineReader.{LineReaderFails, line_damage, line_remaining, line_fault, line_stream}
+use Rattle.dl_file.specs.Relocations.{HasRelocations, relocated_line, relocations_of}
 
 -- ---- which sections
 
@@ -115,22 +118,22 @@ abbrev pub plain_content : Result (List ℕ) ElfFault → Result Content ElfFaul
 plain_content (Ok bytes) = Ok (Plain bytes)
 plain_content (Err first) = Err first
 
--- a compressed line section, by the number of its sections of relocations. Where it has some it is inflated when the
--- file is opened: then what they make of it, and the faults of the stream and of the relocations, are left open
-abbrev pub IsInflatedWith : Content → Option ℕ → Result Content ElfFault → Type 0
-IsInflatedWith whole (Some zero) result = result ≡ Ok whole
-IsInflatedWith whole other (Ok c) = (bytes : List ℕ) × (c ≡ Plain bytes)
-IsInflatedWith whole other (Err first) = Unit {0}
+-- all bytes of a section that are held; its damage, where it is compressed and has some
+abbrev pub held_bytes : Content → Result (List ℕ) ElfFault
+held_bytes (Plain bytes) = Ok bytes
+held_bytes (Inflated name bytes None) = Ok bytes
+held_bytes (Inflated name bytes (Some at)) = Err (fault.DamagedStream name at)
 
--- the bytes of the line section, which begins with this compression header or is none, or its first fault
-abbrev pub IsLineBy : Option CompressionHeader → Elf → List ℕ → NamedSection → Result Content ElfFault → Type 0
-IsLineBy None e f line result = result ≡ plain_content (line_bytes e f line)
-IsLineBy (Some header) e f line result =
-    IsInflatedWith (inflated_content line.name header (section_range line.header) f)
-    (relocations_of e f line.number) result
+-- the line section, by what it is without relocations and by the number of its sections of relocations. Where it has some
+-- its bytes are held, and they are applied to these, inflated where it is compressed
+abbrev pub line_by : Elf → List ℕ → NamedSection → Content → Option ℕ → Result Content ElfFault
+line_by e f line whole None = Err (fault.Damaged part.SectionHeaders)
+line_by e f line whole (Some zero) = Ok whole
+line_by e f line whole (Some (suc n)) = plain_content (relocated_line e f line (suc n) (held_bytes whole))
 
+-- the line section, in an object file with the relocations of all sections applied, or its first fault
 abbrev pub IsLine : Elf → List ℕ → NamedSection → Result Content ElfFault → Type 0
-IsLine e f line result = IsLineBy (compression_header e f line) e f line result
+IsLine e f line result = result ≡ line_by e f line (content e f line) (relocations_of e f line.number)
 
 -- ---- the answer
 
@@ -205,42 +208,50 @@ TakesMemory f wanted = (e : Elf) × (opened f ≡ Ok e) × (at : Sections) × Ar
 
 -- ---- readers
 
--- a reader that gives these bytes, where they are known; no read of it failed yet
-abbrev pub Gives : {S : Type 0} {g : _} → (S → Option (List ℕ)) → ContentReader S g → Content → Type 0
-Gives all_bytes reader (Plain bytes) = (content_remaining all_bytes reader ≡ Some bytes)
+-- a reader that gives these bytes, where they are known; no read of it failed yet, and reads of the file for it fail with
+-- these errors alone
+abbrev pub Gives : {S : Type 0} {g : _} → (S → Option (List ℕ)) → (S → Error → Type 0) → (fails : Error → Type 0)
+    → ContentReader S g → Content → Type 0
+Gives all_bytes fails_with fails reader (Plain bytes) = (content_remaining all_bytes reader ≡ Some bytes)
     × (content_fault reader ≡ None) × (stream_name reader ≡ None)
-Gives all_bytes reader (Inflated name bytes damage) = (content_remaining all_bytes reader ≡ Some bytes)
+    × FailsOnly (ContentFails all_bytes fails_with reader) fails
+Gives all_bytes fails_with fails reader (Inflated name bytes damage) = (content_remaining all_bytes reader ≡ Some bytes)
     × (content_damage all_bytes reader ≡ Some damage) × (content_fault reader ≡ None) × (stream_name reader ≡ Some name)
+    × FailsOnly (ContentFails all_bytes fails_with reader) fails
 
-abbrev pub GivesOption : {S : Type 0} {g : _} → (S → Option (List ℕ)) → Option (ContentReader S g)
-    → Option Content → Type 0
-GivesOption all_bytes None content = content ≡ None
-GivesOption all_bytes (Some reader) None = ⊥
-GivesOption all_bytes (Some reader) (Some content) = Gives all_bytes reader content
+abbrev pub GivesOption : {S : Type 0} {g : _} → (S → Option (List ℕ)) → (S → Error → Type 0) → (fails : Error → Type 0)
+    → Option (ContentReader S g) → Option Content → Type 0
+GivesOption all_bytes fails_with fails None content = content ≡ None
+GivesOption all_bytes fails_with fails (Some reader) None = ⊥
+GivesOption all_bytes fails_with fails (Some reader) (Some content) = Gives all_bytes fails_with fails reader content
 
 -- the same of a reader of a line section
-abbrev pub GivesLine : {S : Type 0} {g : _} → (S → Option (List ℕ)) → LineReader S g → Content → Type 0
-GivesLine all_bytes reader (Plain bytes) = (line_remaining all_bytes reader ≡ Some bytes)
+abbrev pub GivesLine : {S : Type 0} {g : _} → (S → Option (List ℕ)) → (S → Error → Type 0) → (fails : Error → Type 0)
+    → LineReader S g → Content → Type 0
+GivesLine all_bytes fails_with fails reader (Plain bytes) = (line_remaining all_bytes reader ≡ Some bytes)
     × (line_fault reader ≡ None) × (line_stream reader ≡ None)
-GivesLine all_bytes reader (Inflated name bytes damage) = (line_remaining all_bytes reader ≡ Some bytes)
+    × FailsOnly (LineReaderFails all_bytes fails_with reader) fails
+GivesLine all_bytes fails_with fails reader (Inflated name bytes damage) = (line_remaining all_bytes reader ≡ Some bytes)
     × (line_damage all_bytes reader ≡ Some damage) × (line_fault reader ≡ None) × (line_stream reader ≡ Some name)
+    × FailsOnly (LineReaderFails all_bytes fails_with reader) fails
 
 -- the readers of a file give the bytes of a line table
-pub record GivesTable {S : Type 0} {g : _} (all_bytes : S
-    → Option (List ℕ)) (file : LineFile S g) (t : LineTable) : Type 0 where
+pub record GivesTable {S : Type 0} {g : _} (all_bytes : S → Option (List ℕ)) (fails_with : S → Error → Type 0)
+    (fails : Error → Type 0) (file : LineFile S g) (t : LineTable) : Type 0 where
   pub order : file.order ≡ t.order
   pub class : file.class ≡ t.class
   pub object : file.is_object ≡ t.is_object_file
-  pub line : GivesLine all_bytes file.line t.line
-  pub line_str : GivesOption all_bytes file.debug_line_str t.line_str
-  pub str : GivesOption all_bytes file.debug_str t.str
+  pub line : GivesLine all_bytes fails_with fails file.line t.line
+  pub line_str : GivesOption all_bytes fails_with fails file.debug_line_str t.line_str
+  pub str : GivesOption all_bytes fails_with fails file.debug_str t.str
   pub has_str : file.has_debug_str ≡ t.has_str
 
 -- what open_line_file answers for a file with these bytes: its readers, a fault, that a read failed, or that memory was
--- refused
-abbrev pub Opens : {S : Type 0} {g : _} → (S → Option (List ℕ)) → List ℕ → Wanted
-    → Result (LineFile S g) ElfFault → Type 0
-Opens all_bytes f wanted (Ok file) = (t : LineTable) × HasLineTable f wanted (Ok t) × GivesTable all_bytes file t
-Opens all_bytes f wanted (Err (fault.Read error)) = Unit {0}
-Opens all_bytes f wanted (Err fault.NoMemory) = TakesMemory f wanted
-Opens all_bytes f wanted (Err other) = HasLineTable f wanted (Err other)
+-- refused. fails: the errors that reading the file may give
+abbrev pub Opens : {S : Type 0} {g : _} → (S → Option (List ℕ)) → (S → Error → Type 0) → (fails : Error → Type 0)
+    → List ℕ → Wanted → Result (LineFile S g) ElfFault → Type 0
+Opens all_bytes fails_with fails f wanted (Ok file) =
+    (t : LineTable) × HasLineTable f wanted (Ok t) × GivesTable all_bytes fails_with fails file t
+Opens all_bytes fails_with fails f wanted (Err (fault.Read error)) = Unit {0}
+Opens all_bytes fails_with fails f wanted (Err fault.NoMemory) = TakesMemory f wanted
+Opens all_bytes fails_with fails f wanted (Err other) = HasLineTable f wanted (Err other)

@@ -1,6 +1,7 @@
 -- The bytes of the line section of an object file, with its relocations applied. System V ABI, chapter 4, "Relocation".
--- f: the bytes of a file; e: the file as it is opened; line: its line section; b: bytes of the line section.
-use Rattle.std.specs.Prelude.{◌≡◌, ℕ, zero, suc, ◌+◌, ◌-◌, ◌==◌, nat_le, if◌then◌else◌, List, [], Option}
+-- f: the bytes of a file; e: the file as it is opened; line: its line section; b: bytes of the line section, where that is
+-- compressed of what it inflates to.
+use Rattle.std.specs.Prelude.{◌≡◌, ℕ, zero, suc, ◌+◌, ◌-◌, ◌==◌, nat_le, nat_lt, if◌then◌else◌, List, [], Option}
 use Rattle.std.specs.Prelude.{Some, None, option_and_then, option_map, Result, Ok, Err}
 use Rattle.dl_elf.specs.declared.header.Class.{Class}
 use Rattle.dl_elf.specs.declared.header.Class.TheVariants as elf_class
@@ -101,10 +102,10 @@ abbrev pub and_then : (List ℕ → Result (List ℕ) ElfFault) → Result (List
 and_then next (Ok b) = next b
 and_then next (Err first) = Err first
 
--- what sections 1 to n make of the line section's bytes, one after the other, or the first fault
-abbrev pub relocated_upto : Elf → List ℕ → NamedSection → ℕ → Result (List ℕ) ElfFault
-relocated_upto e f line zero = Ok (section_bytes line.header f)
-relocated_upto e f line (suc n) = and_then (relocated_at e f line (suc n)) (relocated_upto e f line n)
+-- what sections 1 to n make of bytes b of the line section, one after the other, or the first fault
+abbrev pub relocated_upto : Elf → List ℕ → NamedSection → (b : List ℕ) → ℕ → Result (List ℕ) ElfFault
+relocated_upto e f line b zero = Ok b
+relocated_upto e f line b (suc n) = and_then (relocated_at e f line (suc n)) (relocated_upto e f line b n)
 
 -- ---- how many sections have some
 
@@ -136,13 +137,8 @@ HasRelocations e f number = (n : ℕ) × (relocations_of e f number ≡ Some (su
 
 -- ---- the line section's bytes
 
--- by the number of its sections of relocations; more than 16 are refused
-abbrev pub bytes_with : Elf → List ℕ → NamedSection → Option ℕ → Result (List ℕ) ElfFault
-bytes_with e f line None = Err (fault.Damaged part.SectionHeaders)
-bytes_with e f line (Some zero) = Ok (section_bytes line.header f)
-bytes_with e f line (Some (suc n)) =
-    if nat_le 16 n then Err (fault.Damaged (part.Relocations line.name)) else relocated_upto e f line (e.count - 1)
-
--- the line section's bytes, in an object file with the relocations of all sections applied
-abbrev pub line_bytes : Elf → List ℕ → NamedSection → Result (List ℕ) ElfFault
-line_bytes e f line = bytes_with e f line (relocations_of e f line.number)
+-- with as many sections of relocations, of which more than 16 are refused, and these bytes or why there are none
+abbrev pub relocated_line : Elf → List ℕ → NamedSection → (count : ℕ) → (first : Result (List ℕ) ElfFault)
+    → Result (List ℕ) ElfFault
+relocated_line e f line count first = if nat_lt 16 count then Err (fault.Damaged (part.Relocations line.name))
+    else and_then (λ b. relocated_upto e f line b (e.count - 1)) first

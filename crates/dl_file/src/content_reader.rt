@@ -1,13 +1,14 @@
 //! The bytes of a section as a reader, be they compressed or not.
-ghost use Rattle.std.specs.Prelude.{◌≡◌, IfErr, Some};
+ghost use Rattle.std.specs.Prelude.{◌≡◌, IfSome, Some, true};
 ghost use Rattle.std.specs.Io.{ReadsAtMost};
 ghost use Rattle.std.specs.Io.KnownBytes.{ReadConsumes};
 ghost use Rattle.std.specs.declared.io.Error.{Error};
 ghost use Rattle.dl_elf.specs.Source.{ForBytes};
 ghost use Rattle.dl_elf.specs.Answers.{IfRead};
+ghost use Rattle.dl_elf.specs.Sections.{range_within, section_range};
 ghost use Rattle.dl_elf.specs.Compressed.{compression_header};
 ghost use Rattle.dl_file.specs.Answering.{OpensContent};
-ghost use Rattle.dl_file.specs.Faults.{Tells};
+ghost use Rattle.dl_file.specs.Faults.{IsReadOf, Tells};
 ghost use Rattle.dl_file.specs.ContentReader.{ContentFails, EndsBy, content_damage, content_fault, content_remaining};
 ghost use Rattle.dl_file.specs.ContentReader.{ContentFollows, ContentMayFail, stream_name};
 ghost use Rattle.dl_file.specs.LineTable.{HasStream, content};
@@ -42,7 +43,9 @@ impl<'a, S: ReadAt> ContentReader<'a, S> {
         elf: &Elf,
         section: &NamedSection,
     ) -> Result<ContentReader<'a, S>, ElfFault>
-        ensures opens { ForBytes (S.all_bytes source.entry.now) (λ f. OpensContent S.all_bytes
+        requires within { ForBytes (S.all_bytes source.now)
+            (λ f. range_within (section_range section.now.header) f ≡ true) }
+        ensures opens { ForBytes (S.all_bytes source.entry.now) (λ f. OpensContent S.all_bytes S.fails_with (S.fails_with source.entry.now)
             (content elf.now f section.now) (HasStream elf.now f (Some section.now)) result) }
         ensures read { IfRead (S.fails_with source.entry.now) result }
     {
@@ -91,7 +94,7 @@ impl<'a, S: ReadAt> Read for ContentReader<'a, S> {
         ensures ends { EndsBy (content_damage S.all_bytes self.old) (content_remaining S.all_bytes self.new) (content_fault self.new)
             result buffer.new }
         ensures damage { content_damage S.all_bytes self.new ≡ content_damage S.all_bytes self.old }
-        ensures fails { IfErr result (ContentFails S.all_bytes S.fails_with self.old) }
+        ensures fails { IfSome (content_fault self.new) (IsReadOf (ContentFails S.all_bytes S.fails_with self.old)) }
         ensures later { (error : Error) → ContentFails S.all_bytes S.fails_with self.new error
             → ContentFails S.all_bytes S.fails_with self.old error }
         ensures fault { Tells (content_fault self.new) result }

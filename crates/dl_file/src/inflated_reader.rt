@@ -28,10 +28,13 @@ pub struct InflatedReader<'a, S: ReadAt> {
 }
 
 impl<'a, S: ReadAt> InflatedReader<'a, S> {
-    ghost use Rattle.std.specs.Prelude.{◌≡◌, None, Some};
+    ghost use Rattle.std.specs.Prelude.{◌≡◌, None, Some, true};
+    ghost use Rattle.dl_elf.specs.Sections.{range_within};
     ghost use Rattle.dl_elf.specs.Source.{ForBytes};
+    ghost use Rattle.dl_file.specs.Faults.{FailsOnly};
     ghost use Rattle.dl_file.specs.Inflating.{damage, inflated, stream_in};
-    ghost use Rattle.dl_file.specs.ContentReader.{inflated_damage, inflated_name, inflated_remaining, stream_fault};
+    ghost use Rattle.dl_file.specs.ContentReader.{StreamFails, inflated_damage, inflated_name, inflated_remaining};
+    ghost use Rattle.dl_file.specs.ContentReader.{stream_fault};
 
     /// The bytes of the section of this name that stands there, and begins with this header.
     pub(crate) fn new(
@@ -46,6 +49,8 @@ impl<'a, S: ReadAt> InflatedReader<'a, S> {
             inflated_damage S.all_bytes result ≡ Some (damage header.now range.size (stream_in header.now range f))) }
         ensures fault { stream_fault result ≡ None }
         ensures name { inflated_name result ≡ name }
+        ensures fails { ForBytes (S.all_bytes source.entry.now) (λ f. range_within range f ≡ true
+            → FailsOnly (StreamFails S.all_bytes S.fails_with result) (S.fails_with source.entry.now)) }
     {
         let place = Range {
             offset: range.offset.saturating_add(header.stream_offset),
@@ -82,11 +87,13 @@ impl<'a, S: ReadAt> InflatedReader<'a, S> {
 }
 
 impl<'a, S: ReadAt> Read for InflatedReader<'a, S> {
-    ghost use Rattle.std.specs.Prelude.{◌≡◌};
+    ghost use Rattle.std.specs.Prelude.{◌≡◌, IfSome};
     ghost use Rattle.std.specs.Io.{ReadsAtMost};
     ghost use Rattle.std.specs.Io.KnownBytes.{ReadConsumes};
-    ghost use Rattle.dl_file.specs.Faults.{Tells};
-    ghost use Rattle.dl_file.specs.ContentReader.{EndsBy, inflated_damage, inflated_remaining, stream_fault};
+    ghost use Rattle.std.specs.declared.io.Error.{Error};
+    ghost use Rattle.dl_file.specs.Faults.{IsReadOf, Tells};
+    ghost use Rattle.dl_file.specs.ContentReader.{EndsBy, StreamFails, inflated_damage, inflated_name};
+    ghost use Rattle.dl_file.specs.ContentReader.{inflated_remaining, stream_fault};
 
     ghost remaining = { inflated_remaining S.all_bytes };
 
@@ -97,7 +104,11 @@ impl<'a, S: ReadAt> Read for InflatedReader<'a, S> {
         ensures ends { EndsBy (inflated_damage S.all_bytes self.old) (inflated_remaining S.all_bytes self.new) (stream_fault self.new)
             result buffer.new }
         ensures damage { inflated_damage S.all_bytes self.new ≡ inflated_damage S.all_bytes self.old }
+        ensures fails { IfSome (stream_fault self.new) (IsReadOf (StreamFails S.all_bytes S.fails_with self.old)) }
+        ensures later { (error : Error) → StreamFails S.all_bytes S.fails_with self.new error
+            → StreamFails S.all_bytes S.fails_with self.old error }
         ensures fault { Tells (stream_fault self.new) result }
+        ensures name { inflated_name self.new ≡ inflated_name self.old }
     {
         match self.at.read_next(&self.told, buffer) {
             Ok(n) => {

@@ -6,6 +6,7 @@ ghost use Rattle.dl_elf.specs.Forward.{NoneForward};
 ghost use Rattle.dl_elf.specs.SectionsHeld.{slots, forward_of};
 ghost use Rattle.dl_elf.specs.Slots.{slot_of};
 ghost use Rattle.dl_elf.specs.Sections.{range_within, section_range};
+ghost use Rattle.dl_file.specs.Answering.{InfoLiesIn};
 ghost use Rattle.dl_file.specs.InfoTable.{IsInfoOf, OpensInfo, OpensInfoOf, OpensUnits, TakesMemoryForInfo, info_sections};
 ghost use Rattle.dl_file.specs.InfoTable.{named_section, readable};
 ghost use Rattle.dl_file.specs.LineTable.{HasStream, IsLine};
@@ -150,7 +151,7 @@ fn info_reader<'a, S: ReadAt>(
     requires forward { ForBytes (S.all_bytes source.now)
         (λ f. NoneForward elf.now f (forward_of sections.now)) }
     requires passed { forward_of sections.now - 1 ≤ elf.now.count - 1 }
-    ensures opens { ForBytes (S.all_bytes source.entry.now) (λ f. OpensUnits S.all_bytes (IsLine elf.now f info.now)
+    ensures opens { ForBytes (S.all_bytes source.entry.now) (λ f. OpensUnits S.all_bytes S.fails_with (S.fails_with source.entry.now) (IsLine elf.now f info.now)
         (HasRelocations elf.now f info.now.number ⊎ HasStream elf.now f (Some info.now)) result) }
     ensures read { IfRead (S.fails_with source.entry.now) result }
 {
@@ -170,12 +171,11 @@ fn open_found<'a, S: ReadAt>(
     sections: &Sections,
     found: &InfoSections,
 ) -> Result<Option<InfoFile<'a, S>>, ElfFault>
-    requires within { ForBytes (S.all_bytes source.now)
-        (λ f. range_within (section_range found.now.info.header) f ≡ true) }
+    requires within { ForBytes (S.all_bytes source.now) (λ f. InfoLiesIn f found.now) }
     requires forward { ForBytes (S.all_bytes source.now)
         (λ f. NoneForward elf.now f (forward_of sections.now)) }
     requires passed { forward_of sections.now - 1 ≤ elf.now.count - 1 }
-    ensures opens { ForBytes (S.all_bytes source.entry.now) (λ f. OpensInfoOf S.all_bytes
+    ensures opens { ForBytes (S.all_bytes source.entry.now) (λ f. OpensInfoOf S.all_bytes S.fails_with (S.fails_with source.entry.now)
         (IsInfoOf elf.now f found.now) (TakesMemoryForInfo elf.now f found.now) result) }
     ensures read { IfRead (S.fails_with source.entry.now) result }
 {
@@ -201,7 +201,7 @@ pub fn open_info<'a, S: ReadAt>(
     alloc: Global,
     source: &'a S,
 ) -> Result<Option<InfoFile<'a, S>>, ElfFault>
-    ensures opens { ForBytes (S.all_bytes source.entry.now) (λ f. OpensInfo S.all_bytes f result) }
+    ensures opens { ForBytes (S.all_bytes source.entry.now) (λ f. OpensInfo S.all_bytes S.fails_with (S.fails_with source.entry.now) f result) }
     ensures read { IfRead (S.fails_with source.entry.now) result }
 {
     let elf = match open_elf(source) {

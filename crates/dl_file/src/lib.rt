@@ -20,6 +20,7 @@ mod read_fault;
 mod relocating;
 mod section_bytes;
 mod stream_reader;
+mod whole_bytes;
 
 pub use code::{Code, CodeFault, ExecutableRange, find_code};
 pub use content_reader::ContentReader;

@@ -1,40 +1,34 @@
 //! The sections of a file's line table.
-ghost use Rattle.std.specs.Prelude.{◌≡◌, ◌≤◌, ◌-◌, ◌⊎◌, Some, None, true, option_map, option_and_then, IfOk, IfErr};
+ghost use Rattle.std.specs.Prelude.{◌≡◌, ◌≤◌, ◌-◌, ◌⊎◌, Some, true, option_map, option_and_then, IfOk, IfErr};
 ghost use Rattle.dl_elf.specs.Source.{ForBytes};
 ghost use Rattle.dl_elf.specs.Answers.{IfRead};
-ghost use Rattle.dl_elf.specs.Sections.{range_within, section_bytes, section_range};
-ghost use Rattle.dl_elf.specs.Compressed.{compression_header, section_damage};
+ghost use Rattle.dl_elf.specs.Sections.{range_within, section_range};
+ghost use Rattle.dl_elf.specs.Compressed.{section_damage};
 ghost use Rattle.dl_elf.specs.Slots.{slot_of};
 ghost use Rattle.dl_elf.specs.SectionsHeld.{slots, forward_of};
 ghost use Rattle.dl_elf.specs.Forward.{NoneForward};
-ghost use Rattle.dl_file.specs.Answering.{OpensLine, OpensOption, OpensTable, StopsInflating, StopsReading};
+ghost use Rattle.dl_file.specs.Answering.{LiesIn, OpensLine, OpensOption, OpensTable};
 ghost use Rattle.dl_file.specs.Relocations.{HasRelocations};
 ghost use Rattle.dl_file.specs.LineTable.{HasStream, IsLine, IsTableOf, Opens, TakesMemoryFor, content, refused};
 ghost use Rattle.dl_file.specs.LineTable.{first_damage, first_refused, line_section, debug_line_str_section};
 ghost use Rattle.dl_file.specs.LineTable.{debug_str_section};
 
 use crate::content_reader::ContentReader;
-use crate::inflated_reader::InflatedReader;
 use crate::line_reader::LineReader;
-use crate::read_fault::ReadFault;
 use crate::relocating::{find_relocations, relocate_line};
-use crate::section_bytes::read_bytes;
+use crate::whole_bytes::whole_bytes;
 use dl_elf::{
-    Class, Compression, CompressionHeader, Elf, ElfFault, NamedSection, Part, Range, ReadAt,
-    SectionName, Sections, compression_header, find_sections, open_elf, read_build_id,
-    section_damage,
+    Class, Compression, Elf, ElfFault, NamedSection, Part, ReadAt, SectionName, Sections,
+    compression_header, find_sections, open_elf, read_build_id, section_damage,
 };
 use dl_num::Order;
 use std::alloc::Global;
 use std::io;
-use std::io::{Cursor, Read};
+use std::io::Cursor;
 
 /// How many sections of relocations a line section may have. Assemblers write one; the work grows with their number,
 /// since each may name the same bytes.
 pub const MOST_RELOCATIONS: u64 = 16;
-
-/// How many bytes a compressed line section with relocations may inflate to, which is held: 2^32.
-const HELD_LIMIT: u64 = 1 << 32;
 
 /// What is asked for of a file.
 #[derive(Clone, Copy, Debug, PartialEq, Eq)]
@@ -218,7 +212,8 @@ pub fn optional_reader<'a, S: ReadAt>(
     elf: &Elf,
     section: Option<NamedSection>,
 ) -> Result<Option<ContentReader<'a, S>>, ElfFault>
-    ensures opens { ForBytes (S.all_bytes source.entry.now) (λ f. OpensOption S.all_bytes
+    requires within { ForBytes (S.all_bytes source.now) (λ f. LiesIn f section) }
+    ensures opens { ForBytes (S.all_bytes source.entry.now) (λ f. OpensOption S.all_bytes S.fails_with (S.fails_with source.entry.now)
         (option_map (content elf.now f) section) (HasStream elf.now f section) result) }
     ensures read { IfRead (S.fails_with source.entry.now) result }
 {
@@ -226,68 +221,6 @@ pub fn optional_reader<'a, S: ReadAt>(
         Some(section) => Ok(Some(ContentReader::open(alloc, source, elf, &section)?)),
         None => Ok(None),
     }
-}
-
-/// The fault of a section of this name that is inflated here, by why its last read failed; where that isn't damage, want
-/// of memory.
-fn stopped_by(name: SectionName, fault: Option<ReadFault>) -> ElfFault
-    ensures { StopsInflating name result }
-{
-    match fault {
-        Some(ReadFault::DamagedStream(at)) => ElfFault::DamagedStream(name, at),
-        _ => ElfFault::NoMemory,
-    }
-}
-
-/// What the stream in the bytes of a compressed section of this name inflates to. More bytes than are held are
-/// inflated without being kept, so that the damage of their stream is told.
-fn inflate_whole(
-    alloc: Global,
-    section: &[u8],
-    name: SectionName,
-    header: &CompressionHeader,
-) -> Result<Vec<u8>, ElfFault>
-    ensures { IfErr result (StopsInflating name) }
-{
-    let source = Cursor::new(section);
-    let range = Range {
-        offset: 0,
-        size: section.len() as u64,
-    };
-    let mut reader = InflatedReader::new(&source, name, range, header);
-    if HELD_LIMIT < header.size {
-        let _ = io::copy(&mut reader, &mut io::sink());
-        return Err(stopped_by(name, reader.last_fault()));
-    }
-    let mut bytes = Vec::new(alloc);
-    if reader.read_to_end(&mut bytes).is_ok() {
-        return Ok(bytes);
-    }
-    Err(stopped_by(name, reader.last_fault()))
-}
-
-/// All bytes of the line section; of one that is compressed, those that its stream inflates to.
-fn whole_bytes<S: ReadAt>(
-    alloc: Global,
-    source: &S,
-    elf: &Elf,
-    line: &NamedSection,
-) -> Result<Vec<u8>, ElfFault>
-    requires within { ForBytes (S.all_bytes source.now)
-        (λ f. range_within (section_range line.now.header) f ≡ true) }
-    ensures bytes { ForBytes (S.all_bytes source.now) (λ f. compression_header elf.now f line.now ≡ None
-        → IfOk result (λ v. v.items ≡ section_bytes line.now.header f)) }
-    ensures stops { ForBytes (S.all_bytes source.now) (λ f. compression_header elf.now f line.now ≡ None
-        → IfErr result (StopsReading (S.fails_with source.now))) }
-    ensures read { IfRead (S.fails_with source.now) result }
-{
-    let Some(bytes) = read_bytes(alloc, source, &line.header)? else {
-        return Err(ElfFault::Damaged(Part::Section(line.name)));
-    };
-    let Some(header) = compression_header(source, elf, line)? else {
-        return Ok(bytes);
-    };
-    inflate_whole(alloc, bytes.as_slice(), line.name, &header)
 }
 
 /// A reader of the line section's bytes. Those of an object file are held in memory where it has
@@ -304,7 +237,7 @@ pub fn line_reader<'a, S: ReadAt>(
     requires forward { ForBytes (S.all_bytes source.now)
         (λ f. NoneForward elf.now f (forward_of sections.now)) }
     requires passed { forward_of sections.now - 1 ≤ elf.now.count - 1 }
-    ensures opens { ForBytes (S.all_bytes source.entry.now) (λ f. OpensLine S.all_bytes (IsLine elf.now f line.now)
+    ensures opens { ForBytes (S.all_bytes source.entry.now) (λ f. OpensLine S.all_bytes S.fails_with (S.fails_with source.entry.now) (IsLine elf.now f line.now)
         (HasRelocations elf.now f line.now.number ⊎ HasStream elf.now f (Some line.now)) result) }
     ensures read { IfRead (S.fails_with source.entry.now) result }
 {
@@ -339,7 +272,7 @@ fn open_chosen<'a, S: ReadAt>(
     requires forward { ForBytes (S.all_bytes source.now)
         (λ f. NoneForward elf.now f (forward_of sections.now)) }
     requires passed { forward_of sections.now - 1 ≤ elf.now.count - 1 }
-    ensures opens { ForBytes (S.all_bytes source.entry.now) (λ f. OpensTable S.all_bytes
+    ensures opens { ForBytes (S.all_bytes source.entry.now) (λ f. OpensTable S.all_bytes S.fails_with (S.fails_with source.entry.now)
         (IsTableOf elf.now f chosen.now) (TakesMemoryFor elf.now f chosen.now) result) }
     ensures read { IfRead (S.fails_with source.entry.now) result }
 {
@@ -384,7 +317,7 @@ pub fn open_line_file<'a, S: ReadAt>(
     source: &'a S,
     wanted: Wanted,
 ) -> Result<LineFile<'a, S>, ElfFault>
-    ensures opens { ForBytes (S.all_bytes source.entry.now) (λ f. Opens S.all_bytes f wanted result) }
+    ensures opens { ForBytes (S.all_bytes source.entry.now) (λ f. Opens S.all_bytes S.fails_with (S.fails_with source.entry.now) f wanted result) }
     ensures read { IfRead (S.fails_with source.entry.now) result }
 {
     let elf = open_elf(source)?;

@@ -1,10 +1,10 @@
 //! The bytes of a line section as a reader.
-ghost use Rattle.std.specs.Prelude.{◌≡◌, IfErr, drop, option_map};
+ghost use Rattle.std.specs.Prelude.{◌≡◌, IfSome, drop, option_map};
 ghost use Rattle.std.specs.Io.Cursor.{cursor_inner, cursor_position};
 ghost use Rattle.std.specs.Io.{ReadsAtMost};
 ghost use Rattle.std.specs.Io.KnownBytes.{ReadConsumes};
 ghost use Rattle.std.specs.declared.io.Error.{Error};
-ghost use Rattle.dl_file.specs.Faults.{Tells};
+ghost use Rattle.dl_file.specs.Faults.{IsReadOf, Tells};
 ghost use Rattle.dl_file.specs.ContentReader.{EndsBy};
 ghost use Rattle.dl_file.specs.LineReader.{LineReaderFails, line_damage, line_fault, line_held, line_remaining};
 ghost use Rattle.dl_file.specs.LineReader.{LineReaderFollows, LineReaderMayFail, line_stream};
@@ -80,7 +80,7 @@ impl<'a, S: ReadAt> Read for LineReader<'a, S> {
         ensures ends { EndsBy (line_damage S.all_bytes self.old) (line_remaining S.all_bytes self.new) (line_fault self.new)
             result buffer.new }
         ensures damage { line_damage S.all_bytes self.new ≡ line_damage S.all_bytes self.old }
-        ensures fails { IfErr result (LineReaderFails S.all_bytes S.fails_with self.old) }
+        ensures fails { IfSome (line_fault self.new) (IsReadOf (LineReaderFails S.all_bytes S.fails_with self.old)) }
         ensures later { (error : Error) → LineReaderFails S.all_bytes S.fails_with self.new error
             → LineReaderFails S.all_bytes S.fails_with self.old error }
         ensures fault { Tells (line_fault self.new) result }

@@ -195,8 +195,8 @@ pub fn relocate_line<S: ReadAt>(
     requires within { first - 1 ≤ elf.now.count - 1 }
     requires none { ForBytes (S.all_bytes source.now) (λ f.
         relocations_upto elf.now f line.now.number (first - 1) ≡ Some 0) }
-    ensures made { ForBytes (S.all_bytes source.now) (λ f. bytes.old ≡ section_bytes line.now.header f
-        → IsMade (relocated_upto elf.now f line.now (elf.now.count - 1)) bytes.new result) }
+    ensures made { ForBytes (S.all_bytes source.now)
+        (λ f. IsMade (relocated_upto elf.now f line.now bytes.old (elf.now.count - 1)) bytes.new result) }
     ensures read { IfRead (S.fails_with source.now) result }
 {
     let mut window = Window::new();

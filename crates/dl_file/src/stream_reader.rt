@@ -1,13 +1,14 @@
 //! The stream of a compressed section, read and inflated.
 ghost use Rattle.std.specs.Prelude.{◌≡◌, ◌≤◌, ◌<◌, ◌+◌, ◌-◌, ℕ, List, Ok, IfOk, length, take, drop};
 ghost use Rattle.dl_zlib.specs.Feeding.{FeedIs};
+ghost use Rattle.dl_zlib.specs.Progress.{Costs};
 ghost use Rattle.dl_zlib.specs.StreamStands.{StandsFor};
+ghost use Rattle.dl_file.specs.Inflates.{Inflates};
 
 use crate::read_fault::ReadFault;
 use dl_elf::{CompressionHeader, ReadAt, SectionReader};
 use dl_zlib::{Event, Fed, Inflate};
-use std::io;
-use std::io::{ErrorKind, Read};
+use std::io::Read;
 
 /// How many bytes of the stream are read at a time.
 const PIECE: usize = 32768;
@@ -20,6 +21,7 @@ fn feed(inflate: &mut Inflate, piece: &[u8; PIECE], start: usize, end: usize) ->
     ensures all { result.event ≡ Event.More → start + result.used ≡ end }
     ensures fed { (bytes gone : List ℕ) → StandsFor inflate.old bytes gone
         → FeedIs bytes gone (take (end - start) (drop start piece.now)) result inflate.old inflate.new }
+    ensures costs { Costs inflate.old result.used inflate.new }
 {
     inflate.feed(&piece[start..end])
 }
@@ -59,6 +61,7 @@ pub struct StreamReader<'a, S> {
     is_over: bool,
     ghost in_order: { fed ≤ filled },
     ghost within: { filled ≤ 32768 },
+    ghost inflates: { ∥ Inflates inflate ∥₁ },
 }
 
 impl<'a, S: ReadAt> StreamReader<'a, S> {
@@ -66,8 +69,10 @@ impl<'a, S: ReadAt> StreamReader<'a, S> {
     ghost use Rattle.dl_file.specs.declared.read_fault.ReadFault.TheVariants.{DamagedStream};
     ghost use Rattle.dl_zlib.specs.StreamStands.{waiting};
     ghost use Rattle.dl_file.specs.declared.stream_reader.Told.{Told};
-    ghost use Rattle.dl_elf.specs.Reader.{reader_remaining};
-    ghost use Rattle.dl_file.specs.InStep.{AllGiven, ComesTo, GivesNext, IsFed, NextIs, PieceIs, StandsAt, StandsIn};
+    ghost use Rattle.std.specs.declared.io.Error.{Error};
+    ghost use Rattle.dl_elf.specs.Reader.{ReaderFails, reader_remaining};
+    ghost use Rattle.dl_file.specs.Faults.{IsReadOf};
+    ghost use Rattle.dl_file.specs.InStep.{AllGiven, ComesTo, GivesNext, IsFed, NextIs, PieceIs, StandsAt, StandsIn, worth};
 
     /// At the beginning of the stream.
     pub fn new(told: &Told, stream: SectionReader<'a, S>) -> StreamReader<'a, S>
@@ -75,6 +80,7 @@ impl<'a, S: ReadAt> StreamReader<'a, S> {
             → length b ≤ told.now.section_size - told.now.header.stream_offset → told.now.section_size < 2 ^ 64
             → StandsIn S.all_bytes told.now result b }
         ensures left { result.left ≡ told.now.header.size }
+        ensures stream { result.stream ≡ stream.entry }
     {
         StreamReader {
             stream,
@@ -96,6 +102,10 @@ impl<'a, S: ReadAt> StreamReader<'a, S> {
         ensures piece { (b bytes gone : List ℕ) → StandsAt S.all_bytes told.now self.old b bytes gone
             → PieceIs told.now b bytes result }
         ensures left { self.new.left ≡ self.old.left }
+        ensures worth { IfOk result (λ done. worth self.new < worth self.old) }
+        ensures fails { IfErr result (IsReadOf (ReaderFails S.all_bytes S.fails_with self.old.stream)) }
+        ensures later { (error : Error) → ReaderFails S.all_bytes S.fails_with self.new.stream error
+            → ReaderFails S.all_bytes S.fails_with self.old.stream error }
     {
         let n = self.stream.read(&mut self.piece)?;
         if n == 0 {
@@ -113,6 +123,9 @@ impl<'a, S: ReadAt> StreamReader<'a, S> {
             → StandsAt S.all_bytes told self.new b bytes (gone ++ waiting self.old.inflate) }
         ensures given { self.new.given ≡ 0 }
         ensures left { self.new.left ≡ self.old.left }
+        ensures worth { worth self.new ≡ worth self.old }
+        ensures output { waiting self.new.inflate ≡ [] }
+        ensures stream { self.new.stream ≡ self.old.stream }
     {
         self.is_over |= self.given < self.inflate.output().len();
         self.inflate.take();
@@ -126,6 +139,10 @@ impl<'a, S: ReadAt> StreamReader<'a, S> {
             → IsFed S.all_bytes told self.new b result }
         ensures all { result ≡ Event.More → self.new.fed ≡ self.new.filled }
         ensures left { self.new.left ≡ self.old.left }
+        ensures worth { worth self.new ≤ worth self.old }
+        ensures output { 0 < length (waiting self.new.inflate) → worth self.new < worth self.old }
+        ensures full { result ≡ Event.Full → 0 < length (waiting self.new.inflate) }
+        ensures stream { self.new.stream ≡ self.old.stream }
     {
         self.take();
         let fed = feed(&mut self.inflate, &self.piece, self.fed, self.filled);
@@ -140,6 +157,10 @@ impl<'a, S: ReadAt> StreamReader<'a, S> {
             → StandsIn S.all_bytes told.now self.new b × ComesTo told.now b self.new.left result }
         ensures left { self.new.left ≡ self.old.left }
         ensures ended { result ≡ Ok Progress.Ended → self.new.left ≡ 0 }
+        ensures worth { result ≡ Ok Progress.Onward → worth self.new < worth self.old }
+        ensures fails { IfErr result (IsReadOf (ReaderFails S.all_bytes S.fails_with self.old.stream)) }
+        ensures later { (error : Error) → ReaderFails S.all_bytes S.fails_with self.new.stream error
+            → ReaderFails S.all_bytes S.fails_with self.old.stream error }
     {
         let event = self.feed_piece();
         if !self.inflate.output().is_empty() {
@@ -180,6 +201,8 @@ impl<'a, S: ReadAt> StreamReader<'a, S> {
             × GivesNext told b self.old.left self.new.left (take result buffer.new) }
         ensures left { self.new.left + result ≡ self.old.left }
         ensures all { result ≡ 0 → 0 < length buffer.new → AllGiven self.new }
+        ensures worth { worth self.new ≡ worth self.old }
+        ensures stream { self.new.stream ≡ self.old.stream }
     {
         let Some(waiting) = self.inflate.output().get(self.given..) else {
             return 0;
@@ -197,11 +220,14 @@ impl<'a, S: ReadAt> StreamReader<'a, S> {
         ensures next { (b : List ℕ) → StandsIn S.all_bytes told.now self.old b
             → StandsIn S.all_bytes told.now self.new b
             × NextIs told.now b self.old.left self.new.left result buffer.new }
+        ensures fails { IfErr result (IsReadOf (ReaderFails S.all_bytes S.fails_with self.old.stream)) }
+        ensures later { (error : Error) → ReaderFails S.all_bytes S.fails_with self.new.stream error
+            → ReaderFails S.all_bytes S.fails_with self.old.stream error }
     {
         if buffer.is_empty() {
             return Ok(0);
         }
-        for _ in 0..u64::MAX {
+        loop {
             let n = self.give(buffer);
             if n > 0 {
                 return Ok(n);
@@ -211,6 +237,5 @@ impl<'a, S: ReadAt> StreamReader<'a, S> {
                 Progress::Ended => return Ok(0),
             }
         }
-        Err(ReadFault::Read(io::Error::from(ErrorKind::Interrupted)))
     }
 }

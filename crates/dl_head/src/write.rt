@@ -1,6 +1,6 @@
 //! Headers, written with shortest numbers. Section 6.2.4.
 
-ghost use Rattle.std.specs.Prelude.{◌≡◌, ◌↔◌, ◌++◌, ◌+◌, ◌-◌, ◌^◌, IsOk, IfOk, IsTrue, length, min};
+ghost use Rattle.std.specs.Prelude.{◌≡◌, ◌↔◌, ◌++◌, ◌+◌, ◌-◌, ◌^◌, ℕ, Err, IsOk, IfOk, IsTrue, OnErr, length, min};
 ghost use Rattle.dl_num.specs.declared.fixed.Order.{Order};
 ghost use Rattle.dl_num.specs.declared.fixed.Order.TheVariants.{Little};
 ghost use Rattle.dl_head.specs.HeaderLayout.{fixed_part as fixed_part_of};
@@ -17,9 +17,9 @@ use crate::header::Header;
 use crate::sizes::{fixed_part, initial_size};
 use dl_field::Params;
 use dl_num::Order;
+use dl_output::Destination;
 use dl_table::counted::{put, put_number};
 use dl_table::{Format, HeadWrite};
-use std::io::Write;
 use thiserror::Error;
 
 /// The unit would be longer than its format allows.
@@ -44,14 +44,15 @@ pub fn header_len(header: &Header, program_len: u64) -> Result<u64, TooLong>
 
 /// Writes the bytes of a unit before its program, which has `program_len` bytes, and answers how many
 /// they are. After a write that failed exactly the first `out` bytes are out.
-pub fn write_header<W: Write>(
+pub fn write_header<W: Destination>(
     output: &mut W,
     order: Order,
     header: &Header,
     program_len: u64,
 ) -> Result<u64, HeadWrite>
-    ensures { WritesHeader order header.now program_len
+    ensures written { WritesHeader order header.now program_len
         (W.contents output.old) (W.contents output.new) result }
+    ensures blames { (out : ℕ) → result ≡ Err (HeadWrite.Write out) → W.fails }
 {
     let unit = fields_len(header).saturating_add(program_len);
     if unit > longest_unit(header.params().format) {
@@ -60,7 +61,7 @@ pub fn write_header<W: Write>(
     put_header(output, order, header, unit, header_length(header))
 }
 
-fn put_header<W: Write>(
+fn put_header<W: Destination>(
     output: &mut W,
     order: Order,
     header: &Header,
@@ -70,12 +71,13 @@ fn put_header<W: Write>(
     ensures written { Writes (W.contents output.old) (W.contents output.new) 0
         (front_parts order header.now.params unit rest ++ (table_bytes order header.now.directories
         ++ table_bytes order header.now.files)) result }
+    ensures blames { OnErr result W.fails }
 {
     let out = put_front(output, 0, order, header.params(), unit, rest)?;
     put_tables(output, out, order, header)
 }
 
-fn put_tables<W: Write>(
+fn put_tables<W: Destination>(
     output: &mut W,
     out: u64,
     order: Order,
@@ -83,13 +85,14 @@ fn put_tables<W: Write>(
 ) -> Result<u64, HeadWrite>
     ensures written { Writes (W.contents output.old) (W.contents output.new) out
         (table_bytes order header.now.directories ++ table_bytes order header.now.files) result }
+    ensures blames { OnErr result W.fails }
 {
     let out = header.directories().write(output, out, order)?;
     header.files().write(output, out, order)
 }
 
 /// Writes the fields before the tables.
-fn put_front<W: Write>(
+fn put_front<W: Destination>(
     output: &mut W,
     out: u64,
     order: Order,
@@ -99,13 +102,14 @@ fn put_front<W: Write>(
 ) -> Result<u64, HeadWrite>
     ensures written { Writes (W.contents output.old) (W.contents output.new) out
         (front_parts order params.now unit rest) result }
+    ensures blames { OnErr result W.fails }
 {
     let out = put_start(output, out, order, params, unit)?;
     put_numbers(output, out, order, params, rest)
 }
 
 /// Writes the fields before header_length.
-fn put_start<W: Write>(
+fn put_start<W: Destination>(
     output: &mut W,
     out: u64,
     order: Order,
@@ -115,13 +119,14 @@ fn put_start<W: Write>(
     ensures written { Writes (W.contents output.old) (W.contents output.new) out
         (initial_length_bytes order params.now.format unit
         ++ version_parts order params.now) result }
+    ensures blames { OnErr result W.fails }
 {
     let out = put_initial_length(output, out, order, params.format, unit)?;
     put_version(output, out, order, params)
 }
 
 /// Writes unit_length. Section 7.4.
-fn put_initial_length<W: Write>(
+fn put_initial_length<W: Destination>(
     output: &mut W,
     out: u64,
     order: Order,
@@ -130,6 +135,7 @@ fn put_initial_length<W: Write>(
 ) -> Result<u64, HeadWrite>
     ensures written { Writes (W.contents output.old) (W.contents output.new) out
         (initial_length_bytes order format unit) result }
+    ensures blames { OnErr result W.fails }
 {
     match format {
         Format::Dwarf32 => put_number(output, out, order, 4, unit),
@@ -141,7 +147,7 @@ fn put_initial_length<W: Write>(
 }
 
 /// Writes version, address_size and segment_selector_size.
-fn put_version<W: Write>(
+fn put_version<W: Destination>(
     output: &mut W,
     out: u64,
     order: Order,
@@ -149,6 +155,7 @@ fn put_version<W: Write>(
 ) -> Result<u64, HeadWrite>
     ensures written { Writes (W.contents output.old) (W.contents output.new) out
         (version_parts order params.now) result }
+    ensures blames { OnErr result W.fails }
 {
     let out = put_number(output, out, order, 2, 5)?;
     put(
@@ -159,7 +166,7 @@ fn put_version<W: Write>(
 }
 
 /// Writes header_length, and the fields from it to the opcode lengths.
-fn put_numbers<W: Write>(
+fn put_numbers<W: Destination>(
     output: &mut W,
     out: u64,
     order: Order,
@@ -169,15 +176,21 @@ fn put_numbers<W: Write>(
     ensures written { Writes (W.contents output.old) (W.contents output.new) out
         (fixed_bytes order (offset_size_of params.now.format) rest
         ++ number_parts params.now) result }
+    ensures blames { OnErr result W.fails }
 {
     let out = put_number(output, out, order, params.format.offset_size(), rest)?;
     put_byte_fields(output, out, params)
 }
 
 /// Writes the fields of one byte after header_length, and the opcode lengths.
-fn put_byte_fields<W: Write>(output: &mut W, out: u64, params: &Params) -> Result<u64, HeadWrite>
+fn put_byte_fields<W: Destination>(
+    output: &mut W,
+    out: u64,
+    params: &Params,
+) -> Result<u64, HeadWrite>
     ensures written { Writes (W.contents output.old) (W.contents output.new) out
         (number_parts params.now) result }
+    ensures blames { OnErr result W.fails }
 {
     let out = put(output, out, &byte_fields(params))?;
     put(output, out, params.lengths.as_slice())

@@ -27,8 +27,12 @@ abbrev pub Fails : {R : Type 0} → (follows : R → ℕ → R → Type 0) → (
 Fails {R} follows fails first =
     fails first ⊎ ((failed : ℕ) × (now : R) × (1000 < failed) × follows first failed now)
 
--- reads, of which one is blamed where `Blamed` holds
+-- what `first` has become by reads, of which the last one failed
+abbrev pub Failed : {R : Type 0} → (follows : R → ℕ → R → Type 0) → (first now : R) → Type 0
+Failed follows first now = (failed : ℕ) × (0 < failed) × follows first failed now
+
+-- reads, of which the last one is blamed where `Blamed` holds
 abbrev pub Blames : {R : Type 0} → (follows : R → ℕ → R → Type 0) → (fails : R → Type 0) → (old new : R)
     → (Blamed : Type 0) → Type 0
 Blames {R} follows fails old new Blamed = (first : R) → Became follows first old
-    → Became follows first new × (Blamed → Fails follows fails first)
+    → Became follows first new × (Blamed → Fails follows fails first × Failed follows first new)

@@ -33,8 +33,9 @@ use Rattle.dl_stretch.specs.Runs.{place_at}
 use Rattle.dl_stretch.specs.Runs as runs
 use Rattle.dl_stretch.specs.Stands.{Stands}
 use Rattle.dl_stretch.specs.declared.run.Run.{Run}
-use Rattle.dl_stretch.specs.Runs.{number_in}
-use Rattle.dl_stretch.specs.Held.{held}
+use Rattle.dl_stretch.specs.Runs.{number_in, held_in}
+use Rattle.dl_stretch.specs.Held.{AreHeld, held}
+use Rattle.dl_stretch.proofs.HeldLemmas.{held_as_given}
 use Rattle.dl_stretch.specs.ToldUnits.{NameFiles, UnitRows, file_of, told_of_units}
 use Rattle.dl_stretch.proofs.UnitLemmas.{told_of_units-push}
 use Rattle.dl_pack.specs.Named.{Named, Grows, Once}
@@ -50,7 +51,7 @@ use Rattle.dl_making.proofs.NumberLemmas.{still_there}
 -- ---- visits that end no unit
 
 -- what one more visit tells
-told_more : (first : Maker) (visits more : List Visit) (a : ℕ)
+told_more : {M : Type 0} (first : Maker M) (visits more : List Visit) (a : ℕ)
     → located_after (code_of first) (place_at a) (rows_after [] visits) (offset_after first.unit visits) more ≡ None
     → told_after first (visits ++ more) a ≡ told_after first visits a
 told_more first visits more a none =
@@ -59,16 +60,17 @@ told_more first visits more a none =
     ∙ ap (option_or (located_after (code_of first) (place_at a) [] first.unit visits)) none
     ∙ or_none (located_after (code_of first) (place_at a) [] first.unit visits))
 
-module _ (first old new : Maker) (start held : Option (List ℕ)) (visits more : List Visit)
-    (s : Making first old start held visits) where
+module _ {M : Type 0} {Refused : M → Type 0} (first old new : Maker M) (start held : Option (List ℕ)) (visits more : List Visit)
+    (s : Making Refused first old start held visits) where
   -- it goes on with visits that end no unit
   pub goes_on : ((rows : List Row) (n : ℕ) (x : Place) → located_after (code_of first) x rows n more ≡ None)
       → IsSame old new → new.unit ≡ offset_after old.unit more → new.is_refused ≡ old.is_refused → new.names ≡ old.names
       → ((units : List UnitRows) → old.is_refused ≡ false → Stands (code_of first) old.runs units (rows_after [] visits)
       → Stands (code_of first) new.runs units (rows_after [] (visits ++ more)))
-      → Making first new start held (visits ++ more)
+      → Making Refused first new start held (visits ++ more)
   goes_on none same unit refused names stands = record {
     same = record {
+      memory = same.memory ∙ s.same.memory;
       code = same.code ∙ s.same.code;
       directories = same.directories ∙ s.same.directories;
       strings = same.strings ∙ s.same.strings;
@@ -82,14 +84,16 @@ module _ (first old new : Maker) (start held : Option (List ℕ)) (visits more :
           ∙ ap (option_map Some) (sym (told_more first visits more a (none (rows_after [] visits) (offset_after first.unit visits) (place_at a))));
       once = subst (λ ns. Once (named_files ns)) (sym names) t.once;
     });
+    refused = λ e. s.refused (sym refused ∙ e);
     nothing = s.nothing;
   }
 
 -- it stops at a visit, for want of memory
-pub stops : (first old new : Maker) (start held : Option (List ℕ)) (visits : List Visit) (visit : Visit)
-    → Making first old start held visits → IsSame old new → new.unit ≡ old.unit → new.is_refused ≡ true
-    → StopsIn making_story first new start held visits (visit ∷ []) fault.NoMemory
-stops first old new start held visits visit s same unit refused = (
+pub stops : {M : Type 0} (Refused : M → Type 0) (first old new : Maker M) (start held : Option (List ℕ)) (visits : List Visit)
+    (visit : Visit) → Making Refused first old start held visits → IsSame old new → new.unit ≡ old.unit
+    → new.is_refused ≡ true → Refused old.memory.now
+    → StopsIn (making_story Refused) first new start held visits (visit ∷ []) fault.NoMemory
+stops Refused first old new start held visits visit s same unit refused wanted = (
   visit ∷ [],
   [],
   refl,
@@ -99,15 +103,17 @@ stops first old new start held visits visit s same unit refused = (
     refl,
     record {
       same = record {
+        memory = same.memory ∙ s.same.memory;
         code = same.code ∙ s.same.code;
         directories = same.directories ∙ s.same.directories;
         strings = same.strings ∙ s.same.strings;
       };
       unit = unit ∙ s.unit;
       tells = λ e. absurd (Rattle.std.proofs.Common.true≢false (sym refused ∙ e));
+      refused = λ e. subst Refused s.same.memory wanted;
       nothing = s.nothing;
     },
-    refl,
+    record { is = refl; refused = subst Refused s.same.memory wanted },
   ),
 )
 
@@ -149,8 +155,8 @@ module _ (old new : List Named) (grows : Grows old new) (number : ℕ → ℕ) (
     end_told (Some t) (Some l) found is right =
         ap Some (named_grown old new t (tell l) grows (some_same (named_told old t) (Some (tell l)) is))
 
-module _ (first old new : Maker) (start held : Option (List ℕ)) (visits : List Visit) (h : Option HeaderData)
-    (s : Making first old start held visits) (same : IsSame old new) (unit : new.unit ≡ old.unit)
+module _ {M : Type 0} {Refused : M → Type 0} (first old new : Maker M) (start held : Option (List ℕ)) (visits : List Visit)
+    (h : Option HeaderData) (s : Making Refused first old start held visits) (same : IsSame old new) (unit : new.unit ≡ old.unit)
     (refused : new.is_refused ≡ old.is_refused) (ended : EndsUnit old new h) where
   abbrev live : ℕ → Bool
   live = code_of first
@@ -195,9 +201,10 @@ module _ (first old new : Maker) (start held : Option (List ℕ)) (visits : List
       (or_none (located_under live (place_at a) rows offset h)
       ∙ ap (option_map located) (of_live_rows live rows (place_at a))))
 
-  pub ends : Making first new start held (visits ++ of_end h ∷ [])
+  pub ends : Making Refused first new start held (visits ++ of_end h ∷ [])
   ends = record {
     same = record {
+      memory = same.memory ∙ s.same.memory;
       code = same.code ∙ s.same.code;
       directories = same.directories ∙ s.same.directories;
       strings = same.strings ∙ s.same.strings;
@@ -215,15 +222,17 @@ module _ (first old new : Maker) (start held : Option (List ℕ)) (visits : List
           ∙ ap (option_map Some) (sym (told_then a));
       once = ended.once t.once;
     });
+    refused = λ e. s.refused (sym refused ∙ e);
     nothing = s.nothing;
   }
 
 -- ---- the beginning
 
-pub begins : (first : Maker) (start : Option (List ℕ)) → ((live : ℕ → Bool) → Stands live first.runs [] [])
-    → named_files first.names ≡ [] → Appends start start [] → Making first first start start []
-begins first start stands none nothing = record {
-  same = record { code = refl; directories = refl; strings = refl };
+pub begins : {M : Type 0} (Refused : M → Type 0) (first : Maker M) (start : Option (List ℕ)) → first.is_refused ≡ false
+    → ((live : ℕ → Bool) → Stands live first.runs [] [])
+    → named_files first.names ≡ [] → Appends start start [] → Making Refused first first start start []
+begins Refused first start sufficed stands none nothing = record {
+  same = record { memory = refl; code = refl; directories = refl; strings = refl };
   unit = refl;
   tells = λ e. record {
     units = [];
@@ -231,18 +240,20 @@ begins first start stands none nothing = record {
     tells = λ a lt. refl;
     once = subst Once (sym none) (λ i j x at_i at_j. absurd (none_some x at_i));
   };
+  refused = λ e. absurd (Rattle.std.proofs.Common.true≢false (sym e ∙ sufficed));
   nothing = nothing;
 }
 
 -- it has printed nothing
-pub settles : (first now : Maker) (start held : Option (List ℕ)) (visits : List Visit) (flow : Flow)
-    → GoesOn making_story first now start held visits flow → GoesOn making_story first now start held visits flow
-    × Appends start held []
-settles first now start held visits flow.On s = (s, s.nothing)
-settles first now start held visits flow.Stop s = absurd s
+pub settles : {M : Type 0} (Refused : M → Type 0) (first now : Maker M) (start held : Option (List ℕ)) (visits : List Visit)
+    (flow : Flow) → GoesOn (making_story Refused) first now start held visits flow
+    → GoesOn (making_story Refused) first now start held visits flow × Appends start held []
+settles Refused first now start held visits flow.On s = (s, s.nothing)
+settles Refused first now start held visits flow.Stop s = absurd s
 
 -- the files of a unit have their numbers, and its rows count
-module _ (old new : Maker) (h : Option HeaderData) (u : UnitFiles) (runs : List Run) (numbers : List ℕ) (other : ℕ)
+module _ {M : Type 0} (old new : Maker M) (h : Option HeaderData) (u : UnitFiles) (runs : List Run) (numbers : List ℕ) (other : ℕ)
+    (are : AreHeld numbers other)
     (grows : Grows (named_files old.names) (named_files new.names))
     (once : Once (named_files old.names) → Once (named_files new.names)) where
   pub ended : ((file : ℕ) → Contains (map file_of runs) (held file)
@@ -251,17 +262,18 @@ module _ (old new : Maker) (h : Option HeaderData) (u : UnitFiles) (runs : List 
       → NameFiles live rows runs)
       → ((file : ℕ) → file_in u file ≡ file_named old h file)
       → ((live : ℕ → Bool) (units : List UnitRows) (rows : List Row) → Stands live old.runs units rows
-      → Stands live new.runs (units ++ record { number = number_in numbers other; rows = rows } ∷ []) [])
+      → Stands live new.runs (units ++ record { number = held_in numbers other; rows = rows } ∷ []) [])
       → EndsUnit old new h
   ended numbered named same stands = record {
     grows = grows;
     once = once;
-    number = number_in numbers other;
+    number = held_in numbers other;
     stands = stands;
-    numbered = λ live units rows st a r lt is. numbered r.file (named live units rows st a r lt is) ∙ ap Some (same r.file);
+    numbered = λ live units rows st a r lt is. ap (slice_get (named_files new.names)) (held_as_given numbers other are r.file)
+        ∙ numbered r.file (named live units rows st a r lt is) ∙ ap Some (same r.file);
   }
 
-pub file_is : (old : Maker) (h : Option HeaderData) (u : UnitFiles) (file : ℕ) → u.strings.now ≡ old.strings.now
+pub file_is : {M : Type 0} (old : Maker M) (h : Option HeaderData) (u : UnitFiles) (file : ℕ) → u.strings.now ≡ old.strings.now
     → option_copied u.directory ≡ beside_table (has_directory_0 h) (directory_by old.directories old.unit)
     → option_copied u.header ≡ h → u.offset ≡ old.unit → file_in u file ≡ file_named old h file
 file_is old h u file strings directory header offset =
@@ -270,16 +282,16 @@ file_is old h u file strings directory header offset =
     (beside_table (has_directory_0 h) (directory_by old.directories old.unit)) hh n file) header offset
 
 -- a damaged unit is left out
-pub forgets : (old new : Maker) (damage : Damage) → IsSame old new → new.unit ≡ old.unit → new.is_refused ≡ old.is_refused
+pub forgets : {M : Type 0} (Refused : M → Type 0) (old new : Maker M) (damage : Damage) → IsSame old new → new.unit ≡ old.unit → new.is_refused ≡ old.is_refused
     → new.names ≡ old.names
     → ((live : ℕ → Bool) (units : List UnitRows) (rows : List Row) → Stands live old.runs units rows
     → Stands live new.runs units [])
-    → IsTold making_story old new damage
-forgets old new damage same unit refused names forgot = record {
+    → IsTold (making_story Refused) old new damage
+forgets Refused old new damage same unit refused names forgot = record {
   tells = λ first start now visits s. (let more = of_damage damage.offset damage.kind ∷ [] in
       goes_on first old new start now visits more s (λ rows n x. refl) same unit refused names
       (λ units e stands. subst (Stands (code_of first) new.runs units) (sym (rows_after-append [] visits more))
       (forgot (code_of first) units (rows_after [] visits) stands)));
   quiet = λ first visits. refl;
-  reasons = λ first visits offset kind r. absurd cc;
+  reasons = λ first visits offset kind r. (let e = r.is in absurd cc);
 }

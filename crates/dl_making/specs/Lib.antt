@@ -2,6 +2,8 @@
 pub mod Files
 pub mod Telling
 pub mod IsIndexOf
+pub mod TellsMany
+pub mod Wants
 pub mod Makes
 pub mod Writes
 pub mod Until
@@ -9,6 +11,5 @@ pub mod WritesUntil
 pub mod LineLaws
 -- Of contracts inside the crate, and of proofs; no public contract reaches these.
 pub mod UnitFile
-pub mod Wants
 pub mod Numbers
 pub mod Making

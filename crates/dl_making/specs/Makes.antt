@@ -1,9 +1,12 @@
 -- What the making of an index comes to. bytes: what was read from a reader, which has `left` left; None: it isn't known.
-use Rattle.std.specs.Prelude.{⊤, ℕ, List, [], take, Option, Result, Ok, Err}
+-- refuses: for how many items memory is refused.
+use Rattle.std.specs.Prelude.{◌⊎◌, ℕ, List, [], take, Option, Result, Ok, Err}
 use Rattle.std.specs.Option.{option_copied, option_map}
 use Rattle.dl_head.specs.declared.dialect.Dialect.{Dialect}
 use Rattle.dl_print.specs.ValueText.{Strings}
 use Rattle.dl_dirs.specs.Compilation.{directory_by}
+use Rattle.dl_print.specs.declared.summary.Summary.{Summary}
+use Rattle.dl_run.specs.declared.around.Survey.{Survey}
 use Rattle.dl_run.specs.declared.fault.RunFault.{RunFault}
 use Rattle.dl_run.specs.declared.fault.RunFault.TheVariants as fault
 use Rattle.dl_run.specs.Around.{Block, Rest, EndsAround}
@@ -17,6 +20,7 @@ use Rattle.dl_making.specs.declared.making.MadeAround.{MadeAround}
 use Rattle.dl_making.specs.declared.making.Table.{Table}
 use Rattle.dl_making.specs.IsIndexOf.{IsIndexOf}
 use Rattle.dl_making.specs.Telling.{told_by, told_of}
+use Rattle.dl_making.specs.Wants.{WantsIndex, WantsMemory, WantsMemoryAround}
 
 -- by the units of a section
 abbrev pub told_in : Dialect → Strings → Table → List (List ℕ) → ℕ → Option Told
@@ -33,23 +37,30 @@ told_around dialect s table blocks a =
 abbrev pub id_kept : Table → List ℕ
 id_kept table = take 32 table.build_id.now
 
--- `make_index`: the index of the units to the end; or the first fault, as of `check`. Nothing is said of where memory is
--- refused
-abbrev pub Makes : Dialect → Strings → Table → (limit : ℕ) (bytes : List ℕ) (left : Option (List ℕ))
+-- `make_index`: the index of the units to the end; or the first fault, as of `check`; or memory is wanted, for the reading or,
+-- where that came to the end, for the index
+abbrev pub Makes : (refuses : ℕ → Type 0) → Dialect → Strings → Table → (limit : ℕ) (bytes : List ℕ) (left : Option (List ℕ))
     → Result Made RunFault → Type 0
-Makes dialect s table limit bytes left (Ok made) =
+Makes refuses dialect s table limit bytes left (Ok made) =
     (units : List (List ℕ)) × EndsAs dialect limit bytes left units [] [] (Ok made.summary)
     × IsIndexOf table.all (id_kept table) (told_in dialect s table units) made.index.items
-Makes dialect s table limit bytes left (Err fault.NoMemory) = ⊤
-Makes dialect s table limit bytes left (Err f) =
+Makes refuses dialect s table limit bytes left (Err fault.NoMemory) =
+    WantsMemory refuses dialect limit bytes
+    ⊎ ((units : List (List ℕ)) × (summary : Summary) × EndsAs dialect limit bytes left units [] [] (Ok summary)
+    × WantsIndex refuses (told_in dialect s table units))
+Makes refuses dialect s table limit bytes left (Err f) =
     (units : List (List ℕ)) × (b : List ℕ) × (back : List ℕ) × EndsAs dialect limit bytes left units b back (Err f)
 
 -- `make_index_around`: the same of the whole units of a section with damaged ones
-abbrev pub MakesAround : Dialect → Strings → Table → (limit : ℕ) (bytes : List ℕ) (left : Option (List ℕ))
+abbrev pub MakesAround : (refuses : ℕ → Type 0) → Dialect → Strings → Table → (limit : ℕ) (bytes : List ℕ) (left : Option (List ℕ))
     → Result MadeAround RunFault → Type 0
-MakesAround dialect s table limit bytes left (Ok made) =
+MakesAround refuses dialect s table limit bytes left (Ok made) =
     (blocks : List Block) × (rest : Rest) × EndsAround dialect limit bytes left blocks rest (Ok made.survey)
     × IsIndexOf table.all (id_kept table) (told_around dialect s table blocks) made.index.items
-MakesAround dialect s table limit bytes left (Err fault.NoMemory) = ⊤
-MakesAround dialect s table limit bytes left (Err f) =
+MakesAround refuses dialect s table limit bytes left (Err fault.NoMemory) =
+    WantsMemoryAround refuses dialect limit bytes
+    ⊎ ((blocks : List Block) × (rest : Rest) × (survey : Survey)
+    × EndsAround dialect limit bytes left blocks rest (Ok survey)
+    × WantsIndex refuses (told_around dialect s table blocks))
+MakesAround refuses dialect s table limit bytes left (Err f) =
     (blocks : List Block) × (rest : Rest) × EndsAround dialect limit bytes left blocks rest (Err f)

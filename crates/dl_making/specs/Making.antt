@@ -1,5 +1,5 @@
 -- What a maker of an index is told, and what it keeps of it. No promise rests on this file.
-use Rattle.std.specs.Prelude.{◌≡◌, ℕ, ◌<◌, ◌^◌, Bool, false, List, [], ◌∷◌, ◌++◌, slice_get, Option, Some}
+use Rattle.std.specs.Prelude.{◌≡◌, ℕ, ◌<◌, ◌^◌, Bool, true, false, List, [], ◌∷◌, ◌++◌, slice_get, Option, Some}
 use Rattle.std.specs.Option.{option_copied, option_map}
 use Rattle.std.specs.Io.KnownBytes.{Appends}
 use Rattle.dl_field.specs.HeaderData.{HeaderData}
@@ -8,6 +8,7 @@ use Rattle.dl_look.specs.LiveRows.{live_answer}
 use Rattle.dl_print.specs.ValueText.{strings_of}
 use Rattle.dl_path.specs.Paths.{beside_table, has_directory_0}
 use Rattle.dl_dirs.specs.Compilation.{directory_by}
+use Rattle.dl_run.specs.declared.fault.RunFault.{RunFault}
 use Rattle.dl_run.specs.declared.fault.RunFault.TheVariants.{NoMemory}
 use Rattle.dl_run.specs.Copying.{offset_after}
 use Rattle.dl_run.specs.RowsTold.{rows_after}
@@ -26,28 +27,29 @@ use Rattle.dl_making.specs.declared.maker.Maker.{Maker}
 use Rattle.dl_making.specs.Files.{named_file}
 use Rattle.dl_making.specs.Telling.{told_of}
 
-abbrev pub code_of : Maker → ℕ → Bool
+abbrev pub code_of : {M : Type 0} → Maker M → ℕ → Bool
 code_of m = is_code (option_copied m.code)
 
 -- what the visits tell of an address
-abbrev pub told_after : Maker → List Visit → ℕ → Option Told
+abbrev pub told_after : {M : Type 0} → Maker M → List Visit → ℕ → Option Told
 told_after first visits a =
     option_map (told_of (strings_of first.strings.now) (directory_by first.directories))
     (located_after (code_of first) (place_at a) [] first.unit visits)
 
 -- a file of the current unit, whose header this is
-abbrev pub file_named : Maker → Option HeaderData → ℕ → Named
+abbrev pub file_named : {M : Type 0} → Maker M → Option HeaderData → ℕ → Named
 file_named m h file =
     named_file (strings_of m.strings.now) (beside_table (has_directory_0 h) (directory_by m.directories m.unit)) h m.unit file
 
 -- what it was made with, and is told of the section
-pub record IsSame (first now : Maker) : Type 0 where
+pub record IsSame {M : Type 0} (first now : Maker M) : Type 0 where
+  pub memory : now.memory.now ≡ first.memory.now
   pub code : now.code ≡ first.code
   pub directories : now.directories ≡ first.directories
   pub strings : now.strings.now ≡ first.strings.now
 
 -- the runs and the files tell what the visits do
-pub record Tells (first now : Maker) (visits : List Visit) : Type 0 where
+pub record Tells {M : Type 0} (first now : Maker M) (visits : List Visit) : Type 0 where
   pub units : List UnitRows
   pub stands : Stands (code_of first) now.runs units (rows_after [] visits)
   pub tells : (a : ℕ) → a < 2 ^ 64
@@ -55,21 +57,23 @@ pub record Tells (first now : Maker) (visits : List Visit) : Type 0 where
       ≡ option_map Some (told_after first visits a)
   pub once : Once (named_files now.names)
 
--- it was told these visits; where memory was refused no more is known than that
-pub record Making (first now : Maker) (start held : Option (List ℕ)) (visits : List Visit) : Type 0 where
+-- it was told these visits; where it says that memory was refused no more is known than that
+pub record Making {M : Type 0} (Refused : M → Type 0) (first now : Maker M) (start held : Option (List ℕ))
+    (visits : List Visit) : Type 0 where
   pub same : IsSame first now
   pub unit : now.unit ≡ offset_after first.unit visits
   pub tells : now.is_refused ≡ false → Tells first now visits
+  pub refused : now.is_refused ≡ true → Refused first.memory.now
   pub nothing : Appends start held []
 
 -- it was told some visits
-abbrev pub WasTold : Maker → Type 0
-WasTold m =
-    (first : Maker) × (start : Option (List ℕ)) × (held : Option (List ℕ)) × (visits : List Visit)
-    × Making first m start held visits
+abbrev pub WasTold : {M : Type 0} → (Refused : M → Type 0) → Maker M → Type 0
+WasTold {M} Refused m =
+    (first : Maker M) × (start : Option (List ℕ)) × (held : Option (List ℕ)) × (visits : List Visit)
+    × Making Refused first m start held visits
 
 -- the current unit has ended, with this header: its files have their numbers
-pub record EndsUnit (old new : Maker) (h : Option HeaderData) : Type 0 where
+pub record EndsUnit {M : Type 0} (old new : Maker M) (h : Option HeaderData) : Type 0 where
   pub grows : Grows (named_files old.names) (named_files new.names)
   pub once : Once (named_files old.names) → Once (named_files new.names)
   pub number : ℕ → ℕ
@@ -79,11 +83,16 @@ pub record EndsUnit (old new : Maker) (h : Option HeaderData) : Type 0 where
       → (a : ℕ) (r : Row) → a < 2 ^ 64 → live_answer live rows (place_at a) ≡ Some r
       → slice_get (named_files new.names) (number r.file) ≡ Some (file_named old h r.file)
 
+-- memory was refused for what it was told
+pub record StopsFor {M : Type 0} (Refused : M → Type 0) (first : Maker M) (fault : RunFault) : Type 0 where
+  pub is : fault ≡ NoMemory
+  pub refused : Refused first.memory.now
+
 -- nothing is printed, and it stops for want of memory alone
-abbrev pub making_story : Story Maker
-making_story = record {
+abbrev pub making_story : {M : Type 0} → (Refused : M → Type 0) → Story (Maker M)
+making_story Refused = record {
   text = λ first visits. [];
-  tells = Making;
+  tells = Making Refused;
   is_done = λ first new start now visits. ⊥;
-  refuses = λ first visits fault. fault ≡ NoMemory;
+  refuses = λ first visits fault. StopsFor Refused first fault;
 }

@@ -1,5 +1,5 @@
 -- What the writing of an index comes to. bytes: what was read from a reader, which has `left` left. start, now: what the
--- writer held at first, and holds now. None: it isn't known.
+-- writer held at first, and holds now. None: it isn't known. refuses: for how many items memory is refused.
 use Rattle.std.specs.Prelude.{ℕ, List, [], Option, Result, Ok, Err}
 use Rattle.std.specs.Io.KnownBytes.{Appends, Keeps}
 use Rattle.dl_head.specs.declared.dialect.Dialect.{Dialect}
@@ -23,15 +23,15 @@ IsMade dialect s table limit bytes left summary index =
     × IsIndexOf table.all (id_kept table) (told_in dialect s table units) index
 
 -- `write_index`: the index is written whole; or a write failed; or nothing is written, and none could be made
-abbrev pub Writes : Dialect → Strings → Table → (limit : ℕ) (bytes : List ℕ) (left start now : Option (List ℕ))
+abbrev pub Writes : (refuses : ℕ → Type 0) → Dialect → Strings → Table → (limit : ℕ) (bytes : List ℕ) (left start now : Option (List ℕ))
     → Result Summary RunFault → Type 0
-Writes dialect s table limit bytes left start now (Ok summary) =
+Writes refuses dialect s table limit bytes left start now (Ok summary) =
     (index : List ℕ) × IsMade dialect s table limit bytes left summary index × Appends start now index
-Writes dialect s table limit bytes left start now (Err (fault.Write out)) =
+Writes refuses dialect s table limit bytes left start now (Err (fault.Write out)) =
     (summary : Summary) × (index : List ℕ) × IsMade dialect s table limit bytes left summary index
     × TellsOut start now index (record { out = out })
-Writes dialect s table limit bytes left start now (Err f) =
-    Makes dialect s table limit bytes left (Err f) × Keeps start now
+Writes refuses dialect s table limit bytes left start now (Err f) =
+    Makes refuses dialect s table limit bytes left (Err f) × Keeps start now
 
 -- the same of a section with damaged units
 abbrev pub IsMadeAround : Dialect → Strings → Table → (limit : ℕ) (bytes : List ℕ) (left : Option (List ℕ)) → Survey
@@ -41,12 +41,12 @@ IsMadeAround dialect s table limit bytes left survey index =
     × IsIndexOf table.all (id_kept table) (told_around dialect s table blocks) index
 
 -- `write_index_around`
-abbrev pub WritesAround : Dialect → Strings → Table → (limit : ℕ) (bytes : List ℕ) (left start now : Option (List ℕ))
+abbrev pub WritesAround : (refuses : ℕ → Type 0) → Dialect → Strings → Table → (limit : ℕ) (bytes : List ℕ) (left start now : Option (List ℕ))
     → Result Survey RunFault → Type 0
-WritesAround dialect s table limit bytes left start now (Ok survey) =
+WritesAround refuses dialect s table limit bytes left start now (Ok survey) =
     (index : List ℕ) × IsMadeAround dialect s table limit bytes left survey index × Appends start now index
-WritesAround dialect s table limit bytes left start now (Err (fault.Write out)) =
+WritesAround refuses dialect s table limit bytes left start now (Err (fault.Write out)) =
     (survey : Survey) × (index : List ℕ) × IsMadeAround dialect s table limit bytes left survey index
     × TellsOut start now index (record { out = out })
-WritesAround dialect s table limit bytes left start now (Err f) =
-    MakesAround dialect s table limit bytes left (Err f) × Keeps start now
+WritesAround refuses dialect s table limit bytes left start now (Err f) =
+    MakesAround refuses dialect s table limit bytes left (Err f) × Keeps start now

@@ -1,5 +1,6 @@
 -- What the writing of an index comes to whose making may end with a fault. bytes: what was read from a reader, which has
 -- `left` left. start, now: what the writer held at first, and holds now. None: it isn't known.
+-- refuses: for how many items memory is refused.
 use Rattle.std.specs.Prelude.{◌≡◌, ◌⊎◌, ℕ, List, Option, Result, Ok, Err}
 use Rattle.std.specs.Global.{Vec}
 use Rattle.std.specs.Io.KnownBytes.{Appends, Keeps}
@@ -25,15 +26,15 @@ WritesMade ended (Ok index) start now result =
 WritesMade ended (Err e) start now result = (result ≡ Err fault.NoMemory) × Keeps start now
 
 -- `write_index_until`
-abbrev pub WritesUntil : Dialect → Strings → Table → (limit : ℕ) (bytes : List ℕ) (left start now : Option (List ℕ))
+abbrev pub WritesUntil : (refuses : ℕ → Type 0) → Dialect → Strings → Table → (limit : ℕ) (bytes : List ℕ) (left start now : Option (List ℕ))
     → Result Summary RunFault → Type 0
-WritesUntil dialect s table limit bytes left start now result =
+WritesUntil refuses dialect s table limit bytes left start now result =
     (ended : Result Summary RunFault) × (index : Result (Vec ℕ) NoMemory)
-    × MakesUntil dialect s table limit bytes left ended index × WritesMade ended index start now result
+    × MakesUntil refuses dialect s table limit bytes left ended index × WritesMade ended index start now result
 
 -- `write_index_until_around`
-abbrev pub WritesUntilAround : Dialect → Strings → Table → (limit : ℕ) (bytes : List ℕ)
+abbrev pub WritesUntilAround : (refuses : ℕ → Type 0) → Dialect → Strings → Table → (limit : ℕ) (bytes : List ℕ)
     (left start now : Option (List ℕ)) → Result Survey RunFault → Type 0
-WritesUntilAround dialect s table limit bytes left start now result =
+WritesUntilAround refuses dialect s table limit bytes left start now result =
     (ended : Result Survey RunFault) × (index : Result (Vec ℕ) NoMemory)
-    × MakesUntilAround dialect s table limit bytes left ended index × WritesMade ended index start now result
+    × MakesUntilAround refuses dialect s table limit bytes left ended index × WritesMade ended index start now result

@@ -7,7 +7,6 @@ ghost use Rattle.dl_path.specs.PathTexts.{folder, root_of, text_if_any, texts_un
 ghost use Rattle.dl_pack.specs.Named.{Grows, Once, parts_of, text_of};
 ghost use Rattle.dl_pack.specs.Shown.{named_files, texts_of};
 ghost use Rattle.dl_making.specs.UnitFile.{file_in};
-ghost use Rattle.dl_making.specs.Wants.{NamesWant};
 ghost use Rattle.dl_memory.specs.Refusals.{WasRefused};
 
 use dl_head::Header;
@@ -29,14 +28,14 @@ pub(crate) struct UnitFiles<'a, 'o> {
 }
 
 /// The number of a file of a unit in an index. Where the index has no file of that unit with the same texts, it is
-/// added; one that has no path has no text. `NoMemory` where a growth is refused, or there would be 2^32 texts.
+/// added; one that has no path has no text. `NoMemory` where a growth is refused.
 pub(crate) fn file_number<M: SetMemory>(
     memory: &M,
     names: &mut Names,
     unit: &UnitFiles<'_, '_>,
     file: u64,
 ) -> Result<u64, NoMemory>
-    ensures refused { OnErr result (NamesWant (M.refuses memory.now) names.new) }
+    ensures refused { OnErr result (WasRefused (M.refuses memory.now)) }
     ensures number { IfOk result (λ n. slice_get (named_files names.new) n ≡ Some (file_in unit.now file)) }
     ensures small { IfOk result (λ n. n < 2 ^ 63) }
     ensures grows { Grows (named_files names.old) (named_files names.new) }
@@ -53,8 +52,8 @@ fn text_numbers<M: SetMemory>(
     names: &mut Names,
     directory: Option<&[u8]>,
     path: Option<Path<'_>>,
-) -> Result<[u32; 3], NoMemory>
-    ensures refused { OnErr result (NamesWant (M.refuses memory.now) names.new) }
+) -> Result<[u64; 3], NoMemory>
+    ensures refused { OnErr result (WasRefused (M.refuses memory.now)) }
     ensures texts { IfOk result (λ numbers. parts_of (texts_of names.new) numbers
         ≡ option_map_or (texts_under (option_copied directory.entry)) (option_map path_apart path.entry) []) }
     ensures files { named_files names.new ≡ named_files names.old }
@@ -71,8 +70,8 @@ fn path_numbers<M: SetMemory>(
     names: &mut Names,
     directory: Option<&[u8]>,
     path: Path<'_>,
-) -> Result<[u32; 3], NoMemory>
-    ensures refused { OnErr result (NamesWant (M.refuses memory.now) names.new) }
+) -> Result<[u64; 3], NoMemory>
+    ensures refused { OnErr result (WasRefused (M.refuses memory.now)) }
     ensures texts { IfOk result (λ numbers. parts_of (texts_of names.new) numbers
         ≡ texts_under (option_copied directory.entry) (path_apart path.entry)) }
     ensures files { named_files names.new ≡ named_files names.old }
@@ -103,8 +102,8 @@ fn folders_number<M: SetMemory>(
     names: &mut Names,
     first: &[u8],
     second: &[u8],
-) -> Result<u32, NoMemory>
-    ensures refused { OnErr result (NamesWant (M.refuses memory.now) names.new) }
+) -> Result<u64, NoMemory>
+    ensures refused { OnErr result (WasRefused (M.refuses memory.now)) }
     ensures text { IfOk result (λ n. text_of (texts_of names.new) n
         ≡ text_if_any (folder first.now ++ folder second.now)) }
     ensures within { IfOk result (λ n. n ≤ length (texts_of names.new)) }
@@ -116,8 +115,8 @@ fn folders_number<M: SetMemory>(
 }
 
 /// The number of a text, which is added where it isn't there; 0 of an empty one.
-fn text_number<M: SetMemory>(memory: &M, names: &mut Names, text: &[u8]) -> Result<u32, NoMemory>
-    ensures refused { OnErr result (NamesWant (M.refuses memory.now) names.new) }
+fn text_number<M: SetMemory>(memory: &M, names: &mut Names, text: &[u8]) -> Result<u64, NoMemory>
+    ensures refused { OnErr result (WasRefused (M.refuses memory.now)) }
     ensures text { IfOk result (λ n. text_of (texts_of names.new) n ≡ text_if_any text.now) }
     ensures within { IfOk result (λ n. n ≤ length (texts_of names.new)) }
     ensures grows { Grows (texts_of names.old) (texts_of names.new) }

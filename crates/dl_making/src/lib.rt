@@ -10,6 +10,7 @@ mod until;
 mod writing;
 mod writing_until;
 
+pub use dl_pack::SetMemory;
 pub use making::{Made, MadeAround, Table, id_front, make_index, make_index_around};
 pub use until::{MadeUntil, MadeUntilAround, make_index_until, make_index_until_around};
 pub use writing::{write_index, write_index_around};

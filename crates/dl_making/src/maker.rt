@@ -9,20 +9,19 @@ use crate::numbers::numbers_of;
 use dl_dirs::CompilationDirectories;
 use dl_head::Header;
 use dl_look::CodeRanges;
-use dl_memory::{NoMemory, System};
-use dl_pack::Names;
+use dl_memory::NoMemory;
+use dl_output::Destination;
+use dl_pack::{Names, SetMemory};
 use dl_path::{beside_table, has_directory_0};
 use dl_print::StringSections;
 use dl_rows::{Flow, Row};
 use dl_run::{AroundDamage, Damage, RunFault, Visitor};
 use dl_stretch::Runs;
-use std::alloc::Global;
-use std::io::Write;
 
 /// Keeps what the rows of live sequences tell of addresses, unit by unit, and the files that they name.
 #[derive(Drop)]
-pub(crate) struct Maker<'s, 'o, 'q> {
-    alloc: Global,
+pub(crate) struct Maker<'s, 'o, 'q, M> {
+    pub(crate) memory: &'q M,
     strings: &'s StringSections<'o>,
     /// Where there is code; None where each sequence is live.
     code: Option<&'q CodeRanges>,
@@ -35,10 +34,11 @@ pub(crate) struct Maker<'s, 'o, 'q> {
     pub(crate) is_refused: bool,
 }
 
-impl<W: Write> Visitor<W> for Maker<'_, '_, '_> {
+impl<W: Destination, M: SetMemory> Visitor<W> for Maker<'_, '_, '_, M> {
     ghost use Rattle.dl_making.specs.Making.{making_story};
+    ghost use Rattle.dl_memory.specs.Refusals.{WasRefused};
 
-    ghost story = { making_story };
+    ghost story = { making_story (λ memory. WasRefused (M.refuses memory)) };
 
     fn header(&mut self, _output: &mut W, offset: u64, _header: &Header) -> Result<(), RunFault> {
         self.unit = offset;
@@ -52,7 +52,7 @@ impl<W: Write> Visitor<W> for Maker<'_, '_, '_> {
     #[inline(always)]
     fn row(&mut self, _output: &mut W, row: &Row) -> Result<(), RunFault> {
         let is_live = self.begins_live(row.address);
-        match self.runs.row(&System::new(self.alloc), row, is_live) {
+        match self.runs.row(self.memory, row, is_live) {
             Ok(()) => Ok(()),
             Err(NoMemory) => {
                 self.is_refused = true;
@@ -80,7 +80,7 @@ impl<W: Write> Visitor<W> for Maker<'_, '_, '_> {
     }
 }
 
-impl<W: Write> AroundDamage<W> for Maker<'_, '_, '_> {
+impl<W: Destination, M: SetMemory> AroundDamage<W> for Maker<'_, '_, '_, M> {
     fn damaged(&mut self, _damage: Damage) {
         self.runs.forget_unit();
     }
@@ -97,8 +97,9 @@ fn is_code(code: Option<&CodeRanges>, address: u64) -> bool
     }
 }
 
-impl<'s, 'o, 'q> Maker<'s, 'o, 'q> {
-    ghost use Rattle.std.specs.Prelude.{◌≡◌, ℕ, Bool, List, [], OnOk};
+impl<'s, 'o, 'q, M: SetMemory> Maker<'s, 'o, 'q, M> {
+    ghost use Rattle.dl_memory.specs.Refusals.{WasRefused};
+    ghost use Rattle.std.specs.Prelude.{◌≡◌, ℕ, Bool, false, List, [], OnOk, OnErr};
     ghost use Rattle.std.specs.Option.{option_copied};
     ghost use Rattle.dl_rows.specs.declared.row.Row.{Row};
     ghost use Rattle.dl_look.specs.FinderRows.{unended};
@@ -110,11 +111,13 @@ impl<'s, 'o, 'q> Maker<'s, 'o, 'q> {
 
     /// A maker that was told of no unit.
     pub(crate) fn new(
-        alloc: Global,
+        memory: &'q M,
         strings: &'s StringSections<'o>,
         code: Option<&'q CodeRanges>,
         directories: CompilationDirectories<'q>,
-    ) -> Maker<'s, 'o, 'q>
+    ) -> Maker<'s, 'o, 'q, M>
+        ensures memory { result.memory.now ≡ memory.now }
+        ensures sufficed { result.is_refused ≡ false }
         ensures strings { result.strings.now ≡ strings.now }
         ensures code { result.code ≡ code.entry }
         ensures directories { result.directories ≡ directories.entry }
@@ -122,12 +125,12 @@ impl<'s, 'o, 'q> Maker<'s, 'o, 'q> {
         ensures names { named_files result.names ≡ [] }
     {
         Maker {
-            alloc,
+            memory,
             strings,
             code,
             directories,
-            runs: Runs::new(alloc),
-            names: Names::new(alloc),
+            runs: Runs::new(memory.alloc()),
+            names: Names::new(memory.alloc()),
             unit: 0,
             is_refused: false,
         }
@@ -151,6 +154,7 @@ impl<'s, 'o, 'q> Maker<'s, 'o, 'q> {
         ensures same { IsSame self.old self.new }
         ensures unit { self.new.unit ≡ self.old.unit }
         ensures refused { self.new.is_refused ≡ self.old.is_refused }
+        ensures wants { OnErr result (WasRefused (M.refuses self.old.memory.now)) }
         ensures ended { OnOk result (EndsUnit self.old self.new (option_copied header.entry)) }
     {
         let unit = UnitFiles {
@@ -160,7 +164,7 @@ impl<'s, 'o, 'q> Maker<'s, 'o, 'q> {
             offset: self.unit,
         };
         let runs = self.runs.unit_runs();
-        let (numbers, other) = numbers_of(&System::new(self.alloc), &mut self.names, &unit, runs)?;
+        let (numbers, other) = numbers_of(self.memory, &mut self.names, &unit, runs)?;
         self.runs.end_unit(numbers.as_slice(), other);
         Ok(())
     }

@@ -1,6 +1,7 @@
 //! The index of the units of a section. Section 6.2.4.
 
-ghost use Rattle.std.specs.Prelude.{◌≡◌, ◌≤◌, ℕ, List, Option, IfOk, take};
+ghost use Rattle.std.specs.Prelude.{◌≡◌, ◌≤◌, ℕ, List, Option, IfOk, OnErr, take};
+ghost use Rattle.dl_memory.specs.Refusals.{WasRefused};
 ghost use Rattle.std.specs.Io.KnownBytes.{Consumes};
 ghost use Rattle.dl_input.specs.Failing.{Blames};
 ghost use Rattle.dl_run.specs.Commands.{strings_in};
@@ -9,16 +10,16 @@ ghost use Rattle.dl_making.specs.declared.maker.Maker as makers;
 ghost use Rattle.dl_making.specs.IsIndexOf.{IsIndexOf};
 ghost use Rattle.dl_making.specs.Makes.{Makes, MakesAround, id_kept};
 ghost use Rattle.dl_making.specs.Making.{Making, WasTold, told_after};
+ghost use Rattle.dl_making.specs.Wants.{WantsIndex};
 
 use crate::maker::Maker;
 use dl_dirs::CompilationDirectories;
 use dl_input::Source;
 use dl_look::CodeRanges;
-use dl_memory::{NoMemory, System};
-use dl_pack::{PackFault, index_bytes};
+use dl_memory::NoMemory;
+use dl_pack::{PackFault, SetMemory, index_bytes};
 use dl_print::{StringSections, Summary};
 use dl_run::{Options, RunFault, SECTION_LIMIT, Survey, read_units, read_units_around};
-use std::alloc::Global;
 use std::io;
 
 /// What an index is made with, beside the section.
@@ -53,22 +54,23 @@ pub struct MadeAround {
 /// Makes the index of a section: the bytes that answer each address as the units of the section do, in their order.
 ///
 /// The faults are those of `check`, but for failed writes; `NoMemory` also where a growth is refused for the runs of
-/// rows, for files and texts, or for the index, and where there would be 2^32 texts.
-pub fn make_index<R: Source>(
-    alloc: Global,
+/// rows, for files and texts, or for the index, and where the index would have 2^32 files or texts.
+pub fn make_index<M: SetMemory, R: Source>(
+    memory: &M,
     input: &mut R,
     table: &Table<'_>,
     options: &Options<'_>,
 ) -> Result<Made, RunFault>
     requires { options.now.limit ≤ SECTION_LIMIT }
     ensures ran { (bs : List ℕ) × Consumes (R.remaining input.old) (R.remaining input.new) bs
-        × Makes options.now.dialect (strings_in options.now) table.now options.now.limit bs (R.remaining input.new) result }
+        × Makes (M.refuses memory.now) options.now.dialect (strings_in options.now) table.now options.now.limit bs
+        (R.remaining input.new) result }
     ensures blames { Blames R.follows R.fails input.old input.new (result ≡ Err RunFault.Read) }
 {
     let strings = StringSections::new(options.debug_line_str, options.debug_str);
-    let mut maker = Maker::new(alloc, &strings, table.code, table.directories);
-    let summary = read_units(alloc, input, &mut io::sink(), options, &mut maker)?;
-    match told_index(alloc, &maker, table) {
+    let mut maker = Maker::new(memory, &strings, table.code, table.directories);
+    let summary = read_units(memory.alloc(), input, &mut io::sink(), options, &mut maker)?;
+    match told_index(&maker, table) {
         Ok(index) => Ok(Made { index, summary }),
         Err(NoMemory) => Err(RunFault::NoMemory),
     }
@@ -79,43 +81,47 @@ pub fn make_index<R: Source>(
 ///
 /// The section is read as `read_units_around` reads it. The faults are those of `make_index` but for `Damage`: of damaged
 /// units the answer says what is wrong with the first, and how many others there are.
-pub fn make_index_around<R: Source>(
-    alloc: Global,
+pub fn make_index_around<M: SetMemory, R: Source>(
+    memory: &M,
     input: &mut R,
     table: &Table<'_>,
     options: &Options<'_>,
 ) -> Result<MadeAround, RunFault>
     requires { options.now.limit ≤ SECTION_LIMIT }
     ensures ran { (bs : List ℕ) × Consumes (R.remaining input.old) (R.remaining input.new) bs
-        × MakesAround options.now.dialect (strings_in options.now) table.now options.now.limit bs (R.remaining input.new) result }
+        × MakesAround (M.refuses memory.now) options.now.dialect (strings_in options.now) table.now options.now.limit bs
+        (R.remaining input.new) result }
     ensures blames { Blames R.follows R.fails input.old input.new (result ≡ Err RunFault.Read) }
 {
     let strings = StringSections::new(options.debug_line_str, options.debug_str);
-    let mut maker = Maker::new(alloc, &strings, table.code, table.directories);
-    let survey = read_units_around(alloc, input, &mut io::sink(), options, &mut maker)?;
-    match told_index(alloc, &maker, table) {
+    let mut maker = Maker::new(memory, &strings, table.code, table.directories);
+    let survey = read_units_around(memory.alloc(), input, &mut io::sink(), options, &mut maker)?;
+    match told_index(&maker, table) {
         Ok(index) => Ok(MadeAround { index, survey }),
         Err(NoMemory) => Err(RunFault::NoMemory),
     }
 }
 
-/// The index of what a maker was told. Each file that it told has a name, so memory alone can be wanted.
-pub(crate) fn told_index(
-    alloc: Global,
-    maker: &Maker<'_, '_, '_>,
+/// The index of what a maker was told. Each file that it told has a name, so memory alone can be wanted, or there are
+/// 2^32 files or texts.
+pub(crate) fn told_index<M: SetMemory>(
+    maker: &Maker<'_, '_, '_, M>,
     table: &Table<'_>,
 ) -> Result<Vec<u8>, NoMemory>
-    requires { WasTold maker.now }
-    ensures { IfOk result (λ index. (first : makers.Maker) (start held : Option (List ℕ)) (visits : List Visit)
-        → Making first maker.now start held visits
+    requires { WasTold (λ memory. WasRefused (M.refuses memory)) maker.now }
+    ensures index { IfOk result (λ index. (first : makers.Maker M) (start held : Option (List ℕ)) (visits : List Visit)
+        → Making (λ memory. WasRefused (M.refuses memory)) first maker.now start held visits
         → IsIndexOf table.now.all (id_kept table.now) (told_after first visits) index.items) }
+    ensures wants { OnErr result ((first : makers.Maker M) (start held : Option (List ℕ)) (visits : List Visit)
+        → Making (λ memory. WasRefused (M.refuses memory)) first maker.now start held visits
+        → WantsIndex (M.refuses first.memory.now) (told_after first visits)) }
 {
     if maker.is_refused {
         return Err(NoMemory);
     }
-    let stretches = maker.runs.stretches(&System::new(alloc))?;
+    let stretches = maker.runs.stretches(maker.memory)?;
     match index_bytes(
-        alloc,
+        maker.memory,
         &stretches,
         &maker.names,
         table.all,
@@ -123,6 +129,7 @@ pub(crate) fn told_index(
     ) {
         Ok(index) => Ok(index),
         Err(PackFault::NoMemory) => Err(NoMemory),
+        Err(PackFault::TooMany) => Err(NoMemory),
         Err(PackFault::File) => unreachable!(),
         Err(PackFault::BuildId) => unreachable!(),
     }

@@ -11,7 +11,6 @@ ghost use Rattle.dl_stretch.specs.Runs.{number_in};
 ghost use Rattle.dl_stretch.specs.ToldUnits.{file_of};
 ghost use Rattle.dl_making.specs.Numbers.{AreSeen, IsNumbered};
 ghost use Rattle.dl_making.specs.UnitFile.{file_in};
-ghost use Rattle.dl_making.specs.Wants.{NamesWant};
 ghost use Rattle.dl_memory.specs.Refusals.{WasRefused};
 
 use crate::files::{UnitFiles, file_number};
@@ -31,7 +30,7 @@ pub(crate) fn numbers_of<M: SetMemory>(
     unit: &UnitFiles<'_, '_>,
     runs: &[Run],
 ) -> Result<(Vec<u64>, u64), NoMemory>
-    ensures refused { OnErr result (NamesWant (M.refuses memory.now) names.new) }
+    ensures refused { OnErr result (WasRefused (M.refuses memory.now)) }
     ensures numbers { IfOk result (λ r. (file : ℕ) → Contains (map file_of runs.now) (held file)
         → slice_get (named_files names.new) (number_in r.0.items r.1 file) ≡ Some (file_in unit.now file)) }
     ensures held { IfOk result (λ r. AreHeld r.0.items r.1) }
@@ -80,7 +79,7 @@ fn number_file<M: SetMemory>(
     file: u64,
 ) -> Result<(), NoMemory>
     requires { 0 < length numbers.old.items }
-    ensures refused { OnErr result (NamesWant (M.refuses memory.now) names.new) }
+    ensures refused { OnErr result (WasRefused (M.refuses memory.now)) }
     ensures len { length numbers.new.items ≡ length numbers.old.items }
     ensures small { All (λ n. n < 2 ^ 63) numbers.old.items → All (λ n. n < 2 ^ 63) numbers.new.items }
     ensures seen { OnOk result (AreSeen unit.now (named_files names.old) numbers.old.items

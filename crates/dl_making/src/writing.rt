@@ -3,22 +3,23 @@
 ghost use Rattle.std.specs.Prelude.{◌≡◌, ◌≤◌, ℕ, List, MatchResult};
 ghost use Rattle.std.specs.Io.KnownBytes.{Appends, Consumes};
 ghost use Rattle.dl_input.specs.Failing.{Blames};
-ghost use Rattle.dl_print.specs.Output.{TellsOut};
+ghost use Rattle.dl_print.specs.Output.{BlamesWriter as PrintBlames, TellsOut};
+ghost use Rattle.dl_run.specs.Blaming.{BlamesWriter};
 ghost use Rattle.dl_run.specs.Commands.{strings_in};
 ghost use Rattle.dl_making.specs.Writes.{Writes, WritesAround};
 
 use crate::making::{Table, make_index, make_index_around};
 use dl_input::Source;
+use dl_output::Destination;
+use dl_pack::SetMemory;
 use dl_print::{Printer, Summary, WriteFault};
 use dl_run::{Options, RunFault, SECTION_LIMIT, Survey};
-use std::alloc::Global;
-use std::io::Write;
 
 /// Makes the index of a section as `make_index` does, and writes it. Where none can be made, nothing is written.
 ///
 /// The faults are those of `make_index`, and `Write` where the writer fails.
-pub fn write_index<R: Source, W: Write>(
-    alloc: Global,
+pub fn write_index<M: SetMemory, R: Source, W: Destination>(
+    memory: &M,
     input: &mut R,
     output: &mut W,
     table: &Table<'_>,
@@ -26,11 +27,12 @@ pub fn write_index<R: Source, W: Write>(
 ) -> Result<Summary, RunFault>
     requires { options.now.limit ≤ SECTION_LIMIT }
     ensures ran { (bs : List ℕ) × Consumes (R.remaining input.old) (R.remaining input.new) bs
-        × Writes options.now.dialect (strings_in options.now) table.now options.now.limit bs (R.remaining input.new)
+        × Writes (M.refuses memory.now) options.now.dialect (strings_in options.now) table.now options.now.limit bs (R.remaining input.new)
         (W.contents output.old) (W.contents output.new) result }
     ensures blames { Blames R.follows R.fails input.old input.new (result ≡ Err RunFault.Read) }
+    ensures blames_writer { BlamesWriter W.fails result }
 {
-    let made = make_index(alloc, input, table, options)?;
+    let made = make_index(memory, input, table, options)?;
     match put_bytes(output, made.index.as_slice()) {
         Ok(()) => Ok(made.summary),
         Err(lost) => Err(RunFault::Write { out: lost.out }),
@@ -40,8 +42,8 @@ pub fn write_index<R: Source, W: Write>(
 /// Makes the index of a section as `make_index_around` does, and writes it. Where none can be made, nothing is written.
 ///
 /// The faults are those of `make_index_around`, and `Write` where the writer fails.
-pub fn write_index_around<R: Source, W: Write>(
-    alloc: Global,
+pub fn write_index_around<M: SetMemory, R: Source, W: Destination>(
+    memory: &M,
     input: &mut R,
     output: &mut W,
     table: &Table<'_>,
@@ -49,11 +51,12 @@ pub fn write_index_around<R: Source, W: Write>(
 ) -> Result<Survey, RunFault>
     requires { options.now.limit ≤ SECTION_LIMIT }
     ensures ran { (bs : List ℕ) × Consumes (R.remaining input.old) (R.remaining input.new) bs
-        × WritesAround options.now.dialect (strings_in options.now) table.now options.now.limit bs (R.remaining input.new)
+        × WritesAround (M.refuses memory.now) options.now.dialect (strings_in options.now) table.now options.now.limit bs (R.remaining input.new)
         (W.contents output.old) (W.contents output.new) result }
     ensures blames { Blames R.follows R.fails input.old input.new (result ≡ Err RunFault.Read) }
+    ensures blames_writer { BlamesWriter W.fails result }
 {
-    let made = make_index_around(alloc, input, table, options)?;
+    let made = make_index_around(memory, input, table, options)?;
     match put_bytes(output, made.index.as_slice()) {
         Ok(()) => Ok(made.survey),
         Err(lost) => Err(RunFault::Write { out: lost.out }),
@@ -61,9 +64,10 @@ pub fn write_index_around<R: Source, W: Write>(
 }
 
 /// Writes bytes, and all of them out.
-pub(crate) fn put_bytes<W: Write>(output: &mut W, bytes: &[u8]) -> Result<(), WriteFault>
-    ensures { MatchResult result (λ _. Appends (W.contents output.old) (W.contents output.new) bytes.now)
+pub(crate) fn put_bytes<W: Destination>(output: &mut W, bytes: &[u8]) -> Result<(), WriteFault>
+    ensures written { MatchResult result (λ _. Appends (W.contents output.old) (W.contents output.new) bytes.now)
         (TellsOut (W.contents output.old) (W.contents output.new) bytes.now) }
+    ensures blames_writer { PrintBlames W.fails result }
 {
     let mut printer = Printer::new();
     match printer.put(output, bytes) {

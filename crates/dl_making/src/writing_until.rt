@@ -3,6 +3,7 @@
 ghost use Rattle.std.specs.Prelude.{◌≡◌, ◌≤◌, ℕ, List};
 ghost use Rattle.std.specs.Io.KnownBytes.{Consumes};
 ghost use Rattle.dl_input.specs.Failing.{Blames};
+ghost use Rattle.dl_run.specs.Blaming.{BlamesWriter};
 ghost use Rattle.dl_run.specs.Commands.{strings_in};
 ghost use Rattle.dl_making.specs.WritesUntil.{WritesMade, WritesUntil, WritesUntilAround};
 
@@ -11,18 +12,18 @@ use crate::until::{make_index_until, make_index_until_around};
 use crate::writing::put_bytes;
 use dl_input::Source;
 use dl_memory::NoMemory;
+use dl_output::Destination;
+use dl_pack::SetMemory;
 use dl_print::Summary;
 use dl_run::{Options, RunFault, SECTION_LIMIT, Survey};
-use std::alloc::Global;
-use std::io::Write;
 
 /// Makes the index of a section as `make_index_until` does, and writes it: also where the reading ended with a fault, which
 /// is then answered. Where memory was refused nothing is written, and `NoMemory` answered.
 ///
 /// The faults are those of `make_index_until`, `NoMemory` also where it is refused for the index alone, and before them
 /// `Write` where the writer fails.
-pub fn write_index_until<R: Source, W: Write>(
-    alloc: Global,
+pub fn write_index_until<M: SetMemory, R: Source, W: Destination>(
+    memory: &M,
     input: &mut R,
     output: &mut W,
     table: &Table<'_>,
@@ -30,11 +31,12 @@ pub fn write_index_until<R: Source, W: Write>(
 ) -> Result<Summary, RunFault>
     requires { options.now.limit ≤ SECTION_LIMIT }
     ensures ran { (bs : List ℕ) × Consumes (R.remaining input.old) (R.remaining input.new) bs
-        × WritesUntil options.now.dialect (strings_in options.now) table.now options.now.limit bs
+        × WritesUntil (M.refuses memory.now) options.now.dialect (strings_in options.now) table.now options.now.limit bs
         (R.remaining input.new) (W.contents output.old) (W.contents output.new) result }
     ensures blames { Blames R.follows R.fails input.old input.new (result ≡ Err RunFault.Read) }
+    ensures blames_writer { BlamesWriter W.fails result }
 {
-    let made = make_index_until(alloc, input, table, options);
+    let made = make_index_until(memory, input, table, options);
     put_made(output, &made.index, made.ended)
 }
 
@@ -42,8 +44,8 @@ pub fn write_index_until<R: Source, W: Write>(
 ///
 /// The faults are those of `make_index_until_around`, `NoMemory` also where it is refused for the index alone, and before
 /// them `Write` where the writer fails.
-pub fn write_index_until_around<R: Source, W: Write>(
-    alloc: Global,
+pub fn write_index_until_around<M: SetMemory, R: Source, W: Destination>(
+    memory: &M,
     input: &mut R,
     output: &mut W,
     table: &Table<'_>,
@@ -51,21 +53,23 @@ pub fn write_index_until_around<R: Source, W: Write>(
 ) -> Result<Survey, RunFault>
     requires { options.now.limit ≤ SECTION_LIMIT }
     ensures ran { (bs : List ℕ) × Consumes (R.remaining input.old) (R.remaining input.new) bs
-        × WritesUntilAround options.now.dialect (strings_in options.now) table.now options.now.limit bs
+        × WritesUntilAround (M.refuses memory.now) options.now.dialect (strings_in options.now) table.now options.now.limit bs
         (R.remaining input.new) (W.contents output.old) (W.contents output.new) result }
     ensures blames { Blames R.follows R.fails input.old input.new (result ≡ Err RunFault.Read) }
+    ensures blames_writer { BlamesWriter W.fails result }
 {
-    let made = make_index_until_around(alloc, input, table, options);
+    let made = make_index_until_around(memory, input, table, options);
     put_made(output, &made.index, made.ended)
 }
 
 /// Writes an index, where there is one, beside which the reading ended so.
-fn put_made<A: Copy, W: Write>(
+fn put_made<A: Copy, W: Destination>(
     output: &mut W,
     index: &Result<Vec<u8>, NoMemory>,
     ended: Result<A, RunFault>,
 ) -> Result<A, RunFault>
-    ensures { WritesMade ended index.now (W.contents output.old) (W.contents output.new) result }
+    ensures written { WritesMade ended index.now (W.contents output.old) (W.contents output.new) result }
+    ensures blames_writer { BlamesWriter W.fails ended → BlamesWriter W.fails result }
 {
     match index {
         Ok(index) => match put_bytes(output, index.as_slice()) {

@@ -10,38 +10,83 @@ use Rattle.dl_dirs.specs.Holding.{AreOf}
 use Rattle.dl_dirs.specs.Texts.{TextsData, directory_text, index_text, text_of}
 use Rattle.dl_dirs.specs.Units.{directory, entries, has_index, has_line_str, has_str, saying, Stands}
 use Rattle.dl_file.specs.InfoTable.{GivesInfoOption, HasInfo, InfoTable}
-use Rattle.dl_file.specs.LineTable.{Content, Gives, GivesOption}
+use Rattle.std.specs.Prelude.{IfErr, MatchResult}
+use Rattle.std.specs.declared.io.Error.{Error}
+use Rattle.dl_file.specs.ContentReader.{ContentFails}
+use Rattle.dl_file.specs.Faults.{FailsOnly}
+use Rattle.dl_file.specs.LineReader.{LineReaderFails}
+use Rattle.dl_file.specs.LineTable.{Content, Gives, GivesLine, GivesOption, Inflated, Plain}
+use Rattle.dl_file.specs.declared.line_reader.LineReader.{LineReader}
 use Rattle.dl_file.specs.declared.content_reader.ContentReader.{ContentReader}
 use Rattle.dl_file.specs.declared.info_file.InfoFile.{InfoFile}
 use Rattle.dl_run.specs.declared.options.TheConstants.{SECTION_LIMIT}
 use Rattle.dl_open.specs.declared.section.Unread.{Unread}
+use Rattle.dl_open.specs.declared.section.Unread.TheVariants.{Read, NoMemory}
+use Rattle.dl_open.specs.Pieces.{IsUnread}
 use Rattle.dl_open.specs.declared.strings.TheConstants.{STRINGS_LIMIT}
 use Rattle.dl_open.specs.Directories.{HasUnits, bytes_had, said_in, texts_had}
 use Rattle.dl_open.specs.Walked.{AreFound, AreHad, ArePlaces, IsHadWhere}
 
+-- ---- reads that fail
+
+-- they fail with these errors alone
+pub unread_only : (Fails fails : Error → Type 0) (why : Unread) → FailsOnly Fails fails → IsUnread Fails why
+    → IsUnread fails why
+unread_only Fails fails (Read error) only unread = only error unread
+unread_only Fails fails NoMemory only unread = tt
+
+content_only : {S : Type 0} {g : _} (all_bytes : S → Option (List ℕ)) (fails_with : S → Error → Type 0)
+    (fails : Error → Type 0) (reader : ContentReader S g) (c : Content) → Gives all_bytes fails_with fails reader c
+    → FailsOnly (ContentFails all_bytes fails_with reader) fails
+content_only all_bytes fails_with fails reader (Plain bytes) gives = gives.3
+content_only all_bytes fails_with fails reader (Inflated name bytes damage) gives = gives.4
+
+pub line_only : {S : Type 0} {g : _} (all_bytes : S → Option (List ℕ)) (fails_with : S → Error → Type 0)
+    (fails : Error → Type 0) (reader : LineReader S g) (c : Content) → GivesLine all_bytes fails_with fails reader c
+    → FailsOnly (LineReaderFails all_bytes fails_with reader) fails
+line_only all_bytes fails_with fails reader (Plain bytes) gives = gives.3
+line_only all_bytes fails_with fails reader (Inflated name bytes damage) gives = gives.4
+
+option_only : {S : Type 0} {g : _} (all_bytes : S → Option (List ℕ)) (fails_with : S → Error → Type 0)
+    (fails : Error → Type 0) (section : Option (ContentReader S g)) (reader : ContentReader S g) (content : Option Content)
+    → section ≡ Some reader → GivesOption all_bytes fails_with fails section content
+    → FailsOnly (ContentFails all_bytes fails_with reader) fails
+option_only {S = S} {g = g} all_bytes fails_with fails section reader content is gives =
+    by content (subst (λ (o : Option (ContentReader S g)). GivesOption all_bytes fails_with fails o content) is gives)
+  where
+    by : (content : Option Content) → GivesOption all_bytes fails_with fails (Some reader) content
+        → FailsOnly (ContentFails all_bytes fails_with reader) fails
+    by None gives = absurd gives
+    by (Some c) gives = content_only all_bytes fails_with fails reader c gives
+
 -- ---- sections
 
 -- one that the file has is held, where it can be had
-had_where : {S : Type 0} {g : _} (all_bytes : S → Option (List ℕ)) (wanted : Bool)
+had_where : {S : Type 0} {g : _} (all_bytes : S → Option (List ℕ)) (fails_with : S → Error → Type 0)
+    (fails : Error → Type 0) (wanted : Bool)
     (section : Option (ContentReader S g)) (reader : ContentReader S g) (content : Option Content) (held : Option (List ℕ))
-    → section ≡ Some reader → GivesOption all_bytes section content
-    → ((c : Content) → Gives all_bytes reader c → held ≡ bytes_had STRINGS_LIMIT c)
+    → section ≡ Some reader → GivesOption all_bytes fails_with fails section content
+    → ((c : Content) → Gives all_bytes fails_with fails reader c → held ≡ bytes_had STRINGS_LIMIT c)
     → IsHadWhere (IsTrue wanted) content held
-had_where all_bytes wanted None reader content held is gives had = absurd (cc is)
-had_where all_bytes wanted (Some other) reader None held is gives had = absurd gives
-had_where {S = S} {g = g} all_bytes wanted (Some other) reader (Some c) held is gives had =
+had_where all_bytes fails_with fails wanted None reader content held is gives had = absurd (cc is)
+had_where all_bytes fails_with fails wanted (Some other) reader None held is gives had = absurd gives
+had_where {S = S} {g = g} all_bytes fails_with fails wanted (Some other) reader (Some c) held is gives had =
     let same : other ≡ reader = cc is in
-    λ wanted. had c (subst (λ (r : ContentReader S g). Gives all_bytes r c) same gives)
+    λ wanted. had c (subst (λ (r : ContentReader S g). Gives all_bytes fails_with fails r c) same gives)
 
-pub had_where_read : {S : Type 0} {g : _} (all_bytes : S → Option (List ℕ)) (wanted : Bool)
+pub had_where_read : {S : Type 0} {g : _} (all_bytes : S → Option (List ℕ)) (fails_with : S → Error → Type 0)
+    (fails : Error → Type 0) (wanted : Bool)
     (section : Option (ContentReader S g)) (reader : ContentReader S g) (content : Option Content)
-    (result : Result (Option (Vec ℕ Global)) Unread) → section ≡ Some reader → GivesOption all_bytes section content
-    → ((c : Content) → Gives all_bytes reader c
+    (result : Result (Option (Vec ℕ Global)) Unread) → section ≡ Some reader → GivesOption all_bytes fails_with fails section content
+    → ((c : Content) → Gives all_bytes fails_with fails reader c
     → IfOk result (λ held. option_map (λ v. v.items) held ≡ bytes_had STRINGS_LIMIT c))
-    → IfOk result (λ held. IsHadWhere (IsTrue wanted) content (option_map (λ v. v.items) held))
-had_where_read all_bytes wanted section reader content (Err why) is gives had = tt
-had_where_read all_bytes wanted section reader content (Ok held) is gives had =
-    had_where all_bytes wanted section reader content (option_map (λ v. v.items) held) is gives had
+    → IfErr result (IsUnread (ContentFails all_bytes fails_with reader))
+    → MatchResult result (λ held. IsHadWhere (IsTrue wanted) content (option_map (λ v. v.items) held)) (IsUnread fails)
+had_where_read all_bytes fails_with fails wanted section reader content (Err why) is gives had unread =
+    unread_only (ContentFails all_bytes fails_with reader) fails why
+    (option_only all_bytes fails_with fails section reader content is gives) unread
+had_where_read all_bytes fails_with fails wanted section reader content (Ok held) is gives had unread =
+    had_where all_bytes fails_with fails wanted section reader content (option_map (λ v. v.items) held) is gives had
 
 -- one that is wanted where another fact holds
 pub had_for : (Wanted Other : Type 0) (content : Option Content) (held : Option (List ℕ)) → (Other → Wanted)
@@ -124,6 +169,19 @@ with_both t order a b own n ordered abbreviations info held =
     ∙ sym (ap (option_and_then (λ (info : List ℕ). option_and_then
     (λ (a : List ℕ). directory t.order a (texts_had t) info n) (bytes_had STRINGS_LIMIT t.abbreviations))) info)
 
+-- the places are found by the abbreviations that can be had
+pub through : (order : Order) (held : List ℕ) (a i : Content) (result : Result (Option Places) Unread)
+    (Fails fails : Error → Type 0) → Some held ≡ bytes_had STRINGS_LIMIT a → IfOk result (ArePlaces order held i)
+    → IfErr result (IsUnread Fails) → FailsOnly Fails fails
+    → MatchResult result (AreFound order a i) (IsUnread fails)
+through order held a i (Ok places) Fails fails had are unread only =
+    subst (λ (o : Option (List ℕ)). MatchOption o (◌≡◌ {A = Option Places} places None) (λ x. ArePlaces order x i places)) had are
+through order held a i (Err why) Fails fails had are unread only = unread_only Fails fails why only unread
+
+pub none_had : (order : Order) (a i : Content) → None ≡ bytes_had STRINGS_LIMIT a → AreFound order a i None
+none_had order a i had =
+    subst (λ (o : Option (List ℕ)). MatchOption o (◌≡◌ {A = Option Places} None None) (λ x. ArePlaces order x i None)) had refl
+
 -- none, where the places can't be had
 pub none_found : (t : InfoTable) (order : Order) (found : Option Places) (n : ℕ) → found ≡ None
     → AreFound order t.abbreviations t.info found → said_in t n ≡ None
@@ -155,9 +213,10 @@ some_found t order (Some own) places held f is found ordered had directories =
         λ n. directories a b are n ∙ with_both t order a b held n ordered (sym with_some) info (had a b are)
 
 -- a file that was opened has units
-pub has_units : {S : Type 0} {g : _} (all_bytes : S → Option (List ℕ)) (bytes : List ℕ) (opened : Option (InfoFile S g))
+pub has_units : {S : Type 0} {g : _} (all_bytes : S → Option (List ℕ)) (fails_with : S → Error → Type 0)
+    (fails : Error → Type 0) (bytes : List ℕ) (opened : Option (InfoFile S g))
     (file : InfoFile S g) → opened ≡ Some file
-    → (t : Option InfoTable) × HasInfo bytes t × GivesInfoOption all_bytes opened t → HasUnits bytes
-has_units all_bytes bytes None file is given = absurd (cc is)
-has_units all_bytes bytes (Some other) file is (None, has, gives) = absurd gives
-has_units all_bytes bytes (Some other) file is (Some t, has, gives) = (t, has)
+    → (t : Option InfoTable) × HasInfo bytes t × GivesInfoOption all_bytes fails_with fails opened t → HasUnits bytes
+has_units all_bytes fails_with fails bytes None file is given = absurd (cc is)
+has_units all_bytes fails_with fails bytes (Some other) file is (None, has, gives) = absurd gives
+has_units all_bytes fails_with fails bytes (Some other) file is (Some t, has, gives) = (t, has)

@@ -16,7 +16,8 @@ use Rattle.dl_open.specs.declared.dialect.FileUnits.{FileUnits}
 use Rattle.dl_open.specs.declared.named.Sections.TheVariants.{LinesAndTexts}
 use Rattle.dl_open.specs.declared.stop.FileStop.{FileStop}
 use Rattle.dl_open.specs.Tables.{HasTable, IsNamed, NamedStops, NamingStops, OpeningStops, TableStops, file_dialect}
-use Rattle.dl_open.specs.Tables.{with_strings}
+use Rattle.dl_open.specs.Tables.{stream_of, with_strings}
+use Rattle.dl_open.proofs.WiderLemmas.{stops_at_wider}
 use Rattle.std.specs.Io.KnownBytes.{Consumes, IsAtEnd}
 use Rattle.dl_head.specs.declared.dialect.Dialect.{Dialect}
 use Rattle.dl_run.specs.declared.options.TheConstants.{SECTION_LIMIT}
@@ -101,78 +102,97 @@ same_over own dialect bs same settled rest =
 -- ---- the line section of a file
 
 -- bytes that are held are those of the section
-pub held_plain : {S : Type 0} {g : _} (all_bytes : S → Option (List ℕ)) (reader : LineReader S g) (content : Content)
-    (bytes : List ℕ) → Some bytes ≡ line_held reader → GivesLine all_bytes reader content → content ≡ Plain bytes
-held_plain all_bytes (File reader) content bytes is gives = absurd (cc is)
-held_plain all_bytes (Held cursor) (Inflated name known damage) bytes is gives = let n = gives.3 in absurd (cc n)
-held_plain all_bytes (Held cursor) (Plain own) bytes is gives =
+pub held_plain : {S : Type 0} {g : _} (all_bytes : S → Option (List ℕ)) (fails_with : S → Error → Type 0)
+    (fails : Error → Type 0) (reader : LineReader S g) (content : Content)
+    (bytes : List ℕ) → Some bytes ≡ line_held reader → GivesLine all_bytes fails_with fails reader content → content ≡ Plain bytes
+held_plain all_bytes fails_with fails (File reader) content bytes is gives = absurd (cc is)
+held_plain all_bytes fails_with fails (Held cursor) (Inflated name known damage) bytes is gives = let n = gives.3 in absurd (cc n)
+held_plain all_bytes fails_with fails (Held cursor) (Plain own) bytes is gives =
     let same : Some bytes ≡ Some own = is ∙ gives.0 in
     let e : bytes ≡ own = cc same in ap Plain (sym e)
 
 -- ---- the sections that a command looks into
 
+-- what stops the naming in bytes that are held does so of any file
+naming_any : (fails : Error → Type 0) (path : List ℕ) (dialect : Dialect) (content : Content) (stop : FileStop)
+    → NamingStops (λ error. ⊥) path dialect content stop → NamingStops fails path dialect content stop
+naming_any fails path dialect content stop (f, stops, at) =
+    (f, stops, stops_at_wider (λ error. ⊥) fails path (stream_of content) f stop (λ error no. absurd no) at)
+
+told_any : (fails : Error → Type 0) (path : List ℕ) (dialect : Dialect) (content : Content) (names : Bool → Type 0)
+    (answer : Result Bool FileStop) → MatchResult answer names (NamingStops (λ error. ⊥) path dialect content)
+    → MatchResult answer names (NamingStops fails path dialect content)
+told_any fails path dialect content names (Ok b) told = told
+told_any fails path dialect content names (Err stop) told = naming_any fails path dialect content stop told
+
 -- it is told whether its tables name .debug_str, or why it can't be
-abbrev pub IsTold : FileUnits → (path : List ℕ) → LineTable → Result Bool FileStop → Type 0
-IsTold read path t answer = MatchResult answer (IsNamed (file_dialect read t) t.line) (NamingStops path (file_dialect read t) t.line)
+abbrev pub IsTold : FileUnits → (fails : Error → Type 0) → (path : List ℕ) → LineTable → Result Bool FileStop → Type 0
+IsTold read fails path t answer = MatchResult answer (IsNamed (file_dialect read t) t.line) (NamingStops fails path (file_dialect read t) t.line)
 
 -- it is told of bytes that are held
-pub held_answer : (read : FileUnits) {S : Type 0} {g : _} (all_bytes : S → Option (List ℕ)) (reader : LineReader S g) (t : LineTable)
+pub held_answer : (read : FileUnits) {S : Type 0} {g : _} (all_bytes : S → Option (List ℕ)) (fails_with : S → Error → Type 0)
+    (fails : Error → Type 0) (reader : LineReader S g) (t : LineTable)
     (dialect : Dialect) (path : List ℕ) (bytes : List ℕ) (answer : Result Bool FileStop) → Some bytes ≡ line_held reader
-    → GivesLine all_bytes reader t.line → dialect ≡ file_dialect read t
-    → MatchResult answer (λ names. IsTrue names ↔ Names dialect bytes) (NamingStops path dialect (Plain bytes))
-    → IsTold read path t answer
-held_answer read all_bytes reader t dialect path bytes answer is gives same told =
-    subst (λ (c : Content). MatchResult answer (IsNamed (file_dialect read t) c) (NamingStops path (file_dialect read t) c))
-    (sym (held_plain all_bytes reader t.line bytes is gives))
-    (subst (λ (d : Dialect). MatchResult answer (IsNamed d (Plain bytes)) (NamingStops path d (Plain bytes))) same told)
+    → GivesLine all_bytes fails_with fails reader t.line → dialect ≡ file_dialect read t
+    → MatchResult answer (λ names. IsTrue names ↔ Names dialect bytes) (NamingStops (λ error. ⊥) path dialect (Plain bytes))
+    → IsTold read fails path t answer
+held_answer read all_bytes fails_with fails reader t dialect path bytes answer is gives same told =
+    subst (λ (c : Content). MatchResult answer (IsNamed (file_dialect read t) c) (NamingStops fails path (file_dialect read t) c))
+    (sym (held_plain all_bytes fails_with fails reader t.line bytes is gives))
+    (subst (λ (d : Dialect). MatchResult answer (IsNamed d (Plain bytes)) (NamingStops fails path d (Plain bytes))) same
+    (told_any fails path dialect (Plain bytes) (IsNamed dialect (Plain bytes)) answer told))
 
 -- the line table of a file, with .debug_str where its tables name it
-abbrev pub IsOpened : FileUnits → {S : Type 0} {g : _} (all_bytes : S → Option (List ℕ)) (fails : Error → Type 0) (path : List ℕ)
+abbrev pub IsOpened : FileUnits → {S : Type 0} {g : _} (all_bytes : S → Option (List ℕ)) (fails_with : S → Error → Type 0)
+    (fails : Error → Type 0) (path : List ℕ)
     (f : List ℕ) (t : LineTable) (result : Result (LineFile S g) FileStop) → Type 0
-IsOpened read all_bytes fails path f t result = MatchResult result
+IsOpened read all_bytes fails_with fails path f t result = MatchResult result
     (λ table. (names : Bool) × IsNamed (file_dialect read t) t.line names
-    × ((t2 : LineTable) × HasLineTable f (with_strings names) (Ok t2) × GivesTable all_bytes table t2))
+    × ((t2 : LineTable) × HasLineTable f (with_strings names) (Ok t2) × GivesTable all_bytes fails_with fails table t2))
     (NamedStops read fails path f t)
 
 pub answered : (answer : Result Bool FileStop) (names value : Bool) → answer ≡ Ok names → names ≡ value → answer ≡ Ok value
 answered answer names value is same = subst (λ (b : Bool). answer ≡ Ok b) same is
 
 -- the file is opened anew
-pub anew : (read : FileUnits) {S : Type 0} {g : _} (all_bytes : S → Option (List ℕ)) (fails : Error → Type 0) (path : List ℕ) (f : List ℕ)
+pub anew : (read : FileUnits) {S : Type 0} {g : _} (all_bytes : S → Option (List ℕ)) (fails_with : S → Error → Type 0)
+    (fails : Error → Type 0) (path : List ℕ) (f : List ℕ)
     (t : LineTable) (names : Bool) (answer : Result Bool FileStop) (result own : Result (LineFile S g) FileStop)
-    → answer ≡ Ok names → IsTold read path t answer → result ≡ own
+    → answer ≡ Ok names → IsTold read fails path t answer → result ≡ own
     → MatchResult own (λ table. (t2 : LineTable) × HasLineTable f (with_strings names) (Ok t2)
-    × GivesTable all_bytes table t2) (OpeningStops fails path f (with_strings names))
-    → IsOpened read all_bytes fails path f t result
-anew read {S = S} {g = g} all_bytes fails path f t names answer result own said told is opens =
-    subst (λ (r : Result (LineFile S g) FileStop). IsOpened read all_bytes fails path f t r) (sym is) (by_own own opens)
+    × GivesTable all_bytes fails_with fails table t2) (OpeningStops fails path f (with_strings names))
+    → IsOpened read all_bytes fails_with fails path f t result
+anew read {S = S} {g = g} all_bytes fails_with fails path f t names answer result own said told is opens =
+    subst (λ (r : Result (LineFile S g) FileStop). IsOpened read all_bytes fails_with fails path f t r) (sym is) (by_own own opens)
   where
     by_own : (own : Result (LineFile S g) FileStop) → MatchResult own (λ table. (t2 : LineTable)
-        × HasLineTable f (with_strings names) (Ok t2) × GivesTable all_bytes table t2)
-        (OpeningStops fails path f (with_strings names)) → IsOpened read all_bytes fails path f t own
-    by_own (Ok table) opens = (names, subst (IsTold read path t) said told, opens)
-    by_own (Err stop) stops = inr (names, subst (IsTold read path t) said told, stops)
+        × HasLineTable f (with_strings names) (Ok t2) × GivesTable all_bytes fails_with fails table t2)
+        (OpeningStops fails path f (with_strings names)) → IsOpened read all_bytes fails_with fails path f t own
+    by_own (Ok table) opens = (names, subst (IsTold read fails path t) said told, opens)
+    by_own (Err stop) stops = inr (names, subst (IsTold read fails path t) said told, stops)
 
 -- the file stays as it was opened
-pub as_opened : (read : FileUnits) {S : Type 0} {g : _} (all_bytes : S → Option (List ℕ)) (fails : Error → Type 0) (path : List ℕ)
+pub as_opened : (read : FileUnits) {S : Type 0} {g : _} (all_bytes : S → Option (List ℕ)) (fails_with : S → Error → Type 0)
+    (fails : Error → Type 0) (path : List ℕ)
     (f : List ℕ) (t : LineTable) (answer : Result Bool FileStop) (result : Result (LineFile S g) FileStop)
     (table : LineFile S g) → answer ≡ Ok false
-    → IsTold read path t answer → result ≡ Ok table
-    → HasLineTable f LineAndLineStrings (Ok t) → GivesTable all_bytes table t
-    → IsOpened read all_bytes fails path f t result
-as_opened read {S = S} {g = g} all_bytes fails path f t answer result table said told is has given =
-    let named = subst (IsTold read path t) said told in
-    subst (λ (r : Result (LineFile S g) FileStop). IsOpened read all_bytes fails path f t r) (sym is)
+    → IsTold read fails path t answer → result ≡ Ok table
+    → HasLineTable f LineAndLineStrings (Ok t) → GivesTable all_bytes fails_with fails table t
+    → IsOpened read all_bytes fails_with fails path f t result
+as_opened read {S = S} {g = g} all_bytes fails_with fails path f t answer result table said told is has given =
+    let named = subst (IsTold read fails path t) said told in
+    subst (λ (r : Result (LineFile S g) FileStop). IsOpened read all_bytes fails_with fails path f t r) (sym is)
     (false, named, (t, has, given))
 
 -- it can't be told what they name
-pub not_told : (read : FileUnits) {S : Type 0} {g : _} (all_bytes : S → Option (List ℕ)) (fails : Error → Type 0) (path : List ℕ)
+pub not_told : (read : FileUnits) {S : Type 0} {g : _} (all_bytes : S → Option (List ℕ)) (fails_with : S → Error → Type 0)
+    (fails : Error → Type 0) (path : List ℕ)
     (f : List ℕ) (t : LineTable) (answer : Result Bool FileStop) (result : Result (LineFile S g) FileStop) (stop : FileStop)
-    → answer ≡ Err stop → IsTold read path t answer
-    → result ≡ Err stop → IsOpened read all_bytes fails path f t result
-not_told read {S = S} {g = g} all_bytes fails path f t answer result stop said told is =
-    let stops = subst (IsTold read path t) said told in
-    subst (λ (r : Result (LineFile S g) FileStop). IsOpened read all_bytes fails path f t r) (sym is) (inl stops)
+    → answer ≡ Err stop → IsTold read fails path t answer
+    → result ≡ Err stop → IsOpened read all_bytes fails_with fails path f t result
+not_told read {S = S} {g = g} all_bytes fails_with fails path f t answer result stop said told is =
+    let stops = subst (IsTold read fails path t) said told in
+    subst (λ (r : Result (LineFile S g) FileStop). IsOpened read all_bytes fails_with fails path f t r) (sym is) (inl stops)
 
 -- texts are printed, and the file has no such section
 pub without_section : (read : FileUnits) (f : List ℕ) (t : LineTable) → t.has_str ≡ false → HasLineTable f LineAndLineStrings (Ok t)
@@ -180,11 +200,12 @@ pub without_section : (read : FileUnits) (f : List ℕ) (t : LineTable) → t.ha
 without_section read f t none has = (LineAndLineStrings, (t, has, inl (none, refl)), has)
 
 -- it has one, and it is told whether its tables name it
-pub with_section : (read : FileUnits) {S : Type 0} {g : _} (all_bytes : S → Option (List ℕ)) (fails : Error → Type 0) (path : List ℕ)
+pub with_section : (read : FileUnits) {S : Type 0} {g : _} (all_bytes : S → Option (List ℕ)) (fails_with : S → Error → Type 0)
+    (fails : Error → Type 0) (path : List ℕ)
     (f : List ℕ) (t : LineTable) (result : Result (LineFile S g) FileStop) → t.has_str ≡ true
-    → HasLineTable f LineAndLineStrings (Ok t) → IsOpened read all_bytes fails path f t result
-    → MatchResult result (λ table. (t : LineTable) × HasTable read LinesAndTexts f t × GivesTable all_bytes table t)
+    → HasLineTable f LineAndLineStrings (Ok t) → IsOpened read all_bytes fails_with fails path f t result
+    → MatchResult result (λ table. (t : LineTable) × HasTable read LinesAndTexts f t × GivesTable all_bytes fails_with fails table t)
     (TableStops read fails path LinesAndTexts f)
-with_section read all_bytes fails path f t (Ok table) some has (names, named, (t2, has2, given)) =
+with_section read all_bytes fails_with fails path f t (Ok table) some has (names, named, (t2, has2, given)) =
     (t2, (with_strings names, (t, has, inr (names, some, named, refl)), has2), given)
-with_section read all_bytes fails path f t (Err stop) some has stops = inr (t, has, some, stops)
+with_section read all_bytes fails_with fails path f t (Err stop) some has stops = inr (t, has, some, stops)

@@ -14,13 +14,14 @@ same : {A : Type 0} {e f : ElfFault} → ◌≡◌ {A = Result A ElfFault} (Err 
 same is = cc is
 
 -- a fault of opening the line table
-pub refuses : {S : Type 0} {g : _} (all_bytes : S → Option (List ℕ)) (fails : Error → Type 0) (f : List ℕ)
+pub refuses : {S : Type 0} {g : _} (all_bytes : S → Option (List ℕ)) (fails_with : S → Error → Type 0)
+    (fails : Error → Type 0) (f : List ℕ)
     (wanted : Wanted) (result : Result (LineFile S g) ElfFault) (fault : ElfFault) → result ≡ Err fault
-    → Opens all_bytes f wanted result → IfRead fails result → Refuses fails f wanted (Elf fault)
-refuses all_bytes fails f wanted (Ok file) fault is opens read = absurd (cc is)
-refuses all_bytes fails f wanted (Err (Read error)) fault is opens read =
+    → Opens all_bytes fails_with fails f wanted result → IfRead fails result → Refuses fails f wanted (Elf fault)
+refuses all_bytes fails_with fails f wanted (Ok file) fault is opens read = absurd (cc is)
+refuses all_bytes fails_with fails f wanted (Err (Read error)) fault is opens read =
     subst (λ (e : ElfFault). Refuses fails f wanted (Elf e)) (same is) read
-refuses all_bytes fails f wanted (Err NoMemory) fault is opens read =
+refuses all_bytes fails_with fails f wanted (Err NoMemory) fault is opens read =
     subst (λ (e : ElfFault). Refuses fails f wanted (Elf e)) (same is) opens
-refuses all_bytes fails f wanted (Err other) fault is opens read =
+refuses all_bytes fails_with fails f wanted (Err other) fault is opens read =
     subst (λ (e : ElfFault). Refuses fails f wanted (Elf e)) (same is) opens

@@ -6,6 +6,7 @@ use Rattle.std.proofs.lemmas.Bool.{lt-leb}
 use Rattle.std.proofs.KnownBytes.{Consumes-trans}
 use Rattle.std.specs.Io.KnownBytes.{Consumes, IsAtEnd, Keeps}
 use Rattle.std.specs.Prelude.{IfSome}
+use Rattle.std.specs.declared.io.Error.{Error}
 use Rattle.dl_file.specs.Faults.{IsDamage}
 use Rattle.dl_file.specs.LineReader.{line_damage, line_remaining}
 use Rattle.dl_file.specs.LineTable.{Content, Gives, GivesLine, Inflated, Plain}
@@ -51,10 +52,11 @@ damaged damage other fault n same is ends = subst IsDamaged same (by other ends)
 -- ---- what was read
 
 -- the reader of a section that isn't held gives its bytes
-pub gives_file : {S : Type 0} {g : _} (all_bytes : S → Option (List ℕ)) (reader : ContentReader S g) (c : Content)
-    → Gives all_bytes reader c → GivesLine all_bytes (File reader) c
-gives_file all_bytes reader (Plain bytes) gives = gives
-gives_file all_bytes reader (Inflated name bytes damage) gives = gives
+pub gives_file : {S : Type 0} {g : _} (all_bytes : S → Option (List ℕ)) (fails_with : S → Error → Type 0)
+    (fails : Error → Type 0) (reader : ContentReader S g) (c : Content)
+    → Gives all_bytes fails_with fails reader c → GivesLine all_bytes fails_with fails (File reader) c
+gives_file all_bytes fails_with fails reader (Plain bytes) gives = gives
+gives_file all_bytes fails_with fails reader (Inflated name bytes damage) gives = gives
 
 known_all : (known left : Option (List ℕ)) (bytes bs : List ℕ) → known ≡ Some bytes → Consumes known left bs
     → IsAtEnd left → bs ≡ bytes
@@ -84,32 +86,34 @@ too_long limit room bytes bs p rest is all more =
     ap (λ (t : Bool). if t then Some bytes else None) (lt-leb (length bytes) limit (omega (arith, size, all, more)))
 
 -- all bytes of a section were read, and it isn't damaged
-all_read : {S : Type 0} {g : _} (all_bytes : S → Option (List ℕ)) (reader : LineReader S g) (c : Content)
-    (left : Option (List ℕ)) (limit : ℕ) (bs : List ℕ) → GivesLine all_bytes reader c
+all_read : {S : Type 0} {g : _} (all_bytes : S → Option (List ℕ)) (fails_with : S → Error → Type 0)
+    (fails : Error → Type 0) (reader : LineReader S g) (c : Content)
+    (left : Option (List ℕ)) (limit : ℕ) (bs : List ℕ) → GivesLine all_bytes fails_with fails reader c
     → Consumes (line_remaining all_bytes reader) left bs → IsAtEnd left → IsWhole (line_damage all_bytes reader)
     → length bs ≤ limit → Some bs ≡ bytes_had limit c
-all_read all_bytes reader (Plain bytes) left limit bs gives consumes ended whole few =
+all_read all_bytes fails_with fails reader (Plain bytes) left limit bs gives consumes ended whole few =
     fits limit bs bytes (known_all _ left bytes bs gives.0 consumes ended) few
-all_read all_bytes reader (Inflated name bytes (Some at)) left limit bs gives consumes ended whole few =
+all_read all_bytes fails_with fails reader (Inflated name bytes (Some at)) left limit bs gives consumes ended whole few =
     let bad : Some at ≡ None = subst IsWhole gives.1 whole in absurd (cc bad)
-all_read all_bytes reader (Inflated name bytes None) left limit bs gives consumes ended whole few =
+all_read all_bytes fails_with fails reader (Inflated name bytes None) left limit bs gives consumes ended whole few =
     fits limit bs bytes (known_all _ left bytes bs gives.0 consumes ended) few
 
 -- a section can't be had: after bs it is damaged, or has more than `room` bytes
-not_had : {S : Type 0} {g : _} (all_bytes : S → Option (List ℕ)) (reader : LineReader S g) (c : Content)
-    (now new : Option (List ℕ)) (limit room : ℕ) (bs : List ℕ) → GivesLine all_bytes reader c
+not_had : {S : Type 0} {g : _} (all_bytes : S → Option (List ℕ)) (fails_with : S → Error → Type 0)
+    (fails : Error → Type 0) (reader : LineReader S g) (c : Content)
+    (now new : Option (List ℕ)) (limit room : ℕ) (bs : List ℕ) → GivesLine all_bytes fails_with fails reader c
     → Consumes (line_remaining all_bytes reader) now bs → length bs + room ≡ limit
     → IsDamaged (line_damage all_bytes reader) ⊎ ((p : List ℕ) × (room < length p) × Consumes now new p)
     → None ≡ bytes_had limit c
-not_had all_bytes reader (Inflated name bytes (Some at)) now new limit room bs gives consumes all why = refl
-not_had all_bytes reader (Plain bytes) now new limit room bs gives consumes all (inl damaged) =
+not_had all_bytes fails_with fails reader (Inflated name bytes (Some at)) now new limit room bs gives consumes all why = refl
+not_had all_bytes fails_with fails reader (Plain bytes) now new limit room bs gives consumes all (inl damaged) =
     let bad : None ≢ None = subst IsDamaged (plain_damage all_bytes reader gives.2) damaged in absurd (bad refl)
-not_had all_bytes reader (Inflated name bytes None) now new limit room bs gives consumes all (inl damaged) =
+not_had all_bytes fails_with fails reader (Inflated name bytes None) now new limit room bs gives consumes all (inl damaged) =
     let bad : None ≢ None = subst IsDamaged gives.1 damaged in absurd (bad refl)
-not_had all_bytes reader (Plain bytes) now new limit room bs gives consumes all (inr (p, more, next)) =
+not_had all_bytes fails_with fails reader (Plain bytes) now new limit room bs gives consumes all (inr (p, more, next)) =
     let known = known_more _ new bytes (bs ++ p) gives.0 (Consumes-trans _ _ _ bs p consumes next) in
     sym (too_long limit room bytes bs p known.0 known.1 all more)
-not_had all_bytes reader (Inflated name bytes None) now new limit room bs gives consumes all (inr (p, more, next)) =
+not_had all_bytes fails_with fails reader (Inflated name bytes None) now new limit room bs gives consumes all (inr (p, more, next)) =
     let known = known_more _ new bytes (bs ++ p) gives.0 (Consumes-trans _ _ _ bs p consumes next) in
     sym (too_long limit room bytes bs p known.0 known.1 all more)
 
@@ -131,32 +135,34 @@ taken damage first now new limit room left bs (Bytes own) {p = p} is consumes al
     )
 
 -- it has ended
-pub had_all : {S : Type 0} {g : _} (all_bytes : S → Option (List ℕ)) (reader now new : LineReader S g) (c : Content)
-    (limit room left : ℕ) (bs : List ℕ) (at : Piece) → at ≡ End → GivesLine all_bytes reader c
+pub had_all : {S : Type 0} {g : _} (all_bytes : S → Option (List ℕ)) (fails_with : S → Error → Type 0)
+    (fails : Error → Type 0) (reader now new : LineReader S g) (c : Content)
+    (limit room left : ℕ) (bs : List ℕ) (at : Piece) → at ≡ End → GivesLine all_bytes fails_with fails reader c
     → Consumes (line_remaining all_bytes reader) (line_remaining all_bytes now) bs → length bs + room ≡ limit
     → line_damage all_bytes now ≡ line_damage all_bytes reader
     → IsPiece (line_damage all_bytes now) (line_remaining all_bytes now) (line_remaining all_bytes new) room left at
     → Some bs ≡ bytes_had limit c
-had_all all_bytes reader now new c limit room left bs (Bytes p) is gives consumes all same piece = absurd (cc is)
-had_all all_bytes reader now new c limit room left bs Lost is gives consumes all same piece = absurd (cc is)
-had_all all_bytes reader now new c limit room left bs End is gives consumes all same (next, ended, whole) =
-    all_read all_bytes reader c (line_remaining all_bytes new) limit bs gives
+had_all all_bytes fails_with fails reader now new c limit room left bs (Bytes p) is gives consumes all same piece = absurd (cc is)
+had_all all_bytes fails_with fails reader now new c limit room left bs Lost is gives consumes all same piece = absurd (cc is)
+had_all all_bytes fails_with fails reader now new c limit room left bs End is gives consumes all same (next, ended, whole) =
+    all_read all_bytes fails_with fails reader c (line_remaining all_bytes new) limit bs gives
     (subst (Consumes (line_remaining all_bytes reader) (line_remaining all_bytes new)) (append-nil bs)
     (Consumes-trans _ _ _ bs [] consumes next))
     ended (subst IsWhole same whole) (omega (arith, all))
 
 -- it can't be had
-pub lost : {S : Type 0} {g : _} (all_bytes : S → Option (List ℕ)) (reader now new : LineReader S g) (c : Content)
-    (limit room left : ℕ) (bs : List ℕ) (at : Piece) → at ≡ Lost → GivesLine all_bytes reader c
+pub lost : {S : Type 0} {g : _} (all_bytes : S → Option (List ℕ)) (fails_with : S → Error → Type 0)
+    (fails : Error → Type 0) (reader now new : LineReader S g) (c : Content)
+    (limit room left : ℕ) (bs : List ℕ) (at : Piece) → at ≡ Lost → GivesLine all_bytes fails_with fails reader c
     → Consumes (line_remaining all_bytes reader) (line_remaining all_bytes now) bs → length bs + room ≡ limit
     → line_damage all_bytes now ≡ line_damage all_bytes reader
     → IsPiece (line_damage all_bytes now) (line_remaining all_bytes now) (line_remaining all_bytes new) room left at
     → None ≡ bytes_had limit c
-lost all_bytes reader now new c limit room left bs (Bytes p) is gives consumes all same piece = absurd (cc is)
-lost all_bytes reader now new c limit room left bs End is gives consumes all same piece = absurd (cc is)
-lost all_bytes reader now new c limit room left bs Lost is gives consumes all same (inl damaged) =
-    not_had all_bytes reader c (line_remaining all_bytes now) (line_remaining all_bytes new) limit room bs gives consumes all
+lost all_bytes fails_with fails reader now new c limit room left bs (Bytes p) is gives consumes all same piece = absurd (cc is)
+lost all_bytes fails_with fails reader now new c limit room left bs End is gives consumes all same piece = absurd (cc is)
+lost all_bytes fails_with fails reader now new c limit room left bs Lost is gives consumes all same (inl damaged) =
+    not_had all_bytes fails_with fails reader c (line_remaining all_bytes now) (line_remaining all_bytes new) limit room bs gives consumes all
     (inl (subst IsDamaged same damaged))
-lost all_bytes reader now new c limit room left bs Lost is gives consumes all same (inr more) =
-    not_had all_bytes reader c (line_remaining all_bytes now) (line_remaining all_bytes new) limit room bs gives consumes all
+lost all_bytes fails_with fails reader now new c limit room left bs Lost is gives consumes all same (inr more) =
+    not_had all_bytes fails_with fails reader c (line_remaining all_bytes now) (line_remaining all_bytes new) limit room bs gives consumes all
     (inr more)

@@ -1,7 +1,14 @@
 -- The same stops, where more errors may come of opening and reading a file.
 use Rattle.std.proofs.Common.{ℕ, Bool, List, Option, inl, inr}
 use Rattle.std.specs.declared.io.Error.{Error}
-use Rattle.dl_elf.specs.declared.fault.ElfFault.TheVariants.{Read, NoMemory}
+use Rattle.dl_elf.specs.declared.fault.ElfFault.{ElfFault}
+use Rattle.dl_elf.specs.declared.fault.ElfFault.TheVariants.{Read, NoMemory, DamagedStream}
+use Rattle.dl_file.specs.LineTable.{Content}
+use Rattle.dl_head.specs.declared.dialect.Dialect.{Dialect}
+use Rattle.dl_run.specs.declared.fault.RunFault.{RunFault}
+use Rattle.dl_run.specs.declared.fault.RunFault.TheVariants as fault
+use Rattle.dl_open.specs.Stops.{IsReadFault, StopsAt, Stream}
+use Rattle.dl_open.specs.declared.object_part.Part.{Part}
 use Rattle.dl_file.specs.declared.line_file.Wanted.{Wanted}
 use Rattle.dl_file.specs.declared.line_file.Wanted.TheVariants.{LineAndLineStrings, LineSection}
 use Rattle.dl_open.specs.declared.dialect.FileUnits.{FileUnits}
@@ -11,7 +18,44 @@ use Rattle.dl_open.specs.declared.named.Sections.{Sections}
 use Rattle.dl_open.specs.declared.named.Sections.TheVariants.{Lines, LinesAndTexts}
 use Rattle.dl_open.specs.declared.stop.FileStop.{FileStop}
 use Rattle.dl_open.specs.Parts.{PartStops, RefusesPlaces, RefusesSection}
-use Rattle.dl_open.specs.Tables.{OpeningStops, Refuses, TableStops, with_strings}
+use Rattle.dl_open.specs.Tables.{KeepingStops, NamingStops, OpeningStops, Refuses, SectionStops, StringsStop, TableStops}
+use Rattle.dl_open.specs.Tables.{file_dialect, stream_of, with_strings}
+
+pub stops_at_wider : (fails wider : Error → Type 0) (path : List ℕ) (stream : Option Stream) (f : RunFault) (stop : FileStop)
+    → ((e : Error) → fails e → wider e) → StopsAt fails path stream f stop → StopsAt wider path stream f stop
+stops_at_wider fails wider path stream fault.Read stop more (f, is, at) = (f, read f is, at) where
+  read : (f : ElfFault) → IsReadFault fails stream f → IsReadFault wider stream f
+  read (Read error) is = more error is
+  read (DamagedStream name at) is = is
+  read other is = absurd is
+stops_at_wider fails wider path stream fault.NoMemory stop more at = at
+stops_at_wider fails wider path stream other stop more at = at
+
+naming_wider : (fails wider : Error → Type 0) (path : List ℕ) (dialect : Dialect) (content : Content) (stop : FileStop)
+    → ((e : Error) → fails e → wider e) → NamingStops fails path dialect content stop
+    → NamingStops wider path dialect content stop
+naming_wider fails wider path dialect content stop more (f, stops, at) =
+    (f, stops, stops_at_wider fails wider path (stream_of content) f stop more at)
+
+pub keeping_wider : (fails wider : Error → Type 0) (path : List ℕ) (dialect : Dialect) (part : Part) (content : Content)
+    (stop : FileStop) → ((e : Error) → fails e → wider e) → KeepingStops fails path dialect part content stop
+    → KeepingStops wider path dialect part content stop
+keeping_wider fails wider path dialect part content stop more (inl (f, stops, at)) =
+    inl (f, stops, stops_at_wider fails wider path (stream_of content) f stop more at)
+keeping_wider fails wider path dialect part content stop more (inr refused) = inr refused
+
+section_wider : (fails wider : Error → Type 0) (path : List ℕ) (content : Content) (stop : FileStop)
+    → ((e : Error) → fails e → wider e) → SectionStops fails path content stop → SectionStops wider path content stop
+section_wider fails wider path content stop more (f, stops, at) =
+    (f, stops, stops_at_wider fails wider path (stream_of content) f stop more at)
+
+pub strings_wider : (fails wider : Error → Type 0) (path : List ℕ) (line_str str : Option Content) (stop : FileStop)
+    → ((e : Error) → fails e → wider e) → StringsStop fails path line_str str stop
+    → StringsStop wider path line_str str stop
+strings_wider fails wider path line_str str stop more (inl (content, is, stops)) =
+    inl (content, is, section_wider fails wider path content stop more stops)
+strings_wider fails wider path line_str str stop more (inr (content, is, stops, fits)) =
+    inr (content, is, section_wider fails wider path content stop more stops, fits)
 
 refuses_weaker : (fails wider : Error → Type 0) (f : List ℕ) (wanted : Wanted) (fault : FileFault)
     → ((e : Error) → fails e → wider e) → Refuses fails f wanted fault → Refuses wider f wanted fault
@@ -57,7 +101,7 @@ table_stops_weaker read fails wider path Lines f stop more first =
 table_stops_weaker read fails wider path LinesAndTexts f stop more (inl first) =
     inl (opening_stops_weaker fails wider path f LineAndLineStrings stop more first)
 table_stops_weaker read fails wider path LinesAndTexts f stop more (inr (t, has, some, inl naming)) =
-    inr (t, has, some, inl naming)
+    inr (t, has, some, inl (naming_wider fails wider path (file_dialect read t) t.line stop more naming))
 table_stops_weaker read fails wider path LinesAndTexts f stop more (inr (t, has, some, inr (names, named, opening))) =
     inr (
       t,

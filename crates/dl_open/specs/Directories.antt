@@ -49,6 +49,6 @@ HasUnits f = (t : InfoTable) × HasInfo f (Some t)
 
 -- a read failed, or memory was refused: for a stream or for relocations, or for what is kept of the units
 abbrev pub RefusesDirectories : (fails : Error → Type 0) (f : List ℕ) → ElfFault → Type 0
-RefusesDirectories fails f (Read error) = fails error ⊎ HasUnits f
+RefusesDirectories fails f (Read error) = fails error
 RefusesDirectories fails f NoMemory = TakesInfoMemory f ⊎ HasUnits f
 RefusesDirectories fails f other = ⊥

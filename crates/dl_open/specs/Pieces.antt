@@ -3,6 +3,9 @@
 -- left before and after, where they are known.
 use Rattle.std.specs.Prelude.{◌≡◌, ◌≢◌, ◌⊎◌, ℕ, ◌+◌, ◌<◌, ◌≤◌, List, [], length, take, Option, Some, None, IfSome}
 use Rattle.std.specs.Io.KnownBytes.{Consumes, IsAtEnd}
+use Rattle.std.specs.declared.io.Error.{Error}
+use Rattle.dl_open.specs.declared.section.Unread.{Unread}
+use Rattle.dl_open.specs.declared.section.Unread.TheVariants.{Read, NoMemory}
 use Rattle.dl_open.specs.declared.section.Piece.{Piece}
 use Rattle.dl_open.specs.declared.section.Piece.TheVariants.{Bytes, End, Lost}
 
@@ -18,6 +21,11 @@ abbrev pub IsRead : (damage : Option (Option ℕ)) (old new : Option (List ℕ))
 IsRead damage old new buffer None = IsDamaged damage
 IsRead damage old new buffer (Some n) = (n ≤ length buffer) × Consumes old new (take n buffer)
     × (n ≡ 0 → 0 < length buffer → IsAtEnd new × IsWhole damage)
+
+-- why it isn't read to its end: a read failed with such an error, or a growth was refused
+abbrev pub IsUnread : (fails : Error → Type 0) → Unread → Type 0
+IsUnread fails (Read error) = fails error
+IsUnread fails NoMemory = Unit {0}
 
 -- the next bytes, of which there may be `room`, and then `left`; or the section has ended; or it is damaged, or too long
 abbrev pub IsPiece : (damage : Option (Option ℕ)) (old new : Option (List ℕ)) (room left : ℕ) → Piece → Type 0

@@ -1,11 +1,12 @@
 -- How the work over an ELF file stops: what is wrong with the file, its text and its status.
-use Rattle.std.specs.Prelude.{⊤, ◌≡◌, ℕ, List, ◌++◌, codes, IfSome, Option, Some, None}
+use Rattle.std.specs.Prelude.{◌≡◌, ℕ, List, ◌++◌, codes, Option, Some, None}
 use Rattle.dl_elf.specs.FaultText.{fault_text}
 use Rattle.dl_elf.specs.declared.name.SectionName.{SectionName}
 use Rattle.dl_elf.specs.declared.fault.ElfFault.{ElfFault}
 use Rattle.dl_elf.specs.declared.fault.ElfFault.TheVariants.{Read, DamagedStream, NoMemory as Refused}
-use Rattle.dl_file.specs.Faults.{IsDamage}
 use Rattle.dl_file.specs.declared.read_fault.ReadFault.{ReadFault}
+use Rattle.dl_file.specs.declared.read_fault.ReadFault.TheVariants.{Read as ReadOf, DamagedStream as DamageOf}
+use Rattle.std.specs.declared.io.Error.{Error}
 use Rattle.dl_run.specs.declared.fault.RunFault.{RunFault}
 use Rattle.dl_run.specs.declared.fault.RunFault.TheVariants as fault
 use Rattle.dl_open.specs.declared.fault.FileFault.{FileFault}
@@ -50,19 +51,28 @@ abbrev pub Stream : Type 0
 Stream = SectionName × Option ℕ
 
 -- what is told of a file where a read failed of a section, which is inflated where it is a stream; its damage is told where
--- it is
-abbrev pub IsReadFault : (stream : Option Stream) → ElfFault → Type 0
-IsReadFault stream (Read error) = ⊤
-IsReadFault stream (DamagedStream name at) = stream ≡ Some (name, Some at)
-IsReadFault stream f = ⊥
-
--- why the last read failed is true of the stream
-abbrev pub IsToldOf : (stream : Option Stream) → Option ReadFault → Type 0
-IsToldOf stream read = IfSome stream (λ s. IfSome read (IsDamage s.1))
+-- it is. fails: the errors that reading the file may give
+abbrev pub IsReadFault : (fails : Error → Type 0) (stream : Option Stream) → ElfFault → Type 0
+IsReadFault fails stream (Read error) = fails error
+IsReadFault fails stream (DamagedStream name at) = stream ≡ Some (name, Some at)
+IsReadFault fails stream f = ⊥
 
 -- the fault of a run over a section of the file. Reads and memory are told with its path, and what is wrong with a
 -- section without
-abbrev pub StopsAt : (path : List ℕ) (stream : Option Stream) → RunFault → FileStop → Type 0
-StopsAt path stream fault.Read stop = (f : ElfFault) × IsReadFault stream f × IsAt path (Elf f) stop
-StopsAt path stream fault.NoMemory stop = IsAt path NoMemory stop
-StopsAt path stream f stop = stop ≡ Run f
+abbrev pub StopsAt : (fails : Error → Type 0) (path : List ℕ) (stream : Option Stream) → RunFault → FileStop → Type 0
+StopsAt fails path stream fault.Read stop = (f : ElfFault) × IsReadFault fails stream f × IsAt path (Elf f) stop
+StopsAt fails path stream fault.NoMemory stop = IsAt path NoMemory stop
+StopsAt fails path stream f stop = stop ≡ Run f
+
+-- ---- by why the last read of a section failed. stream: its name where it is inflated
+
+-- what is told of the file: the damage of the stream, or the error of the read
+abbrev pub IsTold : (stream : Option SectionName) → Option ReadFault → ElfFault → Type 0
+IsTold (Some name) (Some (DamageOf at)) f = f ≡ DamagedStream name at
+IsTold stream (Some (ReadOf error)) f = f ≡ Read error
+IsTold stream read f = Unit {0}
+
+abbrev pub StopsAs : (path : List ℕ) (stream : Option SectionName) → Option ReadFault → RunFault → FileStop → Type 0
+StopsAs path stream read fault.Read stop = (f : ElfFault) × IsTold stream read f × IsAt path (Elf f) stop
+StopsAs path stream read fault.NoMemory stop = IsAt path NoMemory stop
+StopsAs path stream read f stop = stop ≡ Run f

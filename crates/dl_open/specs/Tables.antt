@@ -34,7 +34,7 @@ use Rattle.dl_open.specs.declared.stop.FileStop.{FileStop}
 use Rattle.dl_open.specs.Files.{FileStops}
 use Rattle.dl_open.specs.Stops.{IsAt, StopsAt, Stream}
 
--- ---- string sections of the file
+-- ---- string sections of the file. fails: the errors that reading it may give
 
 -- one that is there has no more than 2^32 bytes
 abbrev pub Fits : Option (List ℕ) → Type 0
@@ -60,14 +60,16 @@ stream_of (Plain bytes) = None
 stream_of (Inflated name bytes damage) = Some (name, damage)
 
 -- a section stops the program: a read or a growth failed, or it is too long
-abbrev pub SectionStops : (path : List ℕ) → Content → FileStop → Type 0
-SectionStops path content stop =
-    (f : RunFault) × FileStops (Some (bytes_of content)) STRINGS_LIMIT f × StopsAt path (stream_of content) f stop
+abbrev pub SectionStops : (fails : Error → Type 0) (path : List ℕ) → Content → FileStop → Type 0
+SectionStops fails path content stop =
+    (f : RunFault) × FileStops (Some (bytes_of content)) STRINGS_LIMIT f × StopsAt fails path (stream_of content) f stop
 
--- one of both does
-abbrev pub StringsStop : (path : List ℕ) (line_str str : Option Content) → FileStop → Type 0
-StringsStop path line_str str stop =
-    (content : Content) × ((line_str ≡ Some content) ⊎ (str ≡ Some content)) × SectionStops path content stop
+-- the first does, or the other once the first was read
+abbrev pub StringsStop : (fails : Error → Type 0) (path : List ℕ) (line_str str : Option Content) → FileStop → Type 0
+StringsStop fails path line_str str stop =
+    ((content : Content) × (line_str ≡ Some content) × SectionStops fails path content stop)
+    ⊎ ((content : Content) × (str ≡ Some content) × SectionStops fails path content stop
+    × Fits (option_map bytes_of line_str))
 
 -- the size of an address in a file of this class
 abbrev pub address_size : Class → AddressSize
@@ -94,9 +96,9 @@ abbrev pub IsKept : Dialect → Part → Content → (kept : List ℕ) → Type 
 IsKept dialect part content kept = Keeps dialect part.places.items part.section 0 (bytes_of content) kept
 
 -- they can't be read whole, or memory is refused: for a header, or for places that don't rise
-abbrev pub KeepingStops : (path : List ℕ) → Dialect → Part → Content → FileStop → Type 0
-KeepingStops path dialect part content stop =
-    ((f : RunFault) × FileStops (Some (bytes_of content)) SECTION_LIMIT f × StopsAt path (stream_of content) f stop)
+abbrev pub KeepingStops : (fails : Error → Type 0) (path : List ℕ) → Dialect → Part → Content → FileStop → Type 0
+KeepingStops fails path dialect part content stop =
+    ((f : RunFault) × FileStops (Some (bytes_of content)) SECTION_LIMIT f × StopsAt fails path (stream_of content) f stop)
     ⊎ (((Rises part.places.items → ⊥) ⊎ WantsCell dialect (bytes_of content)) × IsAt path Refused stop)
 
 -- ---- the file. fails: the errors that opening and reading it may give
@@ -128,9 +130,9 @@ StopsNaming dialect known fault.NoMemory = IfSome known (AddsCellFrom dialect 0)
 StopsNaming dialect known fault.SectionTooLong = IfSome known (λ bytes. SECTION_LIMIT < length bytes)
 StopsNaming dialect known other = ⊥
 
-abbrev pub NamingStops : (path : List ℕ) → Dialect → Content → FileStop → Type 0
-NamingStops path dialect content stop =
-    (f : RunFault) × StopsNaming dialect (Some (bytes_of content)) f × StopsAt path (stream_of content) f stop
+abbrev pub NamingStops : (fails : Error → Type 0) (path : List ℕ) → Dialect → Content → FileStop → Type 0
+NamingStops fails path dialect content stop =
+    (f : RunFault) × StopsNaming dialect (Some (bytes_of content)) f × StopsAt fails path (stream_of content) f stop
 
 abbrev pub with_strings : (names : Bool) → Wanted
 with_strings names = if names then LineAndStringSections else LineAndLineStrings
@@ -149,7 +151,7 @@ HasTable read sections f t = (wanted : Wanted) × LooksInto read sections f want
 -- t, the line section and .debug_line_str, can be had: why no more, for the walk over the tables, or for what they name
 abbrev pub NamedStops : FileUnits → (fails : Error → Type 0) (path : List ℕ) (f : List ℕ) → LineTable → FileStop → Type 0
 NamedStops read fails path f t stop =
-    NamingStops path (file_dialect read t) t.line stop
+    NamingStops fails path (file_dialect read t) t.line stop
     ⊎ ((names : Bool) × IsNamed (file_dialect read t) t.line names × OpeningStops fails path f (with_strings names) stop)
 
 -- why it can't be had: for the line section, or with texts for that and .debug_line_str, or where the file has .debug_str

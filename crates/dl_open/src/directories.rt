@@ -1,5 +1,5 @@
 //! The directories in which the units of a file were compiled, as its `.debug_info` says them. DWARF 5, section 3.1.1.
-ghost use Rattle.std.specs.Prelude.{◌≡◌, ℕ, List, Option, IfOk, IsTrue, MatchResult};
+ghost use Rattle.std.specs.Prelude.{◌≡◌, ℕ, List, Option, IfErr, IfOk, IsTrue, MatchResult};
 ghost use Rattle.std.specs.Option.{option_map};
 ghost use Rattle.dl_elf.specs.Source.{ForBytes};
 ghost use Rattle.dl_dirs.specs.Directories.{directory_at};
@@ -9,6 +9,8 @@ ghost use Rattle.dl_num.specs.declared.fixed.Order.{Order};
 ghost use Rattle.dl_file.specs.InfoTable.{GivesInfo, InfoTable};
 ghost use Rattle.dl_file.specs.LineTable.{Content, Gives, GivesLine, GivesOption};
 ghost use Rattle.dl_open.specs.Directories.{AreDirectories, RefusesDirectories, said_in};
+ghost use Rattle.dl_file.specs.LineReader.{LineReaderFails};
+ghost use Rattle.dl_open.specs.Pieces.{IsUnread};
 ghost use Rattle.dl_open.specs.Walked.{AreFound, AreHad, ArePlaces, IsHadWhere, IsWalked};
 
 use crate::section::{PIECE, Piece, Unread, next_piece, whole};
@@ -26,8 +28,9 @@ fn whole_where<S: ReadAt>(
     wanted: bool,
     section: Option<ContentReader<'_, S>>,
 ) -> Result<Option<Vec<u8>>, Unread>
-    ensures { (content : Option Content) → GivesOption S.all_bytes section.entry content
-        → IfOk result (λ held. IsHadWhere (IsTrue wanted) content (option_map (λ v. v.items) held)) }
+    ensures { (source : _) (content : Option Content)
+        → GivesOption S.all_bytes S.fails_with (S.fails_with source) section.entry content → MatchResult result
+        (λ held. IsHadWhere (IsTrue wanted) content (option_map (λ v. v.items) held)) (IsUnread (S.fails_with source)) }
 {
     if !wanted {
         return Ok(None);
@@ -45,8 +48,9 @@ fn walk_over<'a, S: ReadAt>(
     abbreviations: &'a [u8],
     info: &mut LineReader<'_, S>,
 ) -> Result<Option<Walk<'a>>, Unread>
-    ensures { (content : Content) → GivesLine S.all_bytes info.old content
+    ensures walked { (source : _) (content : Content) → GivesLine S.all_bytes S.fails_with (S.fails_with source) info.old content
         → IfOk result (IsWalked order abbreviations.entry.now content) }
+    ensures fails { IfErr result (IsUnread (LineReaderFails S.all_bytes S.fails_with info.old)) }
 {
     let mut left = SECTION_LIMIT;
     let mut buffer = [0; PIECE];
@@ -72,8 +76,9 @@ fn walk_through<S: ReadAt>(
     abbreviations: &[u8],
     info: &mut LineReader<'_, S>,
 ) -> Result<Option<Places>, Unread>
-    ensures { (content : Content) → GivesLine S.all_bytes info.old content
+    ensures places { (source : _) (content : Content) → GivesLine S.all_bytes S.fails_with (S.fails_with source) info.old content
         → IfOk result (ArePlaces order abbreviations.now content) }
+    ensures fails { IfErr result (IsUnread (LineReaderFails S.all_bytes S.fails_with info.old)) }
 {
     let Some(walk) = walk_over(alloc, order, abbreviations, info)? else {
         return Ok(None);
@@ -91,8 +96,9 @@ fn places_of<S: ReadAt>(
     abbreviations: ContentReader<'_, S>,
     info: &mut LineReader<'_, S>,
 ) -> Result<Option<Places>, Unread>
-    ensures { (a i : Content) → Gives S.all_bytes abbreviations.entry a → GivesLine S.all_bytes info.old i
-        → IfOk result (AreFound order a i) }
+    ensures { (source : _) (a i : Content) → Gives S.all_bytes S.fails_with (S.fails_with source) abbreviations.entry a
+        → GivesLine S.all_bytes S.fails_with (S.fails_with source) info.old i
+        → MatchResult result (AreFound order a i) (IsUnread (S.fails_with source)) }
 {
     match whole(alloc, &mut LineReader::File(abbreviations))? {
         Some(abbreviations) => walk_through(alloc, order, &abbreviations, info),
@@ -109,11 +115,12 @@ fn texts_for<S: ReadAt>(
     debug_str: Option<ContentReader<'_, S>>,
     debug_line_str: Option<ContentReader<'_, S>>,
 ) -> Result<Texts, Unread>
-    ensures { (order : Order) (abbreviations b : List ℕ) (t : InfoTable) → AreOf places.now order abbreviations b
-        → GivesOption S.all_bytes str_offsets.entry t.str_offsets
-        → GivesOption S.all_bytes debug_str.entry t.str
-        → GivesOption S.all_bytes debug_line_str.entry t.line_str
-        → IfOk result (λ texts. AreHad order abbreviations b t (texts_of texts)) }
+    ensures { (source : _) (t : InfoTable)
+        → GivesOption S.all_bytes S.fails_with (S.fails_with source) str_offsets.entry t.str_offsets
+        → GivesOption S.all_bytes S.fails_with (S.fails_with source) debug_str.entry t.str
+        → GivesOption S.all_bytes S.fails_with (S.fails_with source) debug_line_str.entry t.line_str
+        → MatchResult result (λ texts. (order : Order) (abbreviations b : List ℕ)
+        → AreOf places.now order abbreviations b → AreHad order abbreviations b t (texts_of texts)) (IsUnread (S.fails_with source)) }
 {
     Ok(Texts {
         str_offsets: whole_where(alloc, places.wants_str_offsets(), str_offsets)?,
@@ -124,8 +131,8 @@ fn texts_for<S: ReadAt>(
 
 /// The directories that the units of a file say; none, where its `.debug_info` or `.debug_abbrev` can't be had.
 fn read_directories<S: ReadAt>(alloc: Global, file: InfoFile<'_, S>) -> Result<Directories, Unread>
-    ensures { (t : InfoTable) → GivesInfo S.all_bytes file.entry t
-        → IfOk result (λ d. (n : ℕ) → directory_at d n ≡ said_in t n) }
+    ensures { (source : _) (t : InfoTable) → GivesInfo S.all_bytes S.fails_with (S.fails_with source) file.entry t
+        → MatchResult result (λ d. (n : ℕ) → directory_at d n ≡ said_in t n) (IsUnread (S.fails_with source)) }
 {
     let InfoFile {
         order,

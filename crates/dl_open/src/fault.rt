@@ -1,6 +1,6 @@
 //! What is wrong with a file.
-ghost use Rattle.std.specs.Prelude.{◌≡◌, Option, option_map};
-ghost use Rattle.dl_open.specs.Stops.{IsReadFault, IsToldOf, Stream, file_fault_status, file_fault_text};
+ghost use Rattle.std.specs.Prelude.{◌≡◌};
+ghost use Rattle.dl_open.specs.Stops.{IsTold, file_fault_status, file_fault_text};
 
 use crate::debug_file::DebugFile;
 use dl_elf::{ElfFault, SectionName};
@@ -59,7 +59,7 @@ impl fmt::Display for FileFault {
 
 /// What is told of a file where a read of a section failed so.
 pub(crate) fn read_fault(stream: Option<SectionName>, read: Option<ReadFault>) -> ElfFault
-    ensures { (told : Option Stream) → option_map (λ s. s.0) told ≡ stream → IsToldOf told read → IsReadFault told result }
+    ensures { IsTold stream read result }
 {
     match (stream, read) {
         (Some(name), Some(ReadFault::DamagedStream(at))) => ElfFault::DamagedStream(name, at),

@@ -66,8 +66,8 @@ fn is_named<'p, S: ReadAt>(
     dialect: Dialect,
     line: &mut LineReader<'_, S>,
 ) -> Result<bool, FileStop<'p>>
-    ensures { (content : Content) → GivesLine S.all_bytes line.old content → MatchResult result
-        (IsNamed dialect content) (NamingStops path.entry.now dialect content) }
+    ensures { (source : _) (content : Content) → GivesLine S.all_bytes S.fails_with (S.fails_with source) line.old content
+        → MatchResult result (IsNamed dialect content) (NamingStops (S.fails_with source) path.entry.now dialect content) }
 {
     let stream = line.stream_name();
     match names_str(alloc, dialect, line) {
@@ -85,7 +85,7 @@ fn is_named_in<'p>(
     bytes: &[u8],
 ) -> Result<bool, FileStop<'p>>
     ensures { MatchResult result (λ names. IsTrue names ↔ Names dialect bytes.now)
-        (NamingStops path.entry.now dialect (Plain bytes.now)) }
+        (NamingStops (λ error. ⊥) path.entry.now dialect (Plain bytes.now)) }
 {
     let mut input = bytes;
     match names_str(alloc, dialect, &mut input) {
@@ -102,7 +102,7 @@ fn opened<'p, 'a, S: ReadAt>(
     wanted: Wanted,
 ) -> Result<LineFile<'a, S>, FileStop<'p>>
     ensures { ForBytes (S.all_bytes file.entry.now) (λ f. MatchResult result
-        (λ table. (t : LineTable) × HasLineTable f wanted (Ok t) × GivesTable S.all_bytes table t)
+        (λ table. (t : LineTable) × HasLineTable f wanted (Ok t) × GivesTable S.all_bytes S.fails_with (S.fails_with file.entry.now) table t)
         (OpeningStops (S.fails_with file.entry.now) path.entry.now f wanted)) }
 {
     match open_line_file(alloc, file, wanted) {
@@ -135,10 +135,12 @@ fn with_named<'p, 'a, S: ReadAt>(
     units: FileUnits,
     table: LineFile<'a, S>,
 ) -> Result<LineFile<'a, S>, FileStop<'p>>
-    ensures { ForBytes (S.all_bytes file.entry.now) (λ f. (t : LineTable) → GivesTable S.all_bytes table.entry t
+    ensures { ForBytes (S.all_bytes file.entry.now) (λ f. (t : LineTable)
+        → GivesTable S.all_bytes S.fails_with (S.fails_with file.entry.now) table.entry t
         → HasLineTable f LineAndLineStrings (Ok t) → MatchResult result
         (λ opened. (names : Bool) × IsNamed (file_dialect units t) t.line names × ((t2 : LineTable)
-        × HasLineTable f (with_strings names) (Ok t2) × GivesTable S.all_bytes opened t2))
+        × HasLineTable f (with_strings names) (Ok t2)
+        × GivesTable S.all_bytes S.fails_with (S.fails_with file.entry.now) opened t2))
         (NamedStops units (S.fails_with file.entry.now) path.entry.now f t)) }
 {
     let mut table = table;
@@ -165,7 +167,7 @@ fn with_texts<'p, 'a, S: ReadAt>(
     units: FileUnits,
 ) -> Result<LineFile<'a, S>, FileStop<'p>>
     ensures { ForBytes (S.all_bytes file.entry.now) (λ f. MatchResult result
-        (λ table. (t : LineTable) × HasTable units LinesAndTexts f t × GivesTable S.all_bytes table t)
+        (λ table. (t : LineTable) × HasTable units LinesAndTexts f t × GivesTable S.all_bytes S.fails_with (S.fails_with file.entry.now) table t)
         (TableStops units (S.fails_with file.entry.now) path.entry.now LinesAndTexts f)) }
 {
     let table = match opened(alloc, path, file, Wanted::LineAndLineStrings) {
@@ -188,7 +190,7 @@ pub fn open_table<'p, 'a, S: ReadAt>(
     sections: Sections,
 ) -> Result<LineFile<'a, S>, FileStop<'p>>
     ensures { ForBytes (S.all_bytes file.entry.now) (λ f. MatchResult result
-        (λ table. (t : LineTable) × HasTable units sections f t × GivesTable S.all_bytes table t)
+        (λ table. (t : LineTable) × HasTable units sections f t × GivesTable S.all_bytes S.fails_with (S.fails_with file.entry.now) table t)
         (TableStops units (S.fails_with file.entry.now) path.entry.now sections f)) }
 {
     match sections {

@@ -91,7 +91,8 @@ fn in_table<S: ReadAt>(
     units: FileUnits,
     table: LineFile<'_, S>,
 ) -> Result<Option<PassedOver>, RunFault>
-    ensures { (t : LineTable) → GivesTable S.all_bytes table.entry t → PassesOverTable units t result }
+    ensures { (source : _) (t : LineTable) → GivesTable S.all_bytes S.fails_with (S.fails_with source) table.entry t
+        → PassesOverTable units t result }
 {
     let LineFile {
         order,

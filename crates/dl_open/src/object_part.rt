@@ -102,8 +102,9 @@ pub fn kept_bytes<'p, S: ReadAt>(
     part: &Part,
     line: &mut LineReader<'_, S>,
 ) -> Result<Vec<u8>, FileStop<'p>>
-    ensures { (content : Content) → GivesLine S.all_bytes line.old content → MatchResult result
-        (λ kept. IsKept dialect part.now content kept.items) (KeepingStops path.entry.now dialect part.now content) }
+    ensures { (source : _) (content : Content) → GivesLine S.all_bytes S.fails_with (S.fails_with source) line.old content
+        → MatchResult result (λ kept. IsKept dialect part.now content kept.items)
+        (KeepingStops (S.fails_with source) path.entry.now dialect part.now content) }
 {
     let stream = line.stream_name();
     let mut bytes = match read_strings(&System::new(alloc), line, SECTION_LIMIT) {

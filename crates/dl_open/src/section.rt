@@ -1,9 +1,11 @@
 //! The bytes of a section of a file, read one piece after the other.
-ghost use Rattle.std.specs.Prelude.{◌≡◌, ◌≤◌, ℕ, List, IfOk, length, option_map};
-ghost use Rattle.dl_file.specs.LineReader.{line_damage, line_remaining};
+ghost use Rattle.std.specs.Prelude.{◌≡◌, ◌≤◌, ℕ, List, IfErr, IfOk, length, option_map};
+ghost use Rattle.std.specs.Io.KnownBytes.{Keeps};
+ghost use Rattle.dl_file.specs.Faults.{FailsOnly};
+ghost use Rattle.dl_file.specs.LineReader.{LineReaderFails, line_damage, line_remaining};
 ghost use Rattle.dl_file.specs.LineTable.{Content, GivesLine};
 ghost use Rattle.dl_open.specs.Directories.{bytes_had};
-ghost use Rattle.dl_open.specs.Pieces.{IsPiece, IsRead};
+ghost use Rattle.dl_open.specs.Pieces.{IsPiece, IsRead, IsUnread};
 
 use crate::strings::STRINGS_LIMIT;
 use dl_elf::ReadAt;
@@ -35,31 +37,50 @@ pub(crate) enum Piece<'b> {
     Lost,
 }
 
-/// One read, which is repeated where it was interrupted. It answers how many bytes it gave; None where the section's
-/// stream is damaged.
-fn read_some<S: ReadAt>(
+/// One read. It answers how many bytes it gave; None where the section's stream is damaged.
+fn read_once<S: ReadAt>(
     section: &mut LineReader<'_, S>,
     buffer: &mut [u8],
-) -> Result<Option<usize>, Unread>
+) -> io::Result<Option<usize>>
     ensures len { length buffer.new ≡ length buffer.old }
     ensures read { IfOk result (IsRead (line_damage S.all_bytes section.old) (line_remaining S.all_bytes section.old)
         (line_remaining S.all_bytes section.new) buffer.new) }
     ensures damage { line_damage S.all_bytes section.new ≡ line_damage S.all_bytes section.old }
+    ensures kept { IfErr result (λ error. Keeps (line_remaining S.all_bytes section.old) (line_remaining S.all_bytes section.new)) }
+    ensures fails { IfErr result (LineReaderFails S.all_bytes S.fails_with section.old) }
+    ensures later { FailsOnly (LineReaderFails S.all_bytes S.fails_with section.new)
+        (LineReaderFails S.all_bytes S.fails_with section.old) }
 {
-    for _ in 0..=INTERRUPTIONS {
-        match section.read(buffer) {
-            Ok(n) => return Ok(Some(n)),
-            Err(error) => {
-                if let Some(ReadFault::DamagedStream(_)) = section.last_fault() {
-                    return Ok(None);
-                }
-                if error.kind() != ErrorKind::Interrupted {
-                    return Err(Unread::Read(error));
-                }
-            }
+    match section.read(buffer) {
+        Ok(n) => Ok(Some(n)),
+        Err(error) => match section.last_fault() {
+            Some(ReadFault::Read(told)) => Err(told),
+            Some(ReadFault::DamagedStream(_)) => Ok(None),
+            None => Err(error),
+        },
+    }
+}
+
+/// The same, repeated where it was interrupted.
+fn read_some<S: ReadAt>(
+    section: &mut LineReader<'_, S>,
+    buffer: &mut [u8],
+) -> io::Result<Option<usize>>
+    ensures len { length buffer.new ≡ length buffer.old }
+    ensures read { IfOk result (IsRead (line_damage S.all_bytes section.old) (line_remaining S.all_bytes section.old)
+        (line_remaining S.all_bytes section.new) buffer.new) }
+    ensures damage { line_damage S.all_bytes section.new ≡ line_damage S.all_bytes section.old }
+    ensures fails { IfErr result (LineReaderFails S.all_bytes S.fails_with section.old) }
+    ensures later { FailsOnly (LineReaderFails S.all_bytes S.fails_with section.new)
+        (LineReaderFails S.all_bytes S.fails_with section.old) }
+{
+    for _ in 0..INTERRUPTIONS {
+        match read_once(section, buffer) {
+            Err(error) if error.kind() == ErrorKind::Interrupted => {}
+            answer => return answer,
         }
     }
-    Err(Unread::Read(io::Error::from(ErrorKind::Interrupted)))
+    read_once(section, buffer)
 }
 
 /// The next piece of a section, of which there may be `left` bytes more.
@@ -71,8 +92,15 @@ pub(crate) fn next_piece<'b, S: ReadAt>(
     ensures piece { IfOk result (IsPiece (line_damage S.all_bytes section.old) (line_remaining S.all_bytes section.old)
         (line_remaining S.all_bytes section.new) left.old left.new) }
     ensures damage { line_damage S.all_bytes section.new ≡ line_damage S.all_bytes section.old }
+    ensures fails { IfErr result (IsUnread (LineReaderFails S.all_bytes S.fails_with section.old)) }
+    ensures later { FailsOnly (LineReaderFails S.all_bytes S.fails_with section.new)
+        (LineReaderFails S.all_bytes S.fails_with section.old) }
 {
-    let Some(n) = read_some(section, buffer)? else {
+    let read = match read_some(section, buffer) {
+        Ok(read) => read,
+        Err(error) => return Err(Unread::Read(error)),
+    };
+    let Some(n) = read else {
         return Ok(Piece::Lost);
     };
     if n == 0 {
@@ -90,8 +118,9 @@ pub(crate) fn whole<S: ReadAt>(
     alloc: Global,
     section: &mut LineReader<'_, S>,
 ) -> Result<Option<Vec<u8>>, Unread>
-    ensures { (content : Content) → GivesLine S.all_bytes section.old content
+    ensures bytes { (source : _) (content : Content) → GivesLine S.all_bytes S.fails_with (S.fails_with source) section.old content
         → IfOk result (λ held. option_map (λ v. v.items) held ≡ bytes_had STRINGS_LIMIT content) }
+    ensures fails { IfErr result (IsUnread (LineReaderFails S.all_bytes S.fails_with section.old)) }
 {
     let mut left = STRINGS_LIMIT;
     let mut buffer = [0; PIECE];

@@ -1,6 +1,5 @@
 //! Why the work over a file stops.
-ghost use Rattle.std.specs.Prelude.{◌≡◌, Option, option_map};
-ghost use Rattle.dl_open.specs.Stops.{IsToldOf, StopsAt, Stream};
+ghost use Rattle.dl_open.specs.Stops.{StopsAs};
 
 use crate::fault::{FileFault, read_fault};
 use dl_elf::SectionName;
@@ -29,8 +28,7 @@ impl<'a> FileStop<'a> {
         fault: RunFault,
         read: Option<ReadFault>,
     ) -> FileStop<'a>
-        ensures { (told : Option Stream) → option_map (λ s. s.0) told ≡ stream → IsToldOf told read
-            → StopsAt path.entry.now told fault result }
+        ensures { StopsAs path.entry.now stream read fault result }
     {
         match fault {
             RunFault::Read => FileStop::File {

@@ -54,10 +54,11 @@ impl StringSections {
         line_str: Option<ContentReader<'_, S>>,
         strings: Option<ContentReader<'_, S>>,
     ) -> Result<StringSections, FileStop<'p>>
-        ensures { (line_content : Option Content) → (content : Option Content)
-            → GivesOption S.all_bytes line_str.entry line_content → GivesOption S.all_bytes strings.entry content
+        ensures { (source : _) (line_content content : Option Content)
+            → GivesOption S.all_bytes S.fails_with (S.fails_with source) line_str.entry line_content
+            → GivesOption S.all_bytes S.fails_with (S.fails_with source) strings.entry content
             → MatchResult result (λ s. IsWhole line_content content (strings_held s))
-            (StringsStop path.entry.now line_content content) }
+            (StringsStop (S.fails_with source) path.entry.now line_content content) }
     {
         let debug_line_str = read_section(alloc, path, line_str)?;
         let debug_str = read_section(alloc, path, strings)?;
@@ -104,9 +105,10 @@ fn read_section<'p, S: ReadAt>(
     path: &'p str,
     section: Option<ContentReader<'_, S>>,
 ) -> Result<Option<Vec<u8>>, FileStop<'p>>
-    ensures { (content : Option Content) → GivesOption S.all_bytes section.entry content → MatchResult result
+    ensures { (source : _) (content : Option Content)
+        → GivesOption S.all_bytes S.fails_with (S.fails_with source) section.entry content → MatchResult result
         (λ found. IsHeld content (option_map (λ v. v.items) found))
-        (λ stop. (c : Content) × (content ≡ Some c) × SectionStops path.entry.now c stop) }
+        (λ stop. (c : Content) × (content ≡ Some c) × SectionStops (S.fails_with source) path.entry.now c stop) }
 {
     let Some(mut section) = section else {
         return Ok(None);

@@ -1,13 +1,15 @@
--- Files that have no name.
-use Rattle.std.proofs.Common.{◌≡◌, ℕ, ◌≤◌, List, [], ◌∷◌, ◌++◌, length, refl, sym, subst, arith}
-use Rattle.std.specs.Prelude.{Some}
+-- Files that have no name, and files and texts that are too many.
+use Rattle.std.proofs.Common.{◌≡◌, inl, ℕ, ◌≤◌, List, [], ◌∷◌, ◌++◌, length, refl, sym, subst, arith}
+use Rattle.std.specs.Prelude.{Some, Result, Ok, Err, OnErr}
 use Rattle.std.specs.List.{Contains}
 use Rattle.dl_stretch.specs.declared.told.Told.{Told}
 use Rattle.dl_stretch.specs.declared.stretch.Stretch.{Stretch}
+use Rattle.dl_stretch.specs.Laws.{AtAddresses}
 use Rattle.dl_pack.specs.declared.fault.PackFault.{PackFault}
 use Rattle.dl_pack.specs.declared.fault.PackFault.TheVariants as fault
+use Rattle.dl_pack.specs.declared.names.FileTexts.{FileTexts}
 use Rattle.dl_pack.specs.IndexOf.{told_files}
-use Rattle.dl_pack.specs.Faults.{TellsUnnamed, MentionFails, PackFails, TotalsFail}
+use Rattle.dl_pack.specs.Faults.{TellsUnnamed, MentionFails, TotalsFail}
 
 -- a stretch that tells this
 pub unnamed_here : (s : Stretch) (told : Told) (files : ℕ) → s.told ≡ Some told → files ≤ told.file
@@ -15,14 +17,15 @@ pub unnamed_here : (s : Stretch) (told : Told) (files : ℕ) → s.told ≡ Some
 unnamed_here s told files is le =
     (told.file, subst (λ o. Contains (told_files o ++ []) told.file) (sym is) (0, omega arith, refl), le)
 
-pub totals_fail : (files : ℕ) (stands : List Stretch → Type 0) (list : List Stretch) (f : PackFault) → stands list
-    → MentionFails files list f → TotalsFail files stands f
-totals_fail files stands list fault.BuildId s h = h
-totals_fail files stands list fault.File s h = (list, s, h)
-totals_fail files stands list fault.NoMemory s h = tt
+-- what holds at any error
+pub on_err : {A E K : Type 0} (r : Result A E) → K → OnErr r K
+on_err (Ok x) k = tt
+on_err (Err e) k = k
 
-pub pack_fails : (build_id : List ℕ) (files : ℕ) (stands : List Stretch → Type 0) (f : PackFault) → length build_id ≤ 32
-    → TotalsFail files stands f → PackFails build_id files stands f
-pack_fails build_id files stands fault.BuildId short h = absurd h
-pack_fails build_id files stands fault.File short h = (short, h)
-pack_fails build_id files stands fault.NoMemory short h = short
+module _ (refuses : ℕ → Type 0) (files : List FileTexts) (stands : List Stretch → Type 0) where
+  pub totals_fail : (list : List Stretch) (f : PackFault) → stands list → AtAddresses list → MentionFails (length files) list f
+      → TotalsFail refuses files stands f
+  totals_fail list fault.BuildId s at h = h
+  totals_fail list fault.File s at h = (list, s, h)
+  totals_fail list fault.TooMany s at h = (list, s, at, inl h)
+  totals_fail list fault.NoMemory s at h = absurd h

@@ -1,11 +1,16 @@
 -- Numbers of items in the order of first mention, and one more.
-use Rattle.std.proofs.Common.{◌≡◌, ℕ, zero, suc, ◌+◌, ◌<◌, ◌≤◌, Bool, true, false, List, [], ◌∷◌, ◌++◌, length}
+use Rattle.std.proofs.Common.{◌≡◌, ℕ, zero, suc, ◌+◌, ◌<◌, ◌≤◌, ◌^◌, Bool, get_or, replicate, length-append, true, false, List, [], ◌∷◌, ◌++◌, length}
 use Rattle.std.proofs.Common.{arith, refl, sym, ap, ap₂, subst, add-one, length-set, ◌∙◌, eqb, get_or-set_other, get_or-set_same}
 use Rattle.std.specs.Prelude.{if◌then◌else◌, slice_index, slice_set}
 use Rattle.std.specs.List.{All}
 use Rattle.std.proofs.lemmas.Bool.{eqb-true, eqb-false, eq-eqb, ne_eqb}
 use Rattle.std.proofs.lemmas.List.Elements.{All-head, All-tail, All-push}
-use Rattle.dl_pack.specs.Numbering.{one_more, number_in}
+use Rattle.std.proofs.lemmas.List.{length-replicate}
+use Rattle.std.proofs.lemmas.List.Folds.{sum_by-replicate}
+use Rattle.std.proofs.lemmas.List.Sums.{sum_by-set}
+use Rattle.dl_pack.specs.Faults.{AreTooMany}
+use Rattle.dl_pack.specs.Numbering.{one_more, number_in, with_mention}
+use Rattle.dl_pack.specs.Unnumbered.{unnumbered, unnumbered_count}
 
 one_more-zero : (n : ℕ) → one_more n ≡ 0 → n ≡ 0
 one_more-zero zero e = refl
@@ -66,3 +71,45 @@ number_outside (first ∷ order) count item within le =
     let ne : first ≡ item → ⊥ = λ e. omega arith in
     ap₂ (λ (b : Bool) n. if b then 1 else one_more n) (ne_eqb first item ne)
     (number_outside order count item (All-tail (λ i. i < count) first order within) le)
+
+-- ---- how many have no number
+
+unnumbered_not : (number : ℕ) → 1 ≤ number → unnumbered number ≡ 0
+unnumbered_not zero some = absurd (omega arith)
+unnumbered_not (suc n) some = ap (λ (b : Bool). if b then 1 else 0) (ne_eqb (suc n) 0 (λ e. omega (arith, e)))
+
+module _ (numbers : List ℕ) (item : ℕ) (lt : item < length numbers) (none : slice_index numbers item ≡ 0) where
+  one_less : (number : ℕ) → 1 ≤ number → unnumbered_count (slice_set numbers item number) + 1 ≡ unnumbered_count numbers
+  one_less number some =
+      let was : unnumbered (get_or numbers item 0) ≡ 1 = ap unnumbered none in
+      omega (arith, sum_by-set unnumbered numbers item number 0 lt, was, unnumbered_not number some)
+
+  module _ (order : List ℕ) (counted : length order + unnumbered_count numbers ≡ length numbers) where
+    -- there is room for the item's place
+    pub room_for : length order + 1 ≤ length numbers
+    room_for = omega (arith, one_less 1 (omega arith), counted)
+
+    pub counted_more : (after : List ℕ) (number : ℕ) → after ≡ order ++ item ∷ [] → number ≡ length order + 1
+        → length after + unnumbered_count (slice_set numbers item number) ≡ length (slice_set numbers item number)
+    counted_more after number e is =
+        let more : length after ≡ length order + 1 = ap length e ∙ length-append order (item ∷ []) in
+        omega (arith, one_less number (omega (arith, is)), counted, length-set numbers item number, more)
+
+pub none_counted : (numbers order : List ℕ) (count : ℕ) → numbers ≡ replicate count 0 → order ≡ []
+    → length order + unnumbered_count numbers ≡ length numbers
+none_counted numbers order count is none =
+    omega (
+      arith,
+      ap length none,
+      ap length is,
+      length-replicate {A = ℕ} count 0,
+      ap unnumbered_count is,
+      sum_by-replicate unnumbered count 0,
+    )
+
+-- an item more is one too many
+pub many_more : (order : List ℕ) (item : ℕ) → number_in order item ≡ 0 → 2 ^ 32 ≤ length order + 1
+    → AreTooMany (with_mention order item)
+many_more order item none many =
+    subst AreTooMany (sym (ap (λ (b : Bool). if b then order ++ item ∷ [] else order) (eq-eqb (number_in order item) 0 none)))
+    (omega (arith, length-append order (item ∷ []), many))

@@ -1,6 +1,6 @@
 -- The tables of files and of texts, one entry more.
-use Rattle.std.proofs.Common.{◌≡◌, ℕ, zero, suc, ◌+◌, ◌-◌, ◌<◌, List, [], ◌∷◌, ◌++◌, length, get_or, take}
-use Rattle.std.proofs.Common.{arith, refl, sym, ap, ap₂, ◌∙◌, append_assoc}
+use Rattle.std.proofs.Common.{◌≡◌, ℕ, zero, suc, ◌+◌, ◌-◌, ◌<◌, ◌≤◌, ◌^◌, min, List, [], ◌∷◌, ◌++◌, length, get_or, take}
+use Rattle.std.proofs.Common.{arith, refl, sym, ap, ap₂, ◌∙◌, append_assoc, length-append}
 use Rattle.std.specs.List.{flat_map, concat}
 use Rattle.std.proofs.lemmas.List.{take_more, map-append, append-nil, flat_map_more}
 use Rattle.std.proofs.lemmas.List.Folds.{concat-append}
@@ -26,6 +26,10 @@ entries_push place (first ∷ texts) text =
 
 pub put_two : (o0 o1 o2 a b : List ℕ) → o1 ≡ o0 ++ a → o2 ≡ o1 ++ b → o2 ≡ o0 ++ (a ++ b)
 put_two o0 o1 o2 a b e1 e2 = e2 ∙ ap (λ o. o ++ b) e1 ∙ append_assoc o0 a b
+
+pub longer_by_two : (start o0 o1 o2 a b : List ℕ) → length start ≤ length o0 → o1 ≡ o0 ++ a → o2 ≡ o1 ++ b
+    → length start ≤ length o2
+longer_by_two start o0 o1 o2 a b le e1 e2 = omega (arith, le, ap length e1, ap length e2, length-append o0 a, length-append o1 b)
 
 pub put_three : (o0 o1 o2 o3 a b c : List ℕ) → o1 ≡ o0 ++ a → o2 ≡ o1 ++ b → o3 ≡ o2 ++ c → o3 ≡ o0 ++ (a ++ (b ++ c))
 put_three o0 o1 o2 o3 a b c e1 e2 e3 = put_two o0 o1 o3 a (b ++ c) e1 (put_two o1 o2 o3 b c e2 e3)
@@ -62,16 +66,28 @@ total_push (first ∷ texts) text =
     let e : length first + (total_len texts + length text) ≡ length first + total_len texts + length text = omega arith in
     ap (λ n. length first + n) (total_push texts text) ∙ e
 
+abbrev most : ℕ
+most = 0xffffffffffffffff
+
+total_more : (texts : List (List ℕ)) (items order : List ℕ) (i d : ℕ) → items ≡ order → i < length items
+    → total_len (texts_at texts (take (i + 1) order))
+    ≡ total_len (texts_at texts (take i order)) + length (get_or texts (get_or items i d) [])
+total_more texts items order i d same lt =
+    ap total_len (texts_more texts items order i d same lt)
+    ∙ total_push (texts_at texts (take i order)) (get_or texts (get_or items i d) [])
+
 pub entries_more : (texts : List (List ℕ)) (items order : List ℕ) (i d : ℕ) (start o0 o1 o2 text : List ℕ) (place len : ℕ)
     → items ≡ order → i < length items → text ≡ get_or texts (get_or items i d) [] → len ≡ length text
-    → place ≡ total_len (texts_at texts (take i order))
-    → o0 ≡ start ++ text_entries 0 (texts_at texts (take i order)) → o1 ≡ o0 ++ little_bytes 8 place
+    → total_len (texts_at texts (take (i + 1) order)) < 2 ^ 64 → place ≡ min (total_len (texts_at texts (take i order))) most
+    → (total_len (texts_at texts (take i order)) < 2 ^ 64
+    → o0 ≡ start ++ text_entries 0 (texts_at texts (take i order))) → o1 ≡ o0 ++ little_bytes 8 place
     → o2 ≡ o1 ++ little_bytes 8 len → o2 ≡ start ++ text_entries 0 (texts_at texts (take (i + 1) order))
-entries_more texts items order i d start o0 o1 o2 text place len same lt at size sum_is was put1 put2 =
+entries_more texts items order i d start o0 o1 o2 text place len same lt at size few sum_is was put1 put2 =
     let so_far : List (List ℕ) = texts_at texts (take i order) in
-    let z : place ≡ 0 + total_len so_far = omega (arith, sum_is) in
+    let more = total_more texts items order i d same lt in
+    let z : place ≡ 0 + total_len so_far = omega (arith, sum_is, more, few) in
     put_two o0 o1 o2 (little_bytes 8 place) (little_bytes 8 len) put1 put2
-    ∙ ap (λ o. o ++ (little_bytes 8 place ++ little_bytes 8 len)) was
+    ∙ ap (λ o. o ++ (little_bytes 8 place ++ little_bytes 8 len)) (was (omega (arith, more, few)))
     ∙ append_assoc start (text_entries 0 so_far) (little_bytes 8 place ++ little_bytes 8 len)
     ∙ ap₂ (λ p n. start ++ (text_entries 0 so_far ++ (little_bytes 8 p ++ little_bytes 8 n))) z size
     ∙ ap (λ bytes. start ++ bytes) (sym (entries_push 0 so_far text))
@@ -80,11 +96,10 @@ entries_more texts items order i d start o0 o1 o2 text place len same lt at size
 
 pub place_more : (texts : List (List ℕ)) (items order : List ℕ) (i d : ℕ) (text : List ℕ) (place len next : ℕ)
     → items ≡ order → i < length items → text ≡ get_or texts (get_or items i d) [] → len ≡ length text
-    → place ≡ total_len (texts_at texts (take i order)) → place + len ≡ next
-    → next ≡ total_len (texts_at texts (take (i + 1) order))
+    → place ≡ min (total_len (texts_at texts (take i order))) most → next ≡ min (place + len) most
+    → next ≡ min (total_len (texts_at texts (take (i + 1) order))) most
 place_more texts items order i d text place len next same lt at size sum_is is =
-    sym is ∙ ap₂ (λ p n. p + n) sum_is (size ∙ ap length at) ∙ sym (total_push (texts_at texts (take i order)) (get_or texts (get_or items i d) []))
-    ∙ ap total_len (sym (texts_more texts items order i d same lt))
+    omega (arith, is, sum_is, size ∙ ap length at, total_more texts items order i d same lt)
 
 pub bytes_more : (texts : List (List ℕ)) (items order : List ℕ) (i d : ℕ) (start before after text : List ℕ) → items ≡ order
     → i < length items → text ≡ get_or texts (get_or items i d) []

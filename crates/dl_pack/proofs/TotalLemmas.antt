@@ -15,14 +15,14 @@ use Rattle.dl_pack.specs.declared.fault.PackFault.TheVariants as fault
 use Rattle.dl_pack.specs.declared.totals.StartTotals.{StartTotals}
 use Rattle.dl_pack.specs.declared.totals.RowTotals.{RowTotals}
 use Rattle.dl_pack.specs.Columns.{told_number, number_of, column_of, greatest}
-use Rattle.dl_pack.specs.Faults.{MentionFails}
+use Rattle.dl_pack.specs.Faults.{AreTooMany, MentionFails, MoreFails}
 use Rattle.dl_pack.specs.IndexOf.{told_files, files_of_stretch, files_told, file_order}
 use Rattle.dl_pack.specs.Numbering.{number_in, with_mention, mentioned}
 use Rattle.dl_pack.specs.Totals.{AreStarts, AreRows, OrderOr}
 use Rattle.dl_pack.proofs.ColumnLemmas.{greatest_push}
 use Rattle.dl_pack.proofs.FoundLemmas.{number_upto, added}
 use Rattle.dl_pack.proofs.MentionLemmas.{number_new, number_old}
-use Rattle.dl_pack.proofs.OrderLemmas.{mentioned-append}
+use Rattle.dl_pack.proofs.OrderLemmas.{mentioned-append, mentioned_longer}
 
 greatest_mapped : (f : Stretch → ℕ) (list : List Stretch) (x : Stretch)
     → greatest (map f (list ++ x ∷ [])) ≡ max (f x) (greatest (map f list))
@@ -104,16 +104,25 @@ fails_more : (n : ℕ) (list : List Stretch) (x : Stretch) (f : PackFault) → M
 fails_more n list x fault.BuildId h = absurd h
 fails_more n list x fault.File h =
     (h.0, subst (λ l. Contains l h.0) (sym (told_push list x)) (Contains-append_left (files_told list) (files_of_stretch x) h.0 h.1), h.2)
-fails_more n list x fault.NoMemory h = tt
+fails_more n list x fault.TooMany h =
+    subst AreTooMany (sym (order_push list x)) (omega (arith, h, mentioned_longer (file_order list) (files_of_stretch x)))
+fails_more n list x fault.NoMemory h = absurd h
 
-pub fails_here : (n m : ℕ) (list : List Stretch) (x : Stretch) (f : PackFault) → m ≡ n → MentionFails m (x ∷ []) f
-    → MentionFails n (list ++ x ∷ []) f
-fails_here n m list x fault.BuildId same h = absurd h
-fails_here n m list x fault.File same h =
+here_fails : (n m : ℕ) (order : List ℕ) (list : List Stretch) (x : Stretch) (f : PackFault) → m ≡ n → order ≡ file_order list
+    → MoreFails m order x f → MentionFails n (list ++ x ∷ []) f
+here_fails n m order list x fault.BuildId same is h = absurd h
+here_fails n m order list x fault.File same is h =
     let here = subst (λ told. Contains told h.0) (append-nil (files_of_stretch x)) h.1 in
     let le = h.2 in
     (h.0, subst (λ l. Contains l h.0) (sym (told_push list x)) (Contains-append_right (files_told list) (files_of_stretch x) h.0 here), omega (arith, le, same))
-fails_here n m list x fault.NoMemory same h = tt
+here_fails n m order list x fault.TooMany same is h =
+    subst AreTooMany (ap (λ o. mentioned o (files_of_stretch x)) is ∙ sym (order_push list x)) h
+here_fails n m order list x fault.NoMemory same is h = absurd h
+
+pub fails_here : (o : Option PackFault) (n m : ℕ) (order : List ℕ) (list : List Stretch) (x : Stretch) (f : PackFault)
+    → is_some o ≡ false → OrderOr o n order list → m ≡ n → MoreFails m order x f → MentionFails n (list ++ x ∷ []) f
+fails_here (Some g) n m order list x f none h same fails = cc
+fails_here None n m order list x f none h same fails = here_fails n m order list x f same h.0 fails
 
 pub order_stays : (o : Option PackFault) (n : ℕ) (order : List ℕ) (list : List Stretch) (x : Stretch) → is_some o ≡ true
     → OrderOr o n order list → OrderOr o n order (list ++ x ∷ [])

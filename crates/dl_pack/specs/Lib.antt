@@ -11,6 +11,7 @@ pub mod Laws
 -- For what a value stands; public contracts name this, and don't rest on how it is said.
 pub mod Within
 -- Of contracts inside the crate, and of proofs; no public contract reaches these.
+pub mod Unnumbered
 pub mod Mentioned
 pub mod Totals
 pub mod Written

@@ -1,6 +1,7 @@
 //! The numbers of columns, and how numbers are put.
 
-ghost use Rattle.std.specs.Prelude.{◌≡◌, ◌-◌, ◌<◌, ◌≤◌, ◌^◌, ◌++◌, IfOk, vec_len, replicate};
+ghost use Rattle.std.specs.Prelude.{◌≡◌, ◌-◌, ◌<◌, ◌≤◌, ◌^◌, ◌++◌, IfOk, OnErr, vec_len, replicate};
+ghost use Rattle.dl_memory.specs.Refusals.{WasRefused};
 ghost use Rattle.dl_num.specs.Fixed.{little_bytes};
 ghost use Rattle.dl_index.specs.Columns.{size_of};
 ghost use Rattle.dl_index.specs.Layout.{rounded};
@@ -9,7 +10,7 @@ ghost use Rattle.dl_pack.specs.Mentioned.{order_of};
 
 use crate::mentions::Mentions;
 use dl_index::Width;
-use dl_memory::NoMemory;
+use dl_memory::{Memory, NoMemory};
 use dl_stretch::{Stretch, Told};
 
 /// A column of an index.
@@ -69,48 +70,50 @@ pub fn least_width(greatest: u64) -> Width
 
 /// Puts the lowest bytes of a number, the lowest first.
 #[inline(always)]
-pub fn put_number(out: &mut Vec<u8>, size: usize, number: u64) -> Result<(), NoMemory>
+pub fn put_number<M: Memory>(
+    memory: &M,
+    out: &mut Vec<u8>,
+    size: usize,
+    number: u64,
+) -> Result<(), NoMemory>
     requires { size ≤ 8 }
-    ensures { IfOk result (λ _. out.new.items ≡ out.old.items ++ little_bytes size number) }
+    ensures put { IfOk result (λ _. out.new.items ≡ out.old.items ++ little_bytes size number) }
+    ensures refused { OnErr result (WasRefused (M.refuses memory.now)) }
 {
     let bytes = number.to_le_bytes();
-    match out.extend_from_slice(&bytes[..size]) {
+    match memory.extend_from_slice(out, &bytes[..size]) {
         Ok(()) => Ok(()),
-        Err(_) => Err(NoMemory),
+        Err(NoMemory) => Err(NoMemory),
     }
 }
 
 /// Puts some bytes.
-pub fn put_slice(out: &mut Vec<u8>, slice: &[u8]) -> Result<(), NoMemory>
-    ensures { IfOk result (λ _. out.new.items ≡ out.old.items ++ slice.now) }
+pub fn put_slice<M: Memory>(memory: &M, out: &mut Vec<u8>, slice: &[u8]) -> Result<(), NoMemory>
+    ensures put { IfOk result (λ _. out.new.items ≡ out.old.items ++ slice.now) }
+    ensures refused { OnErr result (WasRefused (M.refuses memory.now)) }
 {
-    match out.extend_from_slice(slice) {
-        Ok(()) => Ok(()),
-        Err(_) => Err(NoMemory),
-    }
+    memory.extend_from_slice(out, slice)
 }
 
 /// Puts this many bytes of 0.
-pub fn put_zeros(out: &mut Vec<u8>, count: usize) -> Result<(), NoMemory>
-    requires { count ≤ 128 }
-    ensures { IfOk result (λ _. out.new.items ≡ out.old.items ++ replicate count 0) }
+pub fn put_zeros<M: Memory>(memory: &M, out: &mut Vec<u8>, count: usize) -> Result<(), NoMemory>
+    requires { count ≤ 44 }
+    ensures put { IfOk result (λ _. out.new.items ≡ out.old.items ++ replicate count 0) }
+    ensures refused { OnErr result (WasRefused (M.refuses memory.now)) }
 {
-    match out.resize(out.len() + count, 0) {
-        Ok(()) => Ok(()),
-        Err(_) => Err(NoMemory),
-    }
+    let zeros = [0; 44];
+    put_slice(memory, out, &zeros[..count])?;
+    Ok(())
 }
 
 /// Puts 0 behind a part that begins at `start`, up to a multiple of 8 bytes from there.
-pub fn pad(out: &mut Vec<u8>, start: usize) -> Result<(), NoMemory>
+pub fn pad<M: Memory>(memory: &M, out: &mut Vec<u8>, start: usize) -> Result<(), NoMemory>
     requires { start ≤ vec_len out.old }
-    ensures { IfOk result (λ _. out.new.items ≡ out.old.items
+    ensures put { IfOk result (λ _. out.new.items ≡ out.old.items
         ++ replicate (rounded (vec_len out.old - start) - (vec_len out.old - start)) 0) }
+    ensures refused { OnErr result (WasRefused (M.refuses memory.now)) }
 {
     let len = out.len() - start;
     let rest = (len + 7) / 8 * 8 - len;
-    match out.resize(out.len() + rest, 0) {
-        Ok(()) => Ok(()),
-        Err(_) => Err(NoMemory),
-    }
+    put_zeros(memory, out, rest)
 }

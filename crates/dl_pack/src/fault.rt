@@ -15,7 +15,14 @@ pub enum PackFault {
     /// The build ID has more than 32 bytes.
     #[error("a build ID of more than 32 bytes")]
     BuildId,
+    /// The stretches tell 2^32 files or more, or these have as many texts.
+    #[error("2^32 files or texts, or more")]
+    TooMany,
 }
+
+/// More items are mentioned than have numbers from 1 to 2^32 - 1.
+#[derive(Clone, Copy, Debug, PartialEq, Eq)]
+pub(crate) struct TooMany;
 
 impl From<NoMemory> for PackFault {
     fn from(_: NoMemory) -> PackFault {

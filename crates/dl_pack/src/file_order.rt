@@ -1,22 +1,21 @@
 //! The files that stretches tell, in the order in which they first do.
 
-ghost use Rattle.std.specs.Prelude.{◌≡◌, ◌<◌, ◌∷◌, [], IfOk, IfErr};
+ghost use Rattle.std.specs.Prelude.{◌≡◌, ◌<◌, IfOk, IfErr};
 ghost use Rattle.std.specs.List.{All};
 ghost use Rattle.dl_pack.specs.IndexOf.{files_of_stretch};
-ghost use Rattle.dl_pack.specs.Faults.{MentionFails};
+ghost use Rattle.dl_pack.specs.Faults.{MoreFails};
 ghost use Rattle.dl_pack.specs.Numbering.{mentioned};
 ghost use Rattle.dl_pack.specs.Mentioned.{order_of, count_of};
 
-use crate::fault::PackFault;
+use crate::fault::{PackFault, TooMany};
 use crate::mentions::Mentions;
-use dl_memory::NoMemory;
 use dl_stretch::Stretch;
 
 /// The files that stretches tell, up to the first fault.
 #[derive(Drop)]
 pub struct FileOrder {
     pub files: Mentions,
-    /// A file has no name, or a growth was refused.
+    /// A file has no name, or 2^32 files are told.
     pub fault: Option<PackFault>,
 }
 
@@ -55,7 +54,7 @@ impl FileOrder {
 fn mention_told(files: &mut Mentions, stretch: &Stretch) -> Result<(), PackFault>
     ensures order { IfOk result (λ _. order_of files.new ≡ mentioned (order_of files.old) (files_of_stretch stretch.now)) }
     ensures within { IfOk result (λ _. All (λ file. file < count_of files.old) (files_of_stretch stretch.now)) }
-    ensures fails { IfErr result (MentionFails (count_of files.old) (stretch.now ∷ [])) }
+    ensures fails { IfErr result (MoreFails (count_of files.old) (order_of files.old) stretch.now) }
     ensures count { count_of files.new ≡ count_of files.old }
 {
     let Some(told) = stretch.told else {
@@ -66,6 +65,6 @@ fn mention_told(files: &mut Mentions, stretch: &Stretch) -> Result<(), PackFault
     }
     match files.mention(told.file as usize) {
         Ok(()) => Ok(()),
-        Err(NoMemory) => Err(PackFault::NoMemory),
+        Err(TooMany) => Err(PackFault::TooMany),
     }
 }

@@ -1,6 +1,7 @@
 //! Where the columns of an index stand, and the bits of is_stmt.
 
-ghost use Rattle.std.specs.Prelude.{◌≡◌, ℕ, ◌+◌, ◌<◌, ◌≤◌, ◌++◌, IfOk, IfSome, List, None, length, map};
+ghost use Rattle.std.specs.Prelude.{◌≡◌, ℕ, ◌+◌, ◌<◌, ◌≤◌, ◌^◌, ◌++◌, IfOk, OnErr, List, None, length, map, replicate, vec_capacity};
+ghost use Rattle.dl_memory.specs.Refusals.{WasRefused};
 ghost use Rattle.std.specs.List.{flat_map};
 ghost use Rattle.dl_index.specs.Columns.{size_of};
 ghost use Rattle.dl_index.specs.Layout.{rounded};
@@ -16,7 +17,7 @@ ghost use Rattle.dl_pack.specs.Writing.{AreLaid, IsFresh, HasWidths, TotalsFit};
 use crate::columns::least_width;
 use crate::totals::Totals;
 use crate::writer::{ColumnWriter, Cursor};
-use dl_memory::NoMemory;
+use dl_memory::{Memory, NoMemory};
 use dl_stretch::Stretches;
 
 /// Where the columns and the bits stand, and where they end.
@@ -31,27 +32,28 @@ pub struct Places {
     pub end: usize,
 }
 
-/// The columns in their least widths and the bits of stretches of which the totals are known, behind what stands before
-/// them; and the widths.
-pub fn with_columns<T: Stretches>(
-    front: Vec<u8>,
+/// The columns in their least widths and the bits of stretches of which the totals are known, behind 128 bytes of 0; and
+/// the widths.
+pub fn with_columns<M: Memory, T: Stretches>(
+    memory: &M,
     totals: &Totals,
     stretches: &T,
 ) -> Result<(Vec<u8>, [u8; 5]), NoMemory>
     requires good { totals.now.files.fault ≡ None }
     requires totals { (list : List each.Stretch) → T.stands stretches.now list → (n : ℕ) × Totalled n totals.now list }
-    ensures put { IfOk result (λ put. (list : List each.Stretch) → T.stands stretches.now list → put.0.items ≡ front.items
+    ensures put { IfOk result (λ put. (list : List each.Stretch) → T.stands stretches.now list → put.0.items ≡ replicate 128 0
         ++ (flat_map padded (map (part_by (base_of list) (order_of totals.now.files.files) list) columns_of)
         ++ padded (statement_bytes list))) }
-    ensures room { IfOk result (λ put. length front.items ≤ length put.0.items) }
+    ensures room { IfOk result (λ put. 128 ≤ length put.0.items) }
     ensures widths { IfOk result (λ put. (list : List each.Stretch) → T.stands stretches.now list
         → put.1 ≡ map (width_by (base_of list) (order_of totals.now.files.files) list) columns_of) }
     ensures fits { IfOk result (λ _. (list : List each.Stretch) → T.stands stretches.now list
         → NumbersFit (base_of list) (order_of totals.now.files.files) list) }
     ensures few { IfOk result (λ _. (list : List each.Stretch) → T.stands stretches.now list
         → totals.now.starts.count ≡ length list) }
+    ensures refused { OnErr result (WasRefused (M.refuses memory.now)) }
 {
-    let mut writer = laid_out(front, totals)?;
+    let mut writer = laid_out(memory, totals)?;
     stretches.tell(&mut writer);
     let widths = [
         writer.start.width.size() as u8,
@@ -63,20 +65,20 @@ pub fn with_columns<T: Stretches>(
     Ok((writer.bytes, widths))
 }
 
-/// A writer of the columns and bits, with room for them behind what stands before.
-fn laid_out<'a>(mut bytes: Vec<u8>, totals: &'a Totals) -> Result<ColumnWriter<'a>, NoMemory>
-    ensures fresh { IfOk result (λ w. IsFresh w bytes.items totals.now.starts.count) }
+/// A writer of the columns and bits, with room for them behind 128 bytes of 0.
+fn laid_out<'a, M: Memory>(memory: &M, totals: &'a Totals) -> Result<ColumnWriter<'a>, NoMemory>
+    ensures fresh { IfOk result (λ w. IsFresh w (replicate 128 0) totals.now.starts.count) }
     ensures widths { IfOk result (λ w. HasWidths w totals.now) }
     ensures base { IfOk result (λ w. w.base ≡ totals.now.starts.base) }
     ensures files { IfOk result (λ w. w.files.now ≡ totals.now.files.files) }
     ensures few { IfOk result (λ _. totals.now.starts.count < 0xffffffffffffffff) }
     ensures fits { IfOk result (λ _. TotalsFit totals.now) }
+    ensures refused { OnErr result (WasRefused (M.refuses memory.now)) }
 {
-    let Some(places) = places_of(bytes.len(), totals) else {
-        return Err(NoMemory);
-    };
+    let places = places_of(128, totals);
+    let mut bytes = header_room(memory, places.end)?;
     if bytes.resize(places.end, 0).is_err() {
-        return Err(NoMemory);
+        unreachable!();
     }
     Ok(ColumnWriter {
         bytes,
@@ -92,9 +94,25 @@ fn laid_out<'a>(mut bytes: Vec<u8>, totals: &'a Totals) -> Result<ColumnWriter<'
     })
 }
 
-/// The places of columns and bits behind so many bytes; None where they would end past 2^64.
-fn places_of(len: usize, totals: &Totals) -> Option<Places>
-    ensures { IfSome result (λ places. AreLaid places len totals.now) }
+/// 128 bytes of 0, with room for so many bytes in all, of which no list has 2^63.
+fn header_room<M: Memory>(memory: &M, end: usize) -> Result<Vec<u8>, NoMemory>
+    requires { 128 ≤ end }
+    ensures zeros { IfOk result (λ bytes. bytes.items ≡ replicate 128 0) }
+    ensures room { IfOk result (λ bytes. end ≤ vec_capacity bytes) }
+    ensures small { IfOk result (λ _. end < 2 ^ 63) }
+    ensures refused { OnErr result (M.refuses memory.now end) }
+{
+    let mut bytes = memory.with_capacity(end)?;
+    match bytes.resize(128, 0) {
+        Ok(()) => Ok(bytes),
+        Err(_) => unreachable!(),
+    }
+}
+
+/// The places of columns and bits behind so many bytes. Where they would end at 2^63 or past it, the end is there too.
+fn places_of(len: usize, totals: &Totals) -> Places
+    ensures laid { result.end < 2 ^ 63 → AreLaid result len totals.now }
+    ensures room { len ≤ result.end }
 {
     let count = totals.starts.count;
     let start = Cursor {
@@ -102,46 +120,51 @@ fn places_of(len: usize, totals: &Totals) -> Option<Places>
         width: least_width(totals.starts.greatest),
     };
     let files = totals.files.files.order().len() as u64;
-    let file = cursor_after(start, count, files)?;
-    let line = cursor_after(file, count, totals.rows.line)?;
-    let column = cursor_after(line, count, totals.rows.column)?;
-    let discriminator = cursor_after(column, count, totals.rows.discriminator)?;
-    let bits = place_after(discriminator, count)?;
-    let bytes = rounded_up(count / 8 + usize::from(count % 8 > 0))?;
-    Some(Places {
+    let file = cursor_after(start, count, files);
+    let line = cursor_after(file, count, totals.rows.line);
+    let column = cursor_after(line, count, totals.rows.column);
+    let discriminator = cursor_after(column, count, totals.rows.discriminator);
+    let bits = place_after(discriminator, count);
+    let bytes = rounded_up(count / 8 + usize::from(count % 8 > 0));
+    Places {
         start,
         file,
         line,
         column,
         discriminator,
         bits,
-        end: bits.checked_add(bytes)?,
-    })
+        end: bits.saturating_add(bytes),
+    }
 }
 
 /// Where a column begins behind another one, in the least width of numbers up to the greatest.
-fn cursor_after(before: Cursor, count: usize, greatest: u64) -> Option<Cursor>
-    ensures { IfSome result (λ c. (c.next ≡ before.next + room_of count (size_of before.width))
-        × (size_of c.width ≡ least_size greatest)) }
+fn cursor_after(before: Cursor, count: usize, greatest: u64) -> Cursor
+    ensures place { result.next < 2 ^ 63 → result.next ≡ before.next + room_of count (size_of before.width) }
+    ensures behind { before.next ≤ result.next }
+    ensures few { result.next < 2 ^ 63 → count < 2 ^ 63 }
+    ensures width { size_of result.width ≡ least_size greatest }
 {
-    Some(Cursor {
-        next: place_after(before, count)?,
+    Cursor {
+        next: place_after(before, count),
         width: least_width(greatest),
-    })
+    }
 }
 
-/// The place behind a column of so many numbers.
-fn place_after(column: Cursor, count: usize) -> Option<usize>
-    ensures { IfSome result (λ place. place ≡ column.next + room_of count (size_of column.width)) }
+/// The place behind a column of so many numbers; where that would be at 2^63 or past it, one there.
+fn place_after(column: Cursor, count: usize) -> usize
+    ensures place { result < 2 ^ 63 → result ≡ column.next + room_of count (size_of column.width) }
+    ensures behind { column.next ≤ result }
+    ensures few { result < 2 ^ 63 → count < 2 ^ 63 }
 {
     column
         .next
-        .checked_add(rounded_up(count.checked_mul(column.width.size())?)?)
+        .saturating_add(rounded_up(count.saturating_mul(column.width.size())))
 }
 
-/// A length with what brings it to a multiple of 8.
-fn rounded_up(len: usize) -> Option<usize>
-    ensures { IfSome result (λ rounded_len. rounded_len ≡ rounded len) }
+/// A length with what brings it to a multiple of 8; where that would be at 2^63 or past it, one there.
+fn rounded_up(len: usize) -> usize
+    ensures rounded { result < 2 ^ 63 → result ≡ rounded len }
+    ensures large { 2 ^ 63 ≤ len → 2 ^ 63 ≤ result }
 {
-    Some(len.checked_add(7)? / 8 * 8)
+    len.saturating_add(7) / 8 * 8
 }

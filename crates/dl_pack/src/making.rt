@@ -1,11 +1,12 @@
 //! The bytes of an index.
 
-ghost use Rattle.std.specs.Prelude.{◌≡◌, ℕ, ◌<◌, ◌≤◌, ◌++◌, List, [], None, length, map, IfOk, IfErr};
+ghost use Rattle.std.specs.Prelude.{◌≡◌, ℕ, ◌<◌, ◌≤◌, ◌++◌, List, [], None, length, map, IfOk, IfErr, OnErr};
+ghost use Rattle.dl_memory.specs.Refusals.{WasRefused};
 ghost use Rattle.std.specs.List.{All, flat_map};
 ghost use Rattle.dl_stretch.specs.declared.stretch.Stretch as each;
 ghost use Rattle.dl_pack.specs.IndexOf.{files_told, file_order, text_place, file_places, text_order};
 ghost use Rattle.dl_pack.specs.IndexOf.{tables_by, index_of};
-ghost use Rattle.dl_pack.specs.Faults.{PackFails, TotalsFail};
+ghost use Rattle.dl_pack.specs.Faults.{AreTooMany, PackFails, TextsFail, TotalsFail};
 ghost use Rattle.dl_pack.specs.Columns.{padded};
 ghost use Rattle.dl_pack.specs.Tables.{texts_at, total_len};
 ghost use Rattle.dl_pack.specs.Numbering.{mentioned};
@@ -17,27 +18,29 @@ ghost use Rattle.dl_pack.specs.Totals.{Totalled};
 ghost use Rattle.dl_index.specs.IsIndex.{IsIndex};
 ghost use Rattle.dl_index.specs.Telling.{stretches_in};
 
-use crate::columns::put_zeros;
-use crate::fault::PackFault;
+use crate::fault::{PackFault, TooMany};
 use crate::header::{Described, fill_header};
 use crate::layout::with_columns;
 use crate::mentions::Mentions;
 use crate::names::{FileTexts, Names};
 use crate::tables::{put_files, put_text_table, put_texts};
 use crate::totals::Totals;
-use dl_memory::NoMemory;
+use dl_memory::{Memory, NoMemory};
 use dl_stretch::Stretches;
-use std::alloc::Global;
 
 /// What is known of stretches before their index is written.
-fn totals_of<T: Stretches>(alloc: Global, stretches: &T, names: &Names) -> Result<Totals, PackFault>
+fn totals_of<M: Memory, T: Stretches>(
+    memory: &M,
+    stretches: &T,
+    names: &Names,
+) -> Result<Totals, PackFault>
     ensures totals { IfOk result (λ totals. (list : List each.Stretch) → T.stands stretches.now list
         → Totalled (length (files_of names.now)) totals list) }
     ensures good { IfOk result (λ totals. totals.files.fault ≡ None) }
     ensures some { IfOk result (λ _. (list : List each.Stretch) × T.stands stretches.now list) }
-    ensures fails { IfErr result (TotalsFail (length (files_of names.now)) (T.stands stretches.now)) }
+    ensures fails { IfErr result (TotalsFail (M.refuses memory.now) (files_of names.now) (T.stands stretches.now)) }
 {
-    let Ok(files) = Mentions::new(alloc, names.file_count()) else {
+    let Ok(files) = Mentions::new(memory, names.file_count()) else {
         return Err(PackFault::NoMemory);
     };
     let mut totals = Totals::new(files);
@@ -49,9 +52,10 @@ fn totals_of<T: Stretches>(alloc: Global, stretches: &T, names: &Names) -> Resul
 }
 
 /// Mentions the text of a number, counted from 1; none for 0.
-fn mention_text(texts: &mut Mentions, text: u32) -> Result<(), NoMemory>
+fn mention_text(texts: &mut Mentions, text: u64) -> Result<(), TooMany>
     requires { text ≤ count_of texts.old }
     ensures order { IfOk result (λ _. order_of texts.new ≡ mentioned (order_of texts.old) (text_place text)) }
+    ensures many { OnErr result (AreTooMany (mentioned (order_of texts.old) (text_place text))) }
     ensures count { count_of texts.new ≡ count_of texts.old }
 {
     if text == 0 {
@@ -61,9 +65,10 @@ fn mention_text(texts: &mut Mentions, text: u32) -> Result<(), NoMemory>
 }
 
 /// Mentions the texts of a file.
-fn mention_file(texts: &mut Mentions, file: FileTexts) -> Result<(), NoMemory>
+fn mention_file(texts: &mut Mentions, file: FileTexts) -> Result<(), TooMany>
     requires { All (λ text. text ≤ count_of texts.old) file.texts }
     ensures order { IfOk result (λ _. order_of texts.new ≡ mentioned (order_of texts.old) (file_places file)) }
+    ensures many { OnErr result (AreTooMany (mentioned (order_of texts.old) (file_places file))) }
     ensures count { count_of texts.new ≡ count_of texts.old }
 {
     mention_text(texts, file.texts[0])?;
@@ -72,20 +77,42 @@ fn mention_file(texts: &mut Mentions, file: FileTexts) -> Result<(), NoMemory>
     Ok(())
 }
 
-/// The texts of the files that were mentioned, in the order in which these first name them.
-fn mention_texts(alloc: Global, files: &Mentions, names: &Names) -> Result<Mentions, NoMemory>
-    ensures order { IfOk result (λ texts. order_of texts ≡ text_order (files_of names.now) (order_of files.now)) }
+/// Mentions the texts of the files that were mentioned, in the order in which these first name them.
+fn mention_texts(texts: &mut Mentions, files: &Mentions, names: &Names) -> Result<(), TooMany>
+    requires none { order_of texts.old ≡ [] }
+    requires count { count_of texts.old ≡ length (texts_of names.now) }
+    ensures order { IfOk result (λ _. order_of texts.new ≡ text_order (files_of names.now) (order_of files.now)) }
+    ensures many { OnErr result (AreTooMany (text_order (files_of names.now) (order_of files.now))) }
     ensures known { IfOk result (λ _. AreKnown (files_of names.now) (length (texts_of names.now)) (order_of files.now)) }
 {
-    let mut texts = Mentions::new(alloc, names.text_count())?;
     for file in files.order() {
-        mention_file(&mut texts, names.file_at(*file))?;
+        mention_file(texts, names.file_at(*file))?;
     }
-    Ok(texts)
+    Ok(())
+}
+
+/// The texts of the files that were mentioned, in the order in which these first name them.
+fn texts_named<M: Memory>(
+    memory: &M,
+    files: &Mentions,
+    names: &Names,
+) -> Result<Mentions, PackFault>
+    ensures order { IfOk result (λ texts. order_of texts ≡ text_order (files_of names.now) (order_of files.now)) }
+    ensures known { IfOk result (λ _. AreKnown (files_of names.now) (length (texts_of names.now)) (order_of files.now)) }
+    ensures fails { IfErr result (TextsFail (M.refuses memory.now) (files_of names.now) (order_of files.now)) }
+{
+    let Ok(mut texts) = Mentions::new(memory, names.text_count()) else {
+        return Err(PackFault::NoMemory);
+    };
+    match mention_texts(&mut texts, files, names) {
+        Ok(()) => Ok(texts),
+        Err(TooMany) => Err(PackFault::TooMany),
+    }
 }
 
 /// Puts the files and their texts, behind the columns and bits; answers how many bytes texts have.
-fn put_tables(
+fn put_tables<M: Memory>(
+    memory: &M,
     bytes: &mut Vec<u8>,
     names: &Names,
     files: &Mentions,
@@ -94,38 +121,40 @@ fn put_tables(
     ensures total { IfOk result (λ total. total ≡ total_len (texts_at (texts_of names.now) (order_of texts.now))) }
     ensures put { IfOk result (λ _. bytes.new.items ≡ bytes.old.items
         ++ flat_map padded (tables_by (order_of files.now) (order_of texts.now) (files_of names.now) (texts_of names.now))) }
+    ensures refused { OnErr result (WasRefused (M.refuses memory.now)) }
 {
-    put_files(bytes, names, files, texts)?;
-    let total = put_text_table(bytes, names, texts)?;
-    put_texts(bytes, names, texts)?;
+    put_files(memory, bytes, names, files, texts)?;
+    let total = put_text_table(memory, bytes, names, texts)?;
+    put_texts(memory, bytes, names, texts)?;
     Ok(total)
 }
 
-/// The index of stretches of which the totals are known, and whose files have names.
-fn made<T: Stretches>(
-    alloc: Global,
+/// The index of stretches of which the totals are known, and whose files have names with these texts.
+fn made<M: Memory, T: Stretches>(
+    memory: &M,
     stretches: &T,
     names: &Names,
     totals: &Totals,
+    texts: &Mentions,
     all: bool,
     build_id: &[u8],
 ) -> Result<Vec<u8>, NoMemory>
     requires short { length build_id.now ≤ 32 }
     requires good { totals.now.files.fault ≡ None }
     requires totals { (list : List each.Stretch) → T.stands stretches.now list → (n : ℕ) × Totalled n totals.now list }
+    requires order { order_of texts.now ≡ text_order (files_of names.now) (order_of totals.now.files.files) }
+    requires known { AreKnown (files_of names.now) (length (texts_of names.now)) (order_of totals.now.files.files) }
     ensures made { IfOk result (λ bytes. (list : List each.Stretch) → T.stands stretches.now list
         → bytes.items ≡ index_of all build_id.now list (files_of names.now) (texts_of names.now)) }
     ensures fits { IfOk result (λ _. (list : List each.Stretch) → T.stands stretches.now list
         → GivenFits (file_order list) (text_order (files_of names.now) (file_order list)) list (files_of names.now)
         (texts_of names.now)) }
     ensures sums { IfOk result (λ bytes. SumsFit bytes.items) }
+    ensures refused { OnErr result (WasRefused (M.refuses memory.now)) }
 {
     let files = &totals.files.files;
-    let texts = mention_texts(alloc, files, names)?;
-    let mut front = Vec::new(alloc);
-    put_zeros(&mut front, 128)?;
-    let (mut bytes, widths) = with_columns(front, totals, stretches)?;
-    let text_bytes = put_tables(&mut bytes, names, files, &texts)?;
+    let (mut bytes, widths) = with_columns(memory, totals, stretches)?;
+    let text_bytes = put_tables(memory, &mut bytes, names, files, texts)?;
     let described = Described {
         flags: u32::from(all),
         base: totals.starts.base,
@@ -135,7 +164,7 @@ fn made<T: Stretches>(
         text_bytes,
         widths,
     };
-    fill_header(alloc, &mut bytes, &described, build_id)?;
+    fill_header(memory, &mut bytes, &described, build_id)?;
     Ok(bytes)
 }
 
@@ -145,10 +174,10 @@ fn made<T: Stretches>(
 /// The stretches are told twice, once for their number and the widths of columns, and once to be written; no list of them
 /// is held.
 ///
-/// The faults are `BuildId` where it is longer, `File` where a stretch tells a file that has no name, and else `NoMemory`:
-/// where a growth is refused, and where files or texts would have 2^32 numbers.
-pub fn index_bytes<T: Stretches>(
-    alloc: Global,
+/// The faults are `BuildId` where it is longer, `File` where a stretch tells a file that has no name, `TooMany` where
+/// files or their texts would have 2^32 numbers, and else `NoMemory`, only where memory is refused.
+pub fn index_bytes<M: Memory, T: Stretches>(
+    memory: &M,
     stretches: &T,
     names: &Names,
     all: bool,
@@ -164,13 +193,14 @@ pub fn index_bytes<T: Stretches>(
         → StretchesRise list → IsIndex bytes.items) }
     ensures tells { IfOk result (λ bytes. (list : List each.Stretch) → T.stands stretches.now list → StretchesRise list
         → stretches_in bytes.items ≡ map (named_stretch (named_files names.now)) list) }
-    ensures fails { IfErr result (PackFails build_id.now (length (files_of names.now)) (T.stands stretches.now)) }
+    ensures fails { IfErr result (PackFails (M.refuses memory.now) build_id.now (files_of names.now) (T.stands stretches.now)) }
 {
     if build_id.len() > 32 {
         return Err(PackFault::BuildId);
     }
-    let totals = totals_of(alloc, stretches, names)?;
-    match made(alloc, stretches, names, &totals, all, build_id) {
+    let totals = totals_of(memory, stretches, names)?;
+    let texts = texts_named(memory, &totals.files.files, names)?;
+    match made(memory, stretches, names, &totals, &texts, all, build_id) {
         Ok(bytes) => Ok(bytes),
         Err(NoMemory) => Err(PackFault::NoMemory),
     }

@@ -10,13 +10,14 @@ use crate::set_memory::SetMemory;
 use dl_memory::NoMemory;
 use indexmap::IndexSet;
 use std::alloc::Global;
+use std::hash::Hash;
 
 /// A file: the offset of its unit in the line section, and the numbers of the texts that its path is made of, from 1;
 /// 0 stands for none.
 #[derive(Debug, Clone, Copy, PartialEq, Eq, Hash)]
 pub struct FileTexts {
     pub unit: u64,
-    pub texts: [u32; 3],
+    pub texts: [u64; 3],
 }
 
 /// Files by their numbers, from 0, and the texts of their paths by theirs, from 1, each of which is kept once.
@@ -24,7 +25,6 @@ pub struct FileTexts {
 pub struct Names {
     texts: IndexSet<Vec<u8>>,
     files: IndexSet<FileTexts>,
-    ghost few: { length texts.keys < 2 ^ 32 },
     ghost within: { All (HasTexts (length texts.keys)) files.keys },
     ghost packed: { All (λ f. Packed f.texts) files.keys },
     ghost once: { Once (map (named (texts_in texts)) files.keys) },
@@ -32,7 +32,7 @@ pub struct Names {
 
 impl Names {
     ghost use Rattle.dl_memory.specs.Refusals.{IsRefused};
-    ghost use Rattle.std.specs.Prelude.{◌≡◌, ◌⊎◌, ◌+◌, ◌-◌, ◌<◌, ◌≤◌, ◌^◌, ◌++◌, ◌∷◌, [], Some, length, slice_get, is_ok, IfOk, OnErr, if◌then◌else◌};
+    ghost use Rattle.std.specs.Prelude.{◌≡◌, ◌+◌, ◌-◌, ◌<◌, ◌≤◌, ◌^◌, ◌++◌, ◌∷◌, [], Some, length, slice_get, is_ok, IfOk, OnErr, if◌then◌else◌};
     ghost use Rattle.std.specs.Option.{option_copied, option_map, option_to_list};
     ghost use Rattle.dl_pack.specs.Named.{Grows, Once, named, text_of, file_of, with_text};
     ghost use Rattle.dl_pack.specs.Shown.{named_files, texts_of};
@@ -48,20 +48,16 @@ impl Names {
         }
     }
 
-    /// The number of a text. `NoMemory` only where memory is refused, or there would be 2^32 texts.
-    pub fn add_text<M: SetMemory>(&mut self, memory: &M, text: &[u8]) -> Result<u32, NoMemory>
-        ensures refused { OnErr result (IsRefused (M.refuses memory.now) (length text.now + length (texts_of self.old) + 1)
-            ⊎ (0xffffffff ≤ length (texts_of self.new))) }
+    /// The number of a text. `NoMemory` only where memory is refused.
+    pub fn add_text<M: SetMemory>(&mut self, memory: &M, text: &[u8]) -> Result<u64, NoMemory>
+        ensures refused { OnErr result (IsRefused (M.refuses memory.now) (length text.now + length (texts_of self.old) + 1)) }
         ensures text { IfOk result (λ n. (1 ≤ n) × (slice_get (texts_of self.new) (n - 1) ≡ Some text.now)) }
         ensures texts { texts_of self.new ≡ (if is_ok result then with_text (texts_of self.old) text.now
             else texts_of self.old) }
         ensures files { named_files self.new ≡ named_files self.old }
     {
-        if self.texts.len() >= 0xffff_ffff {
-            return Err(NoMemory);
-        }
         let index = put(memory, &mut self.texts, text)?;
-        Ok(index as u32 + 1)
+        Ok(number_at(&self.texts, index) + 1)
     }
 
     /// Adds a file, of the unit at this offset, whose path is made of the texts of these numbers; one that stands for no
@@ -70,7 +66,7 @@ impl Names {
         &mut self,
         memory: &M,
         unit: u64,
-        texts: [u32; 3],
+        texts: [u64; 3],
     ) -> Result<u64, NoMemory>
         ensures refused { OnErr result (IsRefused (M.refuses memory.now) (length (named_files self.old) + 1)) }
         ensures number { IfOk result (λ n. slice_get (named_files self.new) n ≡ Some (file_of (texts_of self.old) unit texts)) }
@@ -101,7 +97,7 @@ impl Names {
     }
 
     /// The text of a number; None of 0, and where there is none of it.
-    pub fn text(&self, number: u32) -> Option<&[u8]>
+    pub fn text(&self, number: u64) -> Option<&[u8]>
         ensures { option_to_list (option_copied result) ≡ text_of (texts_of self.now) number }
     {
         let index = number.checked_sub(1)?;
@@ -154,13 +150,13 @@ impl Names {
     }
 }
 
-/// The number of the file at a place, of which a set has fewer than 2^63.
-fn number_at(files: &IndexSet<FileTexts>, place: usize) -> u64
-    requires { place < length files.now.keys }
+/// The number of the item at a place, of which a set has fewer than 2^63.
+fn number_at<T: Eq + Hash>(items: &IndexSet<T>, place: usize) -> u64
+    requires { place < length items.now.keys }
     ensures same { result ≡ place }
     ensures small { result < 2 ^ 63 }
 {
-    prove!(place < files.len());
+    prove!(place < items.len());
     place as u64
 }
 
@@ -173,9 +169,8 @@ fn put<M: SetMemory>(
     ensures refused { OnErr result (IsRefused (M.refuses memory.now) (length text.now + length texts.old.keys + 1)) }
     ensures index { IfOk result (λ i. slice_get (texts_in texts.new) i ≡ Some text.now) }
     ensures texts { texts_in texts.new ≡ (if is_ok result then with_text (texts_in texts.old) text.now else texts_in texts.old) }
-    ensures within { IfOk result (λ i. i ≤ length texts.old.keys) }
+    ensures within { IfOk result (λ i. i < length texts.new.keys) }
     ensures more { length texts.old.keys ≤ length texts.new.keys }
-    ensures few { length texts.new.keys ≤ length texts.old.keys + 1 }
 {
     let mut copy = memory.with_capacity(text.len())?;
     memory.extend_from_slice(&mut copy, text)?;
@@ -183,15 +178,15 @@ fn put<M: SetMemory>(
 }
 
 /// The same number; 0 where there are fewer texts.
-fn known(text: u32, count: usize) -> u32
+fn known(text: u64, count: usize) -> u64
     ensures same { (texts : List (List ℕ)) → count ≡ length texts → text_of texts result ≡ text_of texts text }
     ensures within { result ≤ count }
 {
-    if text as usize <= count { text } else { 0 }
+    if text <= count as u64 { text } else { 0 }
 }
 
 /// The same numbers, those that are 0 last.
-fn packed(texts: [u32; 3]) -> [u32; 3]
+fn packed(texts: [u64; 3]) -> [u64; 3]
     ensures packed { Packed result }
     ensures same { (all : List (List ℕ)) → parts_of all result ≡ parts_of all texts }
     ensures within { (count : ℕ) → All (λ n. n ≤ count) texts → All (λ n. n ≤ count) result }

@@ -5,22 +5,23 @@ ghost use Rattle.std.specs.List.{list_all};
 ghost use Rattle.std.specs.Char.{digit_char};
 ghost use Rattle.std.specs.Str.Lossy.{replacement_bytes, utf8_lossy};
 ghost use Rattle.json.specs.Print.{escape, escape_byte, escape_letter};
-ghost use Rattle.dl_print.specs.Output.{Prints};
+ghost use Rattle.dl_print.specs.Output.{BlamesWriter, Prints};
 ghost use Rattle.dl_path.specs.Fronts.{front_text};
 ghost use Rattle.dl_path.specs.Shown.{stands};
 
 use crate::shown::is_all_plain;
+use dl_output::Destination;
 use dl_print::{Printer, WriteFault};
-use std::io::Write;
 
 /// Prints a text as it stands between the quotes of a JSON string; U+FFFD stands for what isn't UTF-8.
-pub fn print_json_text<W: Write>(
+pub fn print_json_text<W: Destination>(
     printer: &mut Printer,
     output: &mut W,
     text: &[u8],
 ) -> Result<(), WriteFault>
-    ensures { Prints (W.contents output.old) (W.contents output.new) printer.old printer.new
+    ensures printed { Prints (W.contents output.old) (W.contents output.new) printer.old printer.new
         (escape (utf8_lossy text.now)) result }
+    ensures blames { BlamesWriter W.fails result }
 {
     if is_all_plain(text) {
         return printer.put(output, text);
@@ -33,13 +34,14 @@ pub fn print_json_text<W: Write>(
 }
 
 /// Prints what stands for bytes that aren't UTF-8, where there are some.
-fn print_replacement<W: Write>(
+fn print_replacement<W: Destination>(
     printer: &mut Printer,
     output: &mut W,
     invalid: &[u8],
 ) -> Result<(), WriteFault>
-    ensures { Prints (W.contents output.old) (W.contents output.new) printer.old printer.new
+    ensures printed { Prints (W.contents output.old) (W.contents output.new) printer.old printer.new
         (if length invalid.now == 0 then [] else replacement_bytes) result }
+    ensures blames { BlamesWriter W.fails result }
 {
     if invalid.is_empty() {
         printer.put(output, b"")
@@ -49,13 +51,14 @@ fn print_replacement<W: Write>(
 }
 
 /// Prints a text with its escapes.
-fn print_escaped<W: Write>(
+fn print_escaped<W: Destination>(
     printer: &mut Printer,
     output: &mut W,
     text: &[u8],
 ) -> Result<(), WriteFault>
-    ensures { Prints (W.contents output.old) (W.contents output.new) printer.old printer.new
+    ensures printed { Prints (W.contents output.old) (W.contents output.new) printer.old printer.new
         (escape text.now) result }
+    ensures blames { BlamesWriter W.fails result }
 {
     let mut at = 0;
     while at < text.len() {
@@ -97,13 +100,14 @@ fn stands(byte: u8) -> bool
 }
 
 /// Prints bytes that are printed in one go.
-fn print_front<W: Write>(
+fn print_front<W: Destination>(
     printer: &mut Printer,
     output: &mut W,
     front: &[u8],
 ) -> Result<(), WriteFault>
-    ensures { Prints (W.contents output.old) (W.contents output.new) printer.old printer.new
+    ensures printed { Prints (W.contents output.old) (W.contents output.new) printer.old printer.new
         (front_text escape_byte front.now) result }
+    ensures blames { BlamesWriter W.fails result }
 {
     if front.len() == 1 {
         print_byte(printer, output, front[0])
@@ -113,9 +117,14 @@ fn print_front<W: Write>(
 }
 
 /// Prints a byte, or its escape.
-fn print_byte<W: Write>(printer: &mut Printer, output: &mut W, byte: u8) -> Result<(), WriteFault>
-    ensures { Prints (W.contents output.old) (W.contents output.new) printer.old printer.new
+fn print_byte<W: Destination>(
+    printer: &mut Printer,
+    output: &mut W,
+    byte: u8,
+) -> Result<(), WriteFault>
+    ensures printed { Prints (W.contents output.old) (W.contents output.new) printer.old printer.new
         (escape_byte byte) result }
+    ensures blames { BlamesWriter W.fails result }
 {
     let letter = escape_letter(byte);
     if letter > 0 {

@@ -4,22 +4,23 @@ ghost use Rattle.std.specs.Prelude.{◌≡◌, ◌≢◌, ◌<◌, ◌≤◌, �
 ghost use Rattle.std.specs.List.{list_all};
 ghost use Rattle.std.specs.Str.{is_utf8};
 ghost use Rattle.dl_print.specs.Digits.{last_digit};
-ghost use Rattle.dl_print.specs.Output.{Prints};
+ghost use Rattle.dl_print.specs.Output.{BlamesWriter, Prints};
 ghost use Rattle.dl_path.specs.Fronts.{front_text, shown_byte};
 ghost use Rattle.dl_path.specs.Shown.{character_len, is_control, is_plain, numbered, shown};
 
+use dl_output::Destination;
 use dl_print::{Printer, WriteFault};
-use std::io::Write;
 use std::str;
 
 /// Prints a text as it stands in a location: a backslash as two, control bytes and what isn't UTF-8 by their numbers.
-pub fn print_shown<W: Write>(
+pub fn print_shown<W: Destination>(
     printer: &mut Printer,
     output: &mut W,
     text: &[u8],
 ) -> Result<(), WriteFault>
-    ensures { Prints (W.contents output.old) (W.contents output.new) printer.old printer.new
+    ensures printed { Prints (W.contents output.old) (W.contents output.new) printer.old printer.new
         (shown text.now) result }
+    ensures blames { BlamesWriter W.fails result }
 {
     if is_all_plain(text) {
         return printer.put(output, text);
@@ -81,13 +82,14 @@ fn is_plain(byte: u8) -> bool
 }
 
 /// Prints bytes that are printed in one go.
-fn print_front<W: Write>(
+fn print_front<W: Destination>(
     printer: &mut Printer,
     output: &mut W,
     front: &[u8],
 ) -> Result<(), WriteFault>
-    ensures { Prints (W.contents output.old) (W.contents output.new) printer.old printer.new
+    ensures printed { Prints (W.contents output.old) (W.contents output.new) printer.old printer.new
         (front_text shown_byte front.now) result }
+    ensures blames { BlamesWriter W.fails result }
 {
     if front.len() == 1 {
         print_byte(printer, output, front[0])
@@ -97,9 +99,14 @@ fn print_front<W: Write>(
 }
 
 /// Prints a byte that is a character, or part of none.
-fn print_byte<W: Write>(printer: &mut Printer, output: &mut W, byte: u8) -> Result<(), WriteFault>
-    ensures { Prints (W.contents output.old) (W.contents output.new) printer.old printer.new
+fn print_byte<W: Destination>(
+    printer: &mut Printer,
+    output: &mut W,
+    byte: u8,
+) -> Result<(), WriteFault>
+    ensures printed { Prints (W.contents output.old) (W.contents output.new) printer.old printer.new
         (shown_byte byte) result }
+    ensures blames { BlamesWriter W.fails result }
 {
     if byte == b'\\' {
         printer.put(output, b"\\\\")
@@ -111,9 +118,14 @@ fn print_byte<W: Write>(printer: &mut Printer, output: &mut W, byte: u8) -> Resu
 }
 
 /// Prints a byte by its number.
-fn print_number<W: Write>(printer: &mut Printer, output: &mut W, byte: u8) -> Result<(), WriteFault>
-    ensures { Prints (W.contents output.old) (W.contents output.new) printer.old printer.new
+fn print_number<W: Destination>(
+    printer: &mut Printer,
+    output: &mut W,
+    byte: u8,
+) -> Result<(), WriteFault>
+    ensures printed { Prints (W.contents output.old) (W.contents output.new) printer.old printer.new
         (numbered byte) result }
+    ensures blames { BlamesWriter W.fails result }
 {
     printer.put(
         output,

@@ -1,5 +1,5 @@
 -- What was printed, and how much of it a writer holds.
-use Rattle.std.specs.Prelude.{◌≡◌, ℕ, ◌+◌, ◌<◌, ◌≤◌, List, ◌++◌, length, take, drop, Option, Result, MatchResult}
+use Rattle.std.specs.Prelude.{◌≡◌, ℕ, ◌+◌, ◌^◌, ◌<◌, ◌≤◌, List, ◌++◌, length, take, drop, Option, Result, IfErr, MatchResult}
 use Rattle.std.specs.Io.KnownBytes.{Appends}
 use Rattle.dl_print.specs.Printed.{Printed}
 use Rattle.dl_print.specs.declared.fault.WriteFault.{WriteFault}
@@ -40,3 +40,7 @@ Prints old new before after more result = (start : Option (List ℕ)) (text : Li
 -- how many bytes were printed
 abbrev pub printed_len : Printed → ℕ
 printed_len p = p.out + length p.pending
+
+-- A failed write is told only where the writer fails, or where so many bytes are out that 128 bits can't count more.
+abbrev pub BlamesWriter : {A : Type 0} → (fails : Type 0) → Result A WriteFault → Type 0
+BlamesWriter fails result = IfErr result (λ fault. fault.out + 2 ^ 64 < 2 ^ 128 → fails)

@@ -7,12 +7,12 @@ mod values;
 ghost use Rattle.std.specs.Prelude.{◌≡◌, ◌+◌, ◌^◌, ◌<◌, ◌≤◌, ℕ, List, [], ◌++◌, Option, length, take, IfSome, IfNone};
 ghost use Rattle.std.specs.Prelude.{IfOk, OnOk, IfErr, MatchResult};
 ghost use Rattle.std.specs.Io.KnownBytes.{Appends, Keeps};
-ghost use Rattle.dl_print.specs.Output.{HasOut, HasPrinted, TellsOut, Flushes, Prints, printed_len};
+ghost use Rattle.dl_print.specs.Output.{BlamesWriter, HasOut, HasPrinted, TellsOut, Flushes, Prints, printed_len};
 
 use crate::fault::WriteFault;
 use crate::text::write_bytes;
 use dl_head::counted::write_all;
-use std::io::Write;
+use dl_output::Destination;
 use std::marker::Model;
 pub use string_sections::{StringSection, StringSections, text_in_section};
 
@@ -46,12 +46,13 @@ impl Model for Printer {
 
 /// Writes bytes on top of the `out` that are out, and answers how many are out then. Where a count
 /// of 128 bits can't tell that, it writes none of them.
-fn write_on<W: Write>(output: &mut W, out: u128, bytes: &[u8]) -> Result<u128, WriteFault>
+fn write_on<W: Destination>(output: &mut W, out: u128, bytes: &[u8]) -> Result<u128, WriteFault>
     ensures printed { (start : Option (List ℕ)) (text : List ℕ)
         → HasPrinted start (W.contents output.old) text (record { pending = bytes.now; out = out })
         → MatchResult result
         (λ n. HasPrinted start (W.contents output.new) text (record { pending = []; out = n }))
         (λ f. TellsOut start (W.contents output.new) text f) }
+    ensures blames { BlamesWriter W.fails result }
 {
     let Some(all) = out.checked_add(bytes.len() as u128) else {
         return Err(WriteFault { out });
@@ -78,10 +79,11 @@ impl Printer {
     }
 
     /// Writes what is held.
-    pub fn flush<W: Write>(&mut self, output: &mut W) -> Result<(), WriteFault>
+    pub fn flush<W: Destination>(&mut self, output: &mut W) -> Result<(), WriteFault>
         ensures printed { Flushes (W.contents output.old) (W.contents output.new)
             self.old self.new result }
         ensures empty { OnOk result (self.new.pending ≡ []) }
+        ensures blames { BlamesWriter W.fails result }
     {
         self.out = write_on(output, self.out, &self.buffer[..self.held])?;
         self.held = 0;
@@ -104,19 +106,21 @@ impl Printer {
     }
 
     /// Writes the bytes themselves, where nothing is held.
-    fn pass<W: Write>(&mut self, output: &mut W, bytes: &[u8]) -> Result<(), WriteFault>
+    fn pass<W: Destination>(&mut self, output: &mut W, bytes: &[u8]) -> Result<(), WriteFault>
         requires empty { self.old.pending ≡ [] }
         ensures printed { Prints (W.contents output.old) (W.contents output.new)
             self.old self.new bytes.now result }
+        ensures blames { BlamesWriter W.fails result }
     {
         self.out = write_on(output, self.out, bytes)?;
         Ok(())
     }
 
     /// Prints the bytes, and first writes what is held where they don't fit beside it.
-    pub fn put<W: Write>(&mut self, output: &mut W, bytes: &[u8]) -> Result<(), WriteFault>
+    pub fn put<W: Destination>(&mut self, output: &mut W, bytes: &[u8]) -> Result<(), WriteFault>
         ensures printed { Prints (W.contents output.old) (W.contents output.new)
             self.old self.new bytes.now result }
+        ensures blames { BlamesWriter W.fails result }
     {
         if BUFFER_LEN - self.held < bytes.len() {
             self.flush(output)?;
@@ -130,10 +134,11 @@ impl Printer {
 
     /// Writes what is held where the buffer has no room beside it for `PIECE` bytes.
     #[inline]
-    fn make_room<W: Write>(&mut self, output: &mut W) -> Result<(), WriteFault>
+    fn make_room<W: Destination>(&mut self, output: &mut W) -> Result<(), WriteFault>
         ensures printed { Flushes (W.contents output.old) (W.contents output.new)
             self.old self.new result }
         ensures room { OnOk result (length self.new.pending + PIECE ≤ BUFFER_LEN) }
+        ensures blames { BlamesWriter W.fails result }
     {
         if BUFFER_LEN - self.held < PIECE {
             self.flush(output)?;

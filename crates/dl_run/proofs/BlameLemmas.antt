@@ -1,4 +1,4 @@
--- Which reads are blamed.
+-- Which reads are blamed, and which writes.
 use Rattle.std.proofs.Common.{◌≡◌, inl, inr, refl, ℕ, List, [], ◌∷◌, Option, Some, None, Result, Ok, Err, sym, subst}
 use Rattle.dl_input.specs.Failing.{Became, Blames}
 use Rattle.dl_num.specs.declared.fixed.Order.{Order}
@@ -11,6 +11,7 @@ use Rattle.dl_run.specs.declared.copying.Copier.{Copier}
 use Rattle.dl_run.specs.declared.fault.RunFault.TheVariants as fault
 use Rattle.dl_run.specs.declared.fault.RunFault.{RunFault}
 use Rattle.dl_run.specs.declared.section.SectionUnits.{SectionUnits}
+use Rattle.dl_run.specs.Blaming.{BlamesWriter, IsBlamed}
 use Rattle.dl_run.specs.Commands.{Made}
 use Rattle.dl_run.specs.Copying.{Progress, copy_story, made_by, goes, stopped, stop_in, ended_as, visited, comes_to}
 use Rattle.dl_run.specs.GoingOn.{AroundFed}
@@ -43,6 +44,12 @@ pub none_finished : {dialect : Dialect} (past : Before dialect) (t : List ℕ) (
     (r : Result Summary RunFault) → Finishes past t units b r → ¬ (r ≡ Err fault.Read)
 none_finished past t units b (Ok summary) is read = absurd cc
 none_finished past t units b (Err f) is read = let e = is.1 in absurd cc
+
+-- nor is it a failed write
+pub finished_blames : (fails : Type 0) {dialect : Dialect} (past : Before dialect) (t : List ℕ) (units : List (List ℕ))
+    (b : List ℕ) (r : Result Summary RunFault) → Finishes past t units b r → BlamesWriter fails r
+finished_blames fails past t units b (Ok summary) is = tt
+finished_blames fails past t units b (Err f) is = subst (λ (x : RunFault). IsBlamed fails x) (sym is.1) tt
 
 module _ {S : Type 0} (story : Story S) (first new : S) (start now : Option (List ℕ))
     (never : (visits : List Visit) → ¬ story.refuses first visits fault.Read) where

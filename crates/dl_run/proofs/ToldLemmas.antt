@@ -5,6 +5,7 @@ use Rattle.dl_run.proofs.Names.{map-append, min, None, none_some, NoRow, of_row,
 use Rattle.dl_run.proofs.Names.{Row, row_told, RowsFed, RowsOf, RunFault, same_Some, SectionUnits, SinkAfter}
 use Rattle.dl_run.proofs.Names.{SinkAt, Some, StopsAtRow, Story, sum_by-append, sym, told, Told, told_story, visits}
 use Rattle.dl_run.proofs.Names.{ℕ, ⊤}
+use Rattle.dl_run.specs.Blaming.{IsBlamed}
 use Rattle.dl_run.proofs.Names.event
 
 pub ends-append : (xs ys : List Row) → ends (xs ++ ys) ≡ ends xs + ends ys
@@ -23,7 +24,7 @@ counts_more old_rows old_ends rows_now ends_now rows_new ends_new rows r counts 
       of_ends = λ small. omega (arith, counts.of_ends (omega (arith, small, ends_are)), more_ends, small);
     }
 
-module _ {W V : Type 0} (story : Story V) (contents : W → Option (List ℕ)) where
+module _ {W V : Type 0} (story : Story V) (Fails : Type 0) (contents : W → Option (List ℕ)) where
   -- rows that are told, and one at which the visitor stops
   pub stops_after : (u v w : V) (a b c : Option (List ℕ)) (rows : List Row) (r : Row) (f : RunFault)
       → Hears {A = ⊤} story u v a b (map of_row rows) (Ok (tt {0}))
@@ -38,7 +39,7 @@ module _ {W V : Type 0} (story : Story V) (contents : W → Option (List ℕ)) w
       )
 
   -- no row was told
-  pub told_start : (first : Told W V) → first.failed ≡ None → HeardRows story contents first first [] None (Ok (tt {0}))
+  pub told_start : (first : Told W V) → first.failed ≡ None → HeardRows story Fails contents first first [] None (Ok (tt {0}))
   told_start first none = record {
     output = refl;
     visitor = refl;
@@ -46,29 +47,30 @@ module _ {W V : Type 0} (story : Story V) (contents : W → Option (List ℕ)) w
     fails = none;
     hears = λ fst start visits tells.
         rw append-nil tells;
+    blames = tt;
   }
 
   -- the sink goes on, so no row is answered
   pub goes_on_without : (first now : Told W V) (rows : List Row) (fed : Result Fed Fault) → now.failed ≡ None
-      → SinkAfter (told_story story contents first) now rows fed
-      → NoRow fed × HeardRows story contents first now rows None (Ok (tt {0}))
+      → SinkAfter (told_story story Fails contents first) now rows fed
+      → NoRow fed × HeardRows story Fails contents first now rows None (Ok (tt {0}))
   goes_on_without first now rows (Err fault) none heard = (tt, heard)
   goes_on_without first now rows (Ok fed) none heard = at fed.event refl heard where
-    at : (e : Event) → fed.event ≡ e → SinkAt (told_story story contents first) now rows e
-        → (row_told fed.event ≡ []) × HeardRows story contents first now rows None (Ok (tt {0}))
+    at : (e : Event) → fed.event ≡ e → SinkAt (told_story story Fails contents first) now rows e
+        → (row_told fed.event ≡ []) × HeardRows story Fails contents first now rows None (Ok (tt {0}))
     at (event.Row r) is stopped = absurd (none_some none stopped.1.fails)
     at e is told = (ap row_told is, told)
 
   -- the sink stopped, at the row that is answered
   pub stops_with : (first now : Told W V) (rows : List Row) (f : RunFault) (fed : Result Fed Fault)
-      → now.failed ≡ Some f → SinkAfter (told_story story contents first) now rows fed
+      → now.failed ≡ Some f → SinkAfter (told_story story Fails contents first) now rows fed
       → (g : Fed) × (fed ≡ Ok g) × (r : Row) × (g.event ≡ event.Row r)
-      × HeardRows story contents first now (rows ++ r ∷ []) (Some f) (Err f)
+      × HeardRows story Fails contents first now (rows ++ r ∷ []) (Some f) (Err f)
   stops_with first now rows f (Err fault) some heard = absurd (none_some heard.fails some)
   stops_with first now rows f (Ok fed) some heard = at fed.event refl heard where
-    at : (e : Event) → fed.event ≡ e → SinkAt (told_story story contents first) now rows e
+    at : (e : Event) → fed.event ≡ e → SinkAt (told_story story Fails contents first) now rows e
         → (g : Fed) × (◌≡◌ {A = Result Fed Fault} (Ok fed) (Ok g)) × (r : Row) × (g.event ≡ event.Row r)
-        × HeardRows story contents first now (rows ++ r ∷ []) (Some f) (Err f)
+        × HeardRows story Fails contents first now (rows ++ r ∷ []) (Some f) (Err f)
     at (event.Row r) is stopped =
         let same = same_Some stopped.0 f (sym stopped.1.fails ∙ some) in (
           fed,
@@ -83,7 +85,7 @@ module _ {W V : Type 0} (story : Story V) (contents : W → Option (List ℕ)) w
   pub all_told : (b piece : List ℕ) (old : SectionUnits) (reader : Reader) (first sink : Told W V) (w : V) (now : W)
       (fed : Result Fed Fault) → sink.failed ≡ None → reader.dialect ≡ old.reader.dialect
       → first.rows ≡ old.rows → first.sequences ≡ old.sequences
-      → RowsFed (told_story story contents first) old.reader.dialect b piece [] fed reader sink
+      → RowsFed (told_story story Fails contents first) old.reader.dialect b piece [] fed reader sink
       → (first.visitor.ghost_name ≡ sink.visitor.ghost_name → w ≡ sink.visitor.now)
       → (first.output.ghost_name ≡ sink.output.ghost_name → now ≡ sink.output.now)
       → RowsOf story b piece old (record old {
@@ -108,7 +110,7 @@ module _ {W V : Type 0} (story : Story V) (contents : W → Option (List ℕ)) w
   pub stopped_told : (b piece : List ℕ) (old new : SectionUnits) (first sink : Told W V) (w : V) (now : W)
       (f : RunFault)
       (fed : Result Fed Fault) → sink.failed ≡ Some f → new.reader.dialect ≡ old.reader.dialect
-      → RowsFed (told_story story contents first) old.reader.dialect b piece [] fed new.reader sink
+      → RowsFed (told_story story Fails contents first) old.reader.dialect b piece [] fed new.reader sink
       → (first.visitor.ghost_name ≡ sink.visitor.ghost_name → w ≡ sink.visitor.now)
       → (first.output.ghost_name ≡ sink.output.ghost_name → now ≡ sink.output.now)
       → StopsAtRow story b piece old new first.visitor.now w (contents first.output.now) (contents now) f
@@ -124,3 +126,9 @@ module _ {W V : Type 0} (story : Story V) (contents : W → Option (List ℕ)) w
         fed_rows = rw so.1 at rf.fed;
         hears = rw (w_is (sym told.visitor), now_is (sym told.output)) told.hears;
       }
+
+  -- why it stopped is no failed write, but where the writer fails
+  pub stopped_blames : (b piece : List ℕ) (old : SectionUnits) (reader : Reader) (first sink : Told W V) (f : RunFault)
+      (fed : Result Fed Fault) → sink.failed ≡ Some f
+      → RowsFed (told_story story Fails contents first) old.reader.dialect b piece [] fed reader sink → IsBlamed Fails f
+  stopped_blames b piece old reader first sink f fed some rf = (stops_with first sink rf.rows f fed some rf.sink).4.blames

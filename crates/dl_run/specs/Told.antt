@@ -11,6 +11,7 @@ use Rattle.dl_rows.specs.ReaderAnswers.{FedAfter}
 use Rattle.dl_run.specs.declared.fault.RunFault.{RunFault}
 use Rattle.dl_run.specs.declared.section.Told.{Told}
 use Rattle.dl_run.specs.declared.section.SectionUnits.{SectionUnits}
+use Rattle.dl_run.specs.Blaming.{BlamesWriter}
 use Rattle.dl_run.specs.Section.{of_row}
 use Rattle.dl_run.specs.Visiting.{Story, Hears}
 use Rattle.dl_run.specs.UnitsRead.{row_told}
@@ -24,19 +25,21 @@ pub record Counted (old_rows old_ends new_rows new_ends : ℕ) (rows : List Row)
   pub of_ends : old_ends + ends rows < 2 ^ 64 → new_ends ≡ old_ends + ends rows
 
 -- it was told these rows since it was as at first, and goes on, or stopped at the last of them
-pub record HeardRows {W V : Type 0} (story : Story V) (contents : W → Option (List ℕ)) (first now : Told W V)
-    (rows : List Row) (failed : Option RunFault) (result : Result ⊤ RunFault) : Type 0 where
+pub record HeardRows {W V : Type 0} (story : Story V) (Fails : Type 0) (contents : W → Option (List ℕ))
+    (first now : Told W V) (rows : List Row) (failed : Option RunFault) (result : Result ⊤ RunFault) : Type 0 where
   pub output : now.output.ghost_name ≡ first.output.ghost_name
   pub visitor : now.visitor.ghost_name ≡ first.visitor.ghost_name
   pub counts : Counted first.rows first.sequences now.rows now.sequences rows
   pub fails : now.failed ≡ failed
   pub hears : Hears story first.visitor.now now.visitor.now (contents first.output.now) (contents now.output.now)
       (map of_row rows) result
+  pub blames : BlamesWriter Fails result
 
-abbrev pub told_story : {W V : Type 0} → Story V → (W → Option (List ℕ)) → Told W V → sinks.Story (Told W V)
-told_story story contents first = record {
-  hears = λ now rows. HeardRows story contents first now rows None (Ok (tt {0}));
-  stops = λ now rows. (f : RunFault) × HeardRows story contents first now rows (Some f) (Err f);
+abbrev pub told_story : {W V : Type 0} → Story V → (Fails : Type 0) → (W → Option (List ℕ)) → Told W V
+    → sinks.Story (Told W V)
+told_story story Fails contents first = record {
+  hears = λ now rows. HeardRows story Fails contents first now rows None (Ok (tt {0}));
+  stops = λ now rows. (f : RunFault) × HeardRows story Fails contents first now rows (Some f) (Err f);
 }
 
 -- no row is answered

@@ -1,7 +1,7 @@
 //! The units of a section around those that are damaged. Section 6.2.4.
 
 ghost use Rattle.dl_input.specs.Failing.{Blames};
-ghost use Rattle.dl_run.specs.Blaming.{NeverBlames};
+ghost use Rattle.dl_run.specs.Blaming.{BlamesWriter, NeverBlames};
 ghost use Rattle.std.specs.Prelude.{◌≡◌, ◌≤◌, ◌<◌, ◌+◌, ◌^◌, ◌++◌, [], ◌∷◌, ℕ, List, Option, Some, Ok, drop, length};
 ghost use Rattle.std.specs.Io.KnownBytes.{Appends, Consumes};
 ghost use Rattle.dl_head.specs.declared.dialect.Dialect.{Dialect};
@@ -17,10 +17,10 @@ use crate::options::{Options, SECTION_LIMIT};
 use crate::section::{SectionUnits, Visitor, front, work_through};
 use dl_head::{Dialect, FaultKind};
 use dl_input::{Input, Source};
+use dl_output::Destination;
 use dl_print::Summary;
 use dl_rows::Flow;
 use std::alloc::Global;
-use std::io::Write;
 
 /// What is wrong with a unit, and where: the offset counts from the section's first byte.
 #[derive(Clone, Copy, Debug, PartialEq, Eq)]
@@ -62,7 +62,7 @@ impl Survey {
 }
 
 /// What a command does at a unit that is damaged, where it goes on after it.
-pub trait AroundDamage<W: Write>: Visitor<W> {
+pub trait AroundDamage<W: Destination>: Visitor<W> {
     ghost use Rattle.dl_run.specs.GoingOn.{IsTold};
 
     /// The current unit is damaged, and what was told of it isn't of a whole unit. Nothing is printed. No call of a visitor
@@ -93,7 +93,7 @@ impl UnitsAround {
     }
 
     /// Works through a piece of the section, up to where no unit is known to follow, or the visitor wants nothing more.
-    pub fn feed<W: Write, V: AroundDamage<W>>(
+    pub fn feed<W: Destination, V: AroundDamage<W>>(
         &mut self,
         output: &mut W,
         visitor: &mut V,
@@ -105,6 +105,9 @@ impl UnitsAround {
             → AroundIs V.story dialect t first visitor.old start (W.contents output.old) self.old
             → AroundFed V.story dialect (t ++ piece.now) first visitor.new start (W.contents output.new)
             self.new result }
+        ensures blames_writer { (dialect : Dialect) (t : List ℕ) (first : V) (start : Option (List ℕ))
+            → AroundIs V.story dialect t first visitor.old start (W.contents output.old) self.old
+            → BlamesWriter W.fails result }
     {
         let mut rest = self.pass_over(piece);
         'units: while !rest.is_empty() {
@@ -196,7 +199,7 @@ fn also(damaged: Option<DamagedUnits>, damage: Damage) -> DamagedUnits
 /// end cuts off it is told that it is `Truncated`, unless it is damaged before. `SectionTooLong` where the section goes
 /// past the limit, `Read` where the reader fails, `NoMemory` where a growth of `Reader::feed` is refused; else the first
 /// fault of the visitor.
-pub fn read_units_around<R: Source, W: Write, V: AroundDamage<W>>(
+pub fn read_units_around<R: Source, W: Destination, V: AroundDamage<W>>(
     alloc: Global,
     input: &mut R,
     output: &mut W,
@@ -211,13 +214,16 @@ pub fn read_units_around<R: Source, W: Write, V: AroundDamage<W>>(
         (W.contents output.old) (W.contents output.new) result) }
     ensures blames { Blames R.follows R.fails input.old input.new
         (NeverBlames V.story visitor.old (W.contents output.old) × (result ≡ Err RunFault.Read)) }
+    ensures blames_writer { V.story.tells visitor.old visitor.old (W.contents output.old) (W.contents output.old) []
+        → Appends (W.contents output.old) (W.contents output.old) (V.story.text visitor.old [])
+        → BlamesWriter W.fails result }
 {
     let mut units = UnitsAround::new(alloc, options.dialect);
     read_pieces_around(&mut units, input, output, options, visitor)
 }
 
 /// Reads the units piece by piece, of which nothing was read yet.
-fn read_pieces_around<R: Source, W: Write, V: AroundDamage<W>>(
+fn read_pieces_around<R: Source, W: Destination, V: AroundDamage<W>>(
     units: &mut UnitsAround,
     input: &mut R,
     output: &mut W,
@@ -233,6 +239,9 @@ fn read_pieces_around<R: Source, W: Write, V: AroundDamage<W>>(
         (W.contents output.old) (W.contents output.new) result) }
     ensures blames { Blames R.follows R.fails input.old input.new
         (NeverBlames V.story visitor.old (W.contents output.old) × (result ≡ Err RunFault.Read)) }
+    ensures blames_writer { V.story.tells visitor.old visitor.old (W.contents output.old) (W.contents output.old) []
+        → Appends (W.contents output.old) (W.contents output.old) (V.story.text visitor.old [])
+        → BlamesWriter W.fails result }
 {
     let mut buffer = Input::new();
     let mut left = options.limit;
@@ -256,7 +265,7 @@ fn read_pieces_around<R: Source, W: Write, V: AroundDamage<W>>(
 }
 
 /// What a section comes to whose bytes are over. The visitor is told of a unit that they cut off.
-pub(crate) fn finish<W: Write, V: AroundDamage<W>>(
+pub(crate) fn finish<W: Destination, V: AroundDamage<W>>(
     units: &mut UnitsAround,
     visitor: &mut V,
 ) -> Survey

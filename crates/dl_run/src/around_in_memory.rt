@@ -9,10 +9,10 @@ ghost use Rattle.dl_run.specs.Telling.{PassesOnAround};
 use crate::around::{AroundDamage, Damage, Survey, UnitsAround, finish};
 use crate::in_memory::{Telling, UnitSink};
 use dl_head::Dialect;
+use dl_output::Destination;
 use dl_rows::Flow;
 use std::alloc::{AllocError, Global};
 use std::io;
-use std::io::Write;
 
 /// What hears the rows of the units of a section, each unit once it is whole, and where a unit is damaged.
 pub trait UnitSinkAround: UnitSink {
@@ -26,7 +26,7 @@ pub trait UnitSinkAround: UnitSink {
             → Self.story.hears first self.new units [] };
 }
 
-impl<W: Write, U: UnitSinkAround> AroundDamage<W> for Telling<'_, U> {
+impl<W: Destination, U: UnitSinkAround> AroundDamage<W> for Telling<'_, U> {
     fn damaged(&mut self, damage: Damage) {
         self.sink.damaged(damage);
     }

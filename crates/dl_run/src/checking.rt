@@ -1,6 +1,7 @@
 //! The command that counts units, sequences and rows.
 
 ghost use Rattle.dl_input.specs.Failing.{Blames};
+ghost use Rattle.dl_run.specs.Blaming.{BlamesWriter};
 ghost use Rattle.std.specs.Prelude.{◌≡◌, ◌≤◌, [], ℕ, List};
 ghost use Rattle.std.specs.Io.KnownBytes.{Consumes};
 ghost use Rattle.dl_run.specs.AroundCommands.{ChecksAround};
@@ -13,10 +14,10 @@ use crate::reporting::{DamageSink, NoneTold};
 use crate::section::{Visitor, read_units};
 use dl_head::Header;
 use dl_input::Source;
+use dl_output::Destination;
 use dl_print::{Printer, Summary};
 use dl_rows::{Flow, Row};
 use std::alloc::Global;
-use std::io::Write;
 
 /// Prints nothing, and tells of damaged units.
 #[derive(Drop)]
@@ -24,7 +25,7 @@ struct Checker<'a, D> {
     damages: &'a mut D,
 }
 
-impl<W: Write, D: DamageSink> Visitor<W> for Checker<'_, D> {
+impl<W: Destination, D: DamageSink> Visitor<W> for Checker<'_, D> {
     ghost use Rattle.dl_run.specs.Checking.{check_story};
 
     ghost story = { check_story D.hears };
@@ -55,7 +56,7 @@ impl<W: Write, D: DamageSink> Visitor<W> for Checker<'_, D> {
     }
 }
 
-impl<W: Write, D: DamageSink> AroundDamage<W> for Checker<'_, D> {
+impl<W: Destination, D: DamageSink> AroundDamage<W> for Checker<'_, D> {
     fn damaged(&mut self, damage: Damage) {
         self.damages.damaged(damage);
     }
@@ -65,7 +66,7 @@ impl<W: Write, D: DamageSink> AroundDamage<W> for Checker<'_, D> {
 ///
 /// Before the input's end nothing is printed. The faults are those of `RunFault`; each growth of
 /// memory is one of `Reader::feed`.
-pub fn check<R: Source, W: Write>(
+pub fn check<R: Source, W: Destination>(
     alloc: Global,
     input: &mut R,
     output: &mut W,
@@ -77,6 +78,7 @@ pub fn check<R: Source, W: Write>(
         (R.remaining input.new) (W.contents output.old) (W.contents output.new) result }
     ensures blames { Blames R.follows R.fails input.old input.new
         (result ≡ Err RunFault.Read) }
+    ensures blames_writer { BlamesWriter W.fails result }
 {
     let mut checker = Checker {
         damages: &mut NoneTold,
@@ -93,7 +95,7 @@ pub fn check<R: Source, W: Write>(
 ///
 /// Before the input's end nothing is printed. The answer tells how many units are damaged; the faults are those of
 /// `read_units_around`, and failed writes.
-pub fn check_around<R: Source, W: Write, D: DamageSink>(
+pub fn check_around<R: Source, W: Destination, D: DamageSink>(
     alloc: Global,
     input: &mut R,
     output: &mut W,
@@ -107,6 +109,7 @@ pub fn check_around<R: Source, W: Write, D: DamageSink>(
         result) }
     ensures blames { Blames R.follows R.fails input.old input.new
         ((D.hears damages.old damages.old []) × (result ≡ Err RunFault.Read)) }
+    ensures blames_writer { D.hears damages.old damages.old [] → BlamesWriter W.fails result }
 {
     let mut checker = Checker { damages };
     let survey = read_units_around(alloc, input, output, options, &mut checker)?;

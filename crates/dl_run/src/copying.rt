@@ -2,13 +2,14 @@
 
 ghost use Rattle.dl_input.specs.Failing.{Blames};
 ghost use Rattle.std.specs.Prelude.{◌≡◌, ◌≤◌, ◌++◌, ℕ, List, [], None, IfOk, OnErr};
+ghost use Rattle.dl_run.specs.Blaming.{BlamesWriter};
 ghost use Rattle.std.specs.Io.KnownBytes.{Consumes};
 ghost use Rattle.dl_rows.specs.declared.row.Row.{Row};
 ghost use Rattle.dl_emit.specs.Grown.{IsGrown};
 ghost use Rattle.dl_emit.specs.WrittenUnit.{program_len, refusal, unit_of};
 ghost use Rattle.dl_head.specs.Dialect.{version_5};
 ghost use Rattle.dl_head.specs.Written.{header_bytes};
-ghost use Rattle.dl_print.specs.Output.{Prints};
+ghost use Rattle.dl_print.specs.Output.{BlamesWriter as PrintBlames, Prints};
 ghost use Rattle.dl_dirs.specs.Compilation.{directory_by};
 ghost use Rattle.dl_run.specs.Commands.{Copies, CopiesTo5};
 ghost use Rattle.dl_run.specs.Copying.{made_by, RenewsTables};
@@ -23,6 +24,7 @@ use dl_head::{Dialect, Header};
 use dl_input::Source;
 use dl_memory::{Memory, NoMemory};
 use dl_num::Order;
+use dl_output::Destination;
 use dl_print::{Printer, Summary, WriteFault};
 use dl_rows::{Flow, Row};
 use std::alloc::{AllocError, Global};
@@ -57,6 +59,12 @@ impl<M: Memory> Write for HeldHeader<'_, M> {
 
     fn flush(&mut self) -> io::Result<()> {
         Ok(())
+    }
+}
+
+impl<M: Memory> Destination for HeldHeader<'_, M> {
+    fn write_next(&mut self, bytes: &[u8]) -> io::Result<usize> {
+        self.write(bytes)
     }
 }
 
@@ -110,7 +118,7 @@ struct Copier<'a, 'm, M> {
     header: HeldHeader<'m, M>,
 }
 
-impl<W: Write, M: Memory> Visitor<W> for Copier<'_, '_, M> {
+impl<W: Destination, M: Memory> Visitor<W> for Copier<'_, '_, M> {
     ghost use Rattle.dl_memory.specs.Refusals.{WasRefused};
     ghost use Rattle.dl_run.specs.Copying.{copy_story};
 
@@ -177,7 +185,7 @@ impl<'a, 'm, M: Memory> Copier<'a, 'm, M> {
     }
 
     /// Writes the current unit under this header.
-    fn write<W: Write>(&mut self, output: &mut W, header: &Header) -> Result<(), RunFault>
+    fn write<W: Destination>(&mut self, output: &mut W, header: &Header) -> Result<(), RunFault>
         ensures printed { (rows : List Row)
             → IsGrown self.old.program self.old.program.order header.now.params rows
             → PrintsPart (W.contents output.old) (W.contents output.new) self.old.printer self.new.printer
@@ -186,6 +194,7 @@ impl<'a, 'm, M: Memory> Copier<'a, 'm, M> {
         ensures unit { self.new.unit ≡ self.old.unit }
         ensures becomes { self.new.becomes ≡ self.old.becomes }
         ensures memory { self.new.memory ≡ self.old.memory }
+        ensures blames_writer { BlamesWriter W.fails result }
     {
         self.write_header(output, header)?;
         let first = self.program.first_bytes();
@@ -195,7 +204,11 @@ impl<'a, 'm, M: Memory> Copier<'a, 'm, M> {
 
     /// Prints what the current unit has before its program, once all of it is in memory; where it is long, or memory is
     /// refused for it, it is written on the output itself.
-    fn write_header<W: Write>(&mut self, output: &mut W, header: &Header) -> Result<(), RunFault>
+    fn write_header<W: Destination>(
+        &mut self,
+        output: &mut W,
+        header: &Header,
+    ) -> Result<(), RunFault>
         ensures printed { (rows : List Row)
             → IsGrown self.old.program self.old.program.order header.now.params rows
             → PrintsPart (W.contents output.old) (W.contents output.new) self.old.printer self.new.printer
@@ -205,6 +218,7 @@ impl<'a, 'm, M: Memory> Copier<'a, 'm, M> {
         ensures unit { self.new.unit ≡ self.old.unit }
         ensures becomes { self.new.becomes ≡ self.old.becomes }
         ensures memory { self.new.memory ≡ self.old.memory }
+        ensures blames_writer { BlamesWriter W.fails result }
     {
         self.header.bytes.clear();
         match self.program.write_header(&mut self.header, header) {
@@ -219,7 +233,11 @@ impl<'a, 'm, M: Memory> Copier<'a, 'm, M> {
 
     /// Writes what the current unit has before its program on the output itself, after all that is held. Where the
     /// bytes that are out could not be counted, none of it is written.
-    fn pass_header<W: Write>(&mut self, output: &mut W, header: &Header) -> Result<(), RunFault>
+    fn pass_header<W: Destination>(
+        &mut self,
+        output: &mut W,
+        header: &Header,
+    ) -> Result<(), RunFault>
         ensures printed { (rows : List Row)
             → IsGrown self.old.program self.old.program.order header.now.params rows → refusal header.now rows ≡ None
             → PrintsPart (W.contents output.old) (W.contents output.new) self.old.printer self.new.printer
@@ -229,6 +247,7 @@ impl<'a, 'm, M: Memory> Copier<'a, 'm, M> {
         ensures unit { self.new.unit ≡ self.old.unit }
         ensures becomes { self.new.becomes ≡ self.old.becomes }
         ensures memory { self.new.memory ≡ self.old.memory }
+        ensures blames_writer { BlamesWriter W.fails result }
     {
         self.printer.flush(output)?;
         let out = self.printer.out();
@@ -252,14 +271,15 @@ impl<'a, 'm, M: Memory> Copier<'a, 'm, M> {
 }
 
 /// Prints the two parts of a program.
-fn print_parts<W: Write>(
+fn print_parts<W: Destination>(
     printer: &mut Printer,
     output: &mut W,
     first: &[u8],
     last: &[u8],
 ) -> Result<(), WriteFault>
-    ensures { Prints (W.contents output.old) (W.contents output.new) printer.old printer.new
+    ensures printed { Prints (W.contents output.old) (W.contents output.new) printer.old printer.new
         (first.now ++ last.now) result }
+    ensures blames_writer { PrintBlames W.fails result }
 {
     printer.put(output, first)?;
     printer.put(output, last)
@@ -271,7 +291,7 @@ fn print_parts<W: Write>(
 /// What comes before a fault is written. The faults are those of `RunFault`. What is written for the rows of a unit is
 /// held in memory until the unit ends: where that is refused, or `Reader::feed` wants memory, nothing of the unit is
 /// written. Up to 1 MiB of what stands before it is held too, where there is memory for that.
-pub fn copy<M: Memory, R: Source, W: Write>(
+pub fn copy<M: Memory, R: Source, W: Destination>(
     memory: &M,
     input: &mut R,
     output: &mut W,
@@ -283,6 +303,7 @@ pub fn copy<M: Memory, R: Source, W: Write>(
         (W.contents output.old) (W.contents output.new) result }
     ensures blames { Blames R.follows R.fails input.old input.new
         (result ≡ Err RunFault.Read) }
+    ensures blames_writer { BlamesWriter W.fails result }
 {
     let mut copier = Copier::new(memory, options.dialect.order, Becomes::Itself);
     let own = Options {
@@ -298,7 +319,7 @@ pub fn copy<M: Memory, R: Source, W: Write>(
 /// The header of a unit is made one of version 5 by `into_version_5`, with the compilation directory of the unit, by its
 /// offset, and then has opcode_base 13; all else is as in `copy`. Memory grows for the tables of that header too, before
 /// the unit is written.
-pub fn copy_to_5<M: Memory, R: Source, W: Write>(
+pub fn copy_to_5<M: Memory, R: Source, W: Destination>(
     memory: &M,
     input: &mut R,
     output: &mut W,
@@ -311,6 +332,7 @@ pub fn copy_to_5<M: Memory, R: Source, W: Write>(
         (W.contents output.old) (W.contents output.new) result }
     ensures blames { Blames R.follows R.fails input.old input.new
         (result ≡ Err RunFault.Read) }
+    ensures blames_writer { BlamesWriter W.fails result }
 {
     let becomes = Becomes::Version5(directories);
     let mut copier = Copier::new(memory, options.dialect.order, becomes);

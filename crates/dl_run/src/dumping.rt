@@ -1,6 +1,7 @@
 //! The command that prints a section.
 
 ghost use Rattle.dl_input.specs.Failing.{Blames};
+ghost use Rattle.dl_run.specs.Blaming.{BlamesWriter};
 ghost use Rattle.std.specs.Prelude.{◌≡◌, ◌≤◌, [], ℕ, List};
 ghost use Rattle.std.specs.Io.KnownBytes.{Consumes};
 ghost use Rattle.dl_run.specs.AroundCommands.{DumpsAround};
@@ -13,10 +14,10 @@ use crate::reporting::{DamageSink, NoneTold};
 use crate::section::{Visitor, read_units};
 use dl_head::Header;
 use dl_input::Source;
+use dl_output::Destination;
 use dl_print::{Printer, StringSections, Summary};
 use dl_rows::{Flow, Row};
 use std::alloc::Global;
-use std::io::Write;
 
 /// Prints the events of units, and tells of damaged ones.
 #[derive(Drop)]
@@ -26,7 +27,7 @@ struct Dumper<'d, D> {
     damages: &'d mut D,
 }
 
-impl<W: Write, D: DamageSink> Visitor<W> for Dumper<'_, D> {
+impl<W: Destination, D: DamageSink> Visitor<W> for Dumper<'_, D> {
     ghost use Rattle.dl_run.specs.Dumping.{dump_story};
 
     ghost story = { dump_story D.hears };
@@ -57,7 +58,7 @@ impl<W: Write, D: DamageSink> Visitor<W> for Dumper<'_, D> {
     }
 }
 
-impl<W: Write, D: DamageSink> AroundDamage<W> for Dumper<'_, D> {
+impl<W: Destination, D: DamageSink> AroundDamage<W> for Dumper<'_, D> {
     fn damaged(&mut self, damage: Damage) {
         self.damages.damaged(damage);
     }
@@ -67,7 +68,7 @@ impl<W: Write, D: DamageSink> AroundDamage<W> for Dumper<'_, D> {
 ///
 /// What comes before a fault is printed. The faults are those of `RunFault`; each growth of memory is
 /// one of `Reader::feed`.
-pub fn dump<R: Source, W: Write>(
+pub fn dump<R: Source, W: Destination>(
     alloc: Global,
     input: &mut R,
     output: &mut W,
@@ -79,6 +80,7 @@ pub fn dump<R: Source, W: Write>(
         (R.remaining input.new) (W.contents output.old) (W.contents output.new) result }
     ensures blames { Blames R.follows R.fails input.old input.new
         (result ≡ Err RunFault.Read) }
+    ensures blames_writer { BlamesWriter W.fails result }
 {
     let strings = StringSections::new(options.debug_line_str, options.debug_str);
     let mut dumper = Dumper {
@@ -94,7 +96,7 @@ pub fn dump<R: Source, W: Write>(
 ///
 /// The answer tells what the units come to, and how many are damaged; the faults are those of `read_units_around`, and
 /// failed writes.
-pub fn dump_around<R: Source, W: Write, D: DamageSink>(
+pub fn dump_around<R: Source, W: Destination, D: DamageSink>(
     alloc: Global,
     input: &mut R,
     output: &mut W,
@@ -108,6 +110,7 @@ pub fn dump_around<R: Source, W: Write, D: DamageSink>(
         (D.hears damages.old damages.new) result) }
     ensures blames { Blames R.follows R.fails input.old input.new
         ((D.hears damages.old damages.old []) × (result ≡ Err RunFault.Read)) }
+    ensures blames_writer { D.hears damages.old damages.old [] → BlamesWriter W.fails result }
 {
     let strings = StringSections::new(options.debug_line_str, options.debug_str);
     let mut printer = Printer::new();

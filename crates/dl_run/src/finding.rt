@@ -1,6 +1,7 @@
 //! The command that looks an address up.
 
 ghost use Rattle.dl_input.specs.Failing.{Blames};
+ghost use Rattle.dl_run.specs.Blaming.{BlamesWriter};
 ghost use Rattle.std.specs.Prelude.{◌≡◌, ◌≤◌, ℕ, List};
 ghost use Rattle.std.specs.Io.KnownBytes.{Consumes};
 ghost use Rattle.dl_run.specs.Commands.{Finds, strings_in};
@@ -11,10 +12,10 @@ use crate::section::{Visitor, read_units};
 use dl_head::Header;
 use dl_input::Source;
 use dl_look::{Finder, Place};
+use dl_output::Destination;
 use dl_print::{Printer, StringSections, Summary};
 use dl_rows::{Flow, Row};
 use std::alloc::Global;
-use std::io::Write;
 
 /// Looks a place up in the rows of each unit, and prints the first answer.
 #[derive(Drop)]
@@ -27,7 +28,7 @@ struct Seeker<'a> {
     found: bool,
 }
 
-impl<W: Write> Visitor<W> for Seeker<'_> {
+impl<W: Destination> Visitor<W> for Seeker<'_> {
     ghost use Rattle.dl_run.specs.Finding.{find_story};
 
     ghost story = { find_story };
@@ -74,7 +75,7 @@ impl<W: Write> Visitor<W> for Seeker<'_> {
 /// The counts are those of the units up to this one. A fault in one of these units, or before them, is
 /// answered with nothing printed; where no unit answers, and none is damaged, it is `NotFound`. Each
 /// growth of memory is one of `Reader::feed`.
-pub fn find<R: Source, W: Write>(
+pub fn find<R: Source, W: Destination>(
     alloc: Global,
     input: &mut R,
     output: &mut W,
@@ -87,6 +88,7 @@ pub fn find<R: Source, W: Write>(
         (R.remaining input.new) (W.contents output.old) (W.contents output.new) result }
     ensures blames { Blames R.follows R.fails input.old input.new
         (result ≡ Err RunFault.Read) }
+    ensures blames_writer { BlamesWriter W.fails result }
 {
     let strings = StringSections::new(options.debug_line_str, options.debug_str);
     let mut seeker = Seeker {

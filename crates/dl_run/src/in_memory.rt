@@ -10,11 +10,11 @@ ghost use Rattle.dl_run.specs.UnitsRead.{Before, UnitsAre};
 use crate::fault::RunFault;
 use crate::section::{SectionUnits, Visitor, work_through};
 use dl_head::{Dialect, FaultKind, Header};
+use dl_output::Destination;
 use dl_print::Summary;
 use dl_rows::{Flow, Row};
 use std::alloc::Global;
 use std::io;
-use std::io::Write;
 
 /// A unit that was read whole. Section 6.2.4.
 #[derive(Drop)]
@@ -87,7 +87,7 @@ pub(crate) struct Telling<'a, U> {
     pub version: Option<u16>,
 }
 
-impl<W: Write, U: UnitSink> Visitor<W> for Telling<'_, U> {
+impl<W: Destination, U: UnitSink> Visitor<W> for Telling<'_, U> {
     ghost use Rattle.dl_run.specs.Telling.{telling_story};
 
     ghost story = { telling_story U.story };

@@ -11,10 +11,10 @@ use crate::options::{Options, SECTION_LIMIT};
 use crate::section::{Visitor, read_units};
 use dl_head::Header;
 use dl_input::Source;
+use dl_output::Destination;
 use dl_rows::{Flow, Row};
 use std::alloc::Global;
 use std::io;
-use std::io::Write;
 
 /// Units of other versions than 5, of which there is one or more. Section 6.2.4.
 #[derive(Clone, Copy, Debug, PartialEq, Eq)]
@@ -75,7 +75,7 @@ impl OtherVersions {
     }
 }
 
-impl<W: Write> Visitor<W> for OtherVersions {
+impl<W: Destination> Visitor<W> for OtherVersions {
     ghost use Rattle.dl_run.specs.PassingOver.{version_story};
 
     ghost story = { version_story };

@@ -1,7 +1,7 @@
 //! The units of a section, read one after the other. Section 6.2.4.
 
 ghost use Rattle.dl_input.specs.Failing.{Blames};
-ghost use Rattle.dl_run.specs.Blaming.{NeverBlames};
+ghost use Rattle.dl_run.specs.Blaming.{BlamesWriter, NeverBlames};
 ghost use Rattle.std.specs.Prelude.{◌≡◌, ◌≤◌, ◌<◌, ◌+◌, ◌^◌, ◌++◌, ◌∷◌, ◌⊎◌, [], ℕ, List, Option, length, take, IfOk};
 ghost use Rattle.std.specs.Prelude.{OnOk};
 ghost use Rattle.dl_num.specs.declared.fixed.Order.{Order};
@@ -26,20 +26,21 @@ use crate::fault::RunFault;
 use crate::options::{Options, SECTION_LIMIT};
 use dl_head::{Dialect, Fault, Header};
 use dl_input::{Input, Source};
+use dl_output::Destination;
 use dl_print::Summary;
 use dl_rows::{Event, Fed, Flow, Reader, Row, RowSink};
 use std::alloc::Global;
-use std::io::Write;
 use std::mem;
 
 /// What a command does at the events of the units of a section, which `read_units` tells it in the
 /// order of their bytes. Sections 6.2.2 to 6.2.5.
 ///
 /// An `Err` stops the reading, and is what `read_units` answers.
-pub trait Visitor<W: Write> {
+pub trait Visitor<W: Destination> {
     ghost use Rattle.std.specs.Prelude.{◌∷◌, []};
     ghost use Rattle.dl_rows.specs.declared.sink.Flow.{Flow};
     ghost use Rattle.dl_run.specs.Section.{of_header, of_version, of_row, of_open, of_end};
+    ghost use Rattle.dl_run.specs.Blaming.{BlamesWriter};
     ghost use Rattle.dl_run.specs.Visiting.{Story, Hears, HearsEnd, Settles};
 
     /// What is said of the visitor and of what it prints.
@@ -47,34 +48,40 @@ pub trait Visitor<W: Write> {
 
     /// A unit at this offset of the section has this header.
     fn header(&mut self, output: &mut W, offset: u64, header: &Header) -> Result<(), RunFault>
-        ensures { Hears story self.old self.new (W.contents output.old) (W.contents output.new)
-            (of_header offset header.now ∷ []) result };
+        ensures heard { Hears story self.old self.new (W.contents output.old) (W.contents output.new)
+            (of_header offset header.now ∷ []) result }
+        ensures blames_writer { BlamesWriter W.fails result };
 
     /// A unit at this offset of the section is of this version, which isn't 5.
     fn foreign(&mut self, output: &mut W, offset: u64, version: u16) -> Result<(), RunFault>
-        ensures { Hears story self.old self.new (W.contents output.old) (W.contents output.new)
-            (of_version offset version ∷ []) result };
+        ensures heard { Hears story self.old self.new (W.contents output.old) (W.contents output.new)
+            (of_version offset version ∷ []) result }
+        ensures blames_writer { BlamesWriter W.fails result };
 
     /// The current unit has this row.
     fn row(&mut self, output: &mut W, row: &Row) -> Result<(), RunFault>
-        ensures { Hears story self.old self.new (W.contents output.old) (W.contents output.new)
-            (of_row row.now ∷ []) result };
+        ensures heard { Hears story self.old self.new (W.contents output.old) (W.contents output.new)
+            (of_row row.now ∷ []) result }
+        ensures blames_writer { BlamesWriter W.fails result };
 
     /// The current unit is whole, and its last row isn't an end row.
     fn unterminated(&mut self, output: &mut W) -> Result<(), RunFault>
-        ensures { Hears story self.old self.new (W.contents output.old) (W.contents output.new)
-            (of_open ∷ []) result };
+        ensures heard { Hears story self.old self.new (W.contents output.old) (W.contents output.new)
+            (of_open ∷ []) result }
+        ensures blames_writer { BlamesWriter W.fails result };
 
     /// The current unit is whole; its header is that of `header`. Of another version than 5 it has no header. It
     /// answers whether the next unit is read.
     fn end(&mut self, output: &mut W, header: Option<Header>) -> Result<Flow, RunFault>
-        ensures { HearsEnd story self.old self.new (W.contents output.old) (W.contents output.new)
-            header (of_end header ∷ []) result };
+        ensures heard { HearsEnd story self.old self.new (W.contents output.old) (W.contents output.new)
+            header (of_end header ∷ []) result }
+        ensures blames_writer { BlamesWriter W.fails result };
 
     /// All that was read is worked through: what was printed of it goes out.
     fn flush(&mut self, output: &mut W) -> Result<(), RunFault>
-        ensures { (flow : Flow) → Settles story self.old self.new
-            (W.contents output.old) (W.contents output.new) flow result };
+        ensures settled { (flow : Flow) → Settles story self.old self.new
+            (W.contents output.old) (W.contents output.new) flow result }
+        ensures blames_writer { BlamesWriter W.fails result };
 }
 
 /// Tells a visitor the rows of a unit, and counts them.
@@ -89,10 +96,10 @@ struct Told<'a, W, V> {
     failed: Option<RunFault>,
 }
 
-impl<W: Write, V: Visitor<W>> RowSink for Told<'_, W, V> {
+impl<W: Destination, V: Visitor<W>> RowSink for Told<'_, W, V> {
     ghost use Rattle.dl_run.specs.Told.{told_story};
 
-    ghost story = { told_story V.story W.contents };
+    ghost story = { told_story V.story W.fails W.contents };
 
     #[inline(always)]
     fn row(&mut self, row: &Row) -> Flow {
@@ -147,18 +154,23 @@ impl SectionUnits {
 
     /// Works through a piece of the section, and through the end of a unit that is whole with it, up
     /// to where the visitor wants nothing more.
-    fn feed<W: Write, V: Visitor<W>>(
+    fn feed<W: Destination, V: Visitor<W>>(
         &mut self,
         output: &mut W,
         visitor: &mut V,
         piece: &[u8],
     ) -> Result<Flow, RunFault>
-        ensures { (dialect : Dialect) (past : Before dialect) (t : List ℕ) (units : List (List ℕ)) (b : List ℕ)
+        ensures fed { (dialect : Dialect) (past : Before dialect) (t : List ℕ) (units : List (List ℕ)) (b : List ℕ)
             (first : V) (start : Option (List ℕ)) → UnitsAre past self.old t units b
             → length past.bytes + (length t + length piece.now) < 2 ^ 64
             → V.story.tells first visitor.old start (W.contents output.old) (visits_since past units b)
             → UnitsFed V.story past (t ++ piece.now) first visitor.new start (W.contents output.new)
             self.new result }
+        ensures blames_writer { (dialect : Dialect) (past : Before dialect) (t : List ℕ) (units : List (List ℕ)) (b : List ℕ)
+            (first : V) (start : Option (List ℕ)) → UnitsAre past self.old t units b
+            → length past.bytes + (length t + length piece.now) < 2 ^ 64
+            → V.story.tells first visitor.old start (W.contents output.old) (visits_since past units b)
+            → BlamesWriter W.fails result }
     {
         let mut rest = piece;
         'events: loop {
@@ -182,7 +194,7 @@ impl SectionUnits {
 
     /// Feeds the reader, and tells the visitor the rows that come before its answer, and that of its
     /// answer. `Err` where the visitor stopped.
-    fn feed_rows<W: Write, V: Visitor<W>>(
+    fn feed_rows<W: Destination, V: Visitor<W>>(
         &mut self,
         output: &mut W,
         visitor: &mut V,
@@ -194,6 +206,7 @@ impl SectionUnits {
         ensures told { (b : List ℕ) → StandsFor self.old.reader b
             → FeedsTold V.story b piece.now self.old self.new visitor.old visitor.new (W.contents output.old)
             (W.contents output.new) result }
+        ensures blames_writer { (b : List ℕ) → StandsFor self.old.reader b → BlamesWriter W.fails result }
     {
         let mut told = Told {
             output,
@@ -220,7 +233,7 @@ impl SectionUnits {
 
     /// Tells the visitor what came of the current unit, but for a row.
     #[inline]
-    fn tell<W: Write, V: Visitor<W>>(
+    fn tell<W: Destination, V: Visitor<W>>(
         &mut self,
         output: &mut W,
         visitor: &mut V,
@@ -230,6 +243,7 @@ impl SectionUnits {
         ensures heard { (b : List ℕ) → row_told event ≡ [] → StandsFor self.old.reader b
             → Hears V.story visitor.old visitor.new (W.contents output.old) (W.contents output.new)
             (event_visits self.old.offset (header_of self.old.reader.dialect b) event) result }
+        ensures blames_writer { BlamesWriter W.fails result }
     {
         match event {
             Event::Header => match self.reader.header() {
@@ -245,7 +259,7 @@ impl SectionUnits {
     }
 
     /// Tells the visitor that the current unit is whole, and goes on after it.
-    fn end<W: Write, V: Visitor<W>>(
+    fn end<W: Destination, V: Visitor<W>>(
         &mut self,
         output: &mut W,
         visitor: &mut V,
@@ -257,20 +271,22 @@ impl SectionUnits {
         ensures heard { (b : List ℕ) → StandsFor self.old.reader b
             → HearsEnd V.story visitor.old visitor.new (W.contents output.old) (W.contents output.new)
             (header_of self.old.reader.dialect b) (end_visits self.old.reader.dialect b) result }
+        ensures blames_writer { BlamesWriter W.fails result }
     {
         self.close(output, visitor)?;
         visitor.end(output, self.next_unit())
     }
 
     /// Tells the visitor where the last row of the current unit isn't an end row.
-    fn close<W: Write, V: Visitor<W>>(
+    fn close<W: Destination, V: Visitor<W>>(
         &self,
         output: &mut W,
         visitor: &mut V,
     ) -> Result<(), RunFault>
-        ensures { (b : List ℕ) → StandsFor self.now.reader b
+        ensures heard { (b : List ℕ) → StandsFor self.now.reader b
             → Hears V.story visitor.old visitor.new (W.contents output.old) (W.contents output.new)
             (open_visit (ends_open (unit_rows self.now.reader.dialect b))) result }
+        ensures blames_writer { BlamesWriter W.fails result }
     {
         if self.reader.in_sequence() {
             visitor.unterminated(output)
@@ -362,7 +378,7 @@ impl SectionUnits {
 /// it the visitor was told of all that the bytes before the fault give. `SectionTooLong` where the
 /// section goes past the limit, `Read` where the reader fails, `NoMemory` where a growth of
 /// `Reader::feed` is refused. The counts are those of the units that were read whole.
-pub fn read_units<R: Source, W: Write, V: Visitor<W>>(
+pub fn read_units<R: Source, W: Destination, V: Visitor<W>>(
     alloc: Global,
     input: &mut R,
     output: &mut W,
@@ -377,13 +393,16 @@ pub fn read_units<R: Source, W: Write, V: Visitor<W>>(
         (W.contents output.old) (W.contents output.new) result) }
     ensures blames { Blames R.follows R.fails input.old input.new
         (NeverBlames V.story visitor.old (W.contents output.old) × (result ≡ Err RunFault.Read)) }
+    ensures blames_writer { V.story.tells visitor.old visitor.old (W.contents output.old) (W.contents output.old) []
+        → Appends (W.contents output.old) (W.contents output.old) (V.story.text visitor.old [])
+        → BlamesWriter W.fails result }
 {
     let mut units = SectionUnits::new(alloc, options.dialect);
     read_pieces(&mut units, input, output, options, visitor)
 }
 
 /// Reads the units piece by piece, of which nothing was read yet.
-fn read_pieces<R: Source, W: Write, V: Visitor<W>>(
+fn read_pieces<R: Source, W: Destination, V: Visitor<W>>(
     units: &mut SectionUnits,
     input: &mut R,
     output: &mut W,
@@ -400,6 +419,9 @@ fn read_pieces<R: Source, W: Write, V: Visitor<W>>(
         (W.contents output.old) (W.contents output.new) result) }
     ensures blames { Blames R.follows R.fails input.old input.new
         (NeverBlames V.story visitor.old (W.contents output.old) × (result ≡ Err RunFault.Read)) }
+    ensures blames_writer { V.story.tells visitor.old visitor.old (W.contents output.old) (W.contents output.old) []
+        → Appends (W.contents output.old) (W.contents output.old) (V.story.text visitor.old [])
+        → BlamesWriter W.fails result }
 {
     let mut buffer = Input::new();
     let mut left = options.limit;
@@ -423,17 +445,22 @@ fn read_pieces<R: Source, W: Write, V: Visitor<W>>(
 }
 
 /// Works through a piece and settles what came of it, also where the piece is refused.
-pub(crate) fn work_through<W: Write, V: Visitor<W>>(
+pub(crate) fn work_through<W: Destination, V: Visitor<W>>(
     units: &mut SectionUnits,
     output: &mut W,
     visitor: &mut V,
     piece: &[u8],
 ) -> Result<Flow, RunFault>
-    ensures { (dialect : Dialect) (past : Before dialect) (t : List ℕ) (done : List (List ℕ)) (b : List ℕ) (first : V)
+    ensures worked { (dialect : Dialect) (past : Before dialect) (t : List ℕ) (done : List (List ℕ)) (b : List ℕ) (first : V)
         (start : Option (List ℕ)) → UnitsAre past units.old t done b
         → length past.bytes + (length t + length piece.now) < 2 ^ 64
         → V.story.tells first visitor.old start (W.contents output.old) (visits_since past done b)
         → Worked V.story past (t ++ piece.now) first visitor.new start (W.contents output.new) units.new result }
+    ensures blames_writer { (dialect : Dialect) (past : Before dialect) (t : List ℕ) (done : List (List ℕ)) (b : List ℕ)
+        (first : V) (start : Option (List ℕ)) → UnitsAre past units.old t done b
+        → length past.bytes + (length t + length piece.now) < 2 ^ 64
+        → V.story.tells first visitor.old start (W.contents output.old) (visits_since past done b)
+        → BlamesWriter W.fails result }
 {
     let answer = units.feed(output, visitor, piece);
     if !is_failed_write(&answer) {

@@ -10,6 +10,7 @@ use Rattle.dl_look.specs.declared.place.Place.{Place}
 use Rattle.dl_look.specs.declared.probed.Span.{Span}
 use Rattle.dl_look.specs.Answer.{is_at_most, is_below}
 use Rattle.dl_stretch.specs.declared.run.Run.{Run}
+use Rattle.dl_stretch.specs.Held.{held}
 use Rattle.dl_stretch.specs.Renumbered.{renumbered_run}
 use Rattle.dl_stretch.specs.Runs.{place_at, run_told_at, renumbered}
 use Rattle.dl_stretch.specs.RowRuns.{StartsRise}
@@ -119,7 +120,7 @@ module _ (runs : List Run) (spans : List Span) (w n : ℕ) (parted : AreParted r
 
   -- ---- the current unit ends
 
-  module _ (number : ℕ → ℕ) (small : (file : ℕ) → number file < 2 ^ 63) where
+  module _ (number : ℕ → ℕ) where
     abbrev all : List Run
     all = take w runs ++ map (renumbered_run number) (drop w runs)
 
@@ -131,7 +132,7 @@ module _ (runs : List Run) (spans : List Span) (w n : ℕ) (parted : AreParted r
     ended_sound =
         subst (AreSound all) (take-append-drop n spans)
         (sound_append all (take n spans) (drop n spans) ended_front
-        (sound_moved number small runs w parted.runs_few (drop n spans) unit_sound parted.after))
+        (sound_moved number runs w parted.runs_few (drop n spans) unit_sound parted.after))
 
     pub parted_ended : (m k : ℕ) → m ≡ length all → k ≡ length spans → AreParted all spans m k
     parted_ended m k at count = record {
@@ -144,12 +145,13 @@ module _ (runs : List Run) (spans : List Span) (w n : ℕ) (parted : AreParted r
     }
 
     pub answer_ended : (k a : ℕ) → k ≡ length spans → a < 2 ^ 64 → answer_of all (take k spans) a
-        ≡ option_or (answer_of runs (take n spans) a) (option_map (renumbered number) (answer_of runs (drop n spans) a))
+        ≡ option_or (answer_of runs (take n spans) a)
+        (option_map (renumbered (λ file. held (number file))) (answer_of runs (drop n spans) a))
     answer_ended k a count lt =
         ap (λ l. answer_of all l a) (take_all k spans (omega (arith, count)) ∙ sym (take-append-drop n spans))
         ∙ answer-append all (take n spans) (drop n spans) a ended_front.full lt
         ∙ ap₂ option_or (front_answers (map (renumbered_run number) (drop w runs)) a)
-        (answer-moved number small runs w parted.runs_few (drop n spans) a parted.after)
+        (answer-moved number runs w parted.runs_few (drop n spans) a parted.after)
 
     pub none_left : (k a : ℕ) → k ≡ length spans → answer_of all (drop k spans) a ≡ None
     none_left k a count = ap (λ l. answer_of all l a) (drop_all k spans (omega (arith, count)))

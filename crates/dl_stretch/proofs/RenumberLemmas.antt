@@ -13,7 +13,7 @@ use Rattle.dl_look.specs.Cuts.{covers_span}
 use Rattle.dl_stretch.specs.declared.told.Told.{Told}
 use Rattle.dl_stretch.specs.declared.run.Run.{Run}
 use Rattle.dl_stretch.specs.Renumbered.{renumbered_run}
-use Rattle.dl_stretch.specs.Held.{told_by}
+use Rattle.dl_stretch.specs.Held.{held, told_by}
 use Rattle.dl_stretch.specs.Runs.{place_at, run_told_at, renumbered}
 use Rattle.dl_stretch.specs.RowRuns.{RunsRise, StartsRise}
 use Rattle.dl_stretch.specs.Spans.{runs_in, answer_of, AreSound}
@@ -38,29 +38,32 @@ run_told-cons x xs a =
       | false ↦ map-or told_by (last_begun run_start xs a) None
     ]
 
-module _ (number : ℕ → ℕ) (small : (file : ℕ) → number file < 2 ^ 63) where
+module _ (number : ℕ → ℕ) where
+  abbrev number_kept : ℕ → ℕ
+  number_kept file = held (number file)
+
   abbrev anew : List Run → List Run
   anew runs = map (renumbered_run number) runs
 
-  told-map : (runs : List Run) (a : ℕ) → run_told_at (anew runs) a ≡ option_map (renumbered number) (run_told_at runs a)
+  told-map : (runs : List Run) (a : ℕ) → run_told_at (anew runs) a ≡ option_map (renumbered number_kept) (run_told_at runs a)
   told-map [] a = refl
   told-map (x ∷ xs) a =
       run_told-cons (renumbered_run number x) (anew xs) a
-      ∙ ap₂ (λ o t. option_or o (if nat_le x.start a then Some t else None)) (told-map xs a) (told_renumbered number small x)
-      ∙ elim (nat_le x.start a) as (λ b. option_or (option_map (renumbered number) (run_told_at xs a)) (if b
-      then Some (renumbered number (told_by x)) else None) ≡ option_map (renumbered number) (option_or (run_told_at xs a) (if b
+      ∙ ap₂ (λ o t. option_or o (if nat_le x.start a then Some t else None)) (told-map xs a) (told_renumbered number x)
+      ∙ elim (nat_le x.start a) as (λ b. option_or (option_map (renumbered number_kept) (run_told_at xs a)) (if b
+      then Some (renumbered number_kept (told_by x)) else None) ≡ option_map (renumbered number_kept) (option_or (run_told_at xs a) (if b
       then Some (told_by x) else None))) [
-        | true ↦ sym (map-or (renumbered number) (run_told_at xs a) (Some (told_by x)))
-        | false ↦ sym (map-or (renumbered number) (run_told_at xs a) None)
+        | true ↦ sym (map-or (renumbered number_kept) (run_told_at xs a) (Some (told_by x)))
+        | false ↦ sym (map-or (renumbered number_kept) (run_told_at xs a) None)
       ]
-      ∙ ap (option_map (renumbered number)) (sym (run_told-cons x xs a))
+      ∙ ap (option_map (renumbered number_kept)) (sym (run_told-cons x xs a))
 
   rise_anew : (runs : List Run) → RunsRise runs → RunsRise (anew runs)
   rise_anew [] r = tt
   rise_anew (x ∷ []) r = tt
   rise_anew (x ∷ y ∷ runs) (less, r) = (less, rise_anew (y ∷ runs) r)
 
-  none-map : (o : Option Told) → is_none (option_map (renumbered number) o) ≡ is_none o
+  none-map : (o : Option Told) → is_none (option_map (renumbered number_kept) o) ≡ is_none o
   none-map None = refl
   none-map (Some t) = refl
 
@@ -80,11 +83,11 @@ module _ (number : ℕ → ℕ) (small : (file : ℕ) → number file < 2 ^ 63) 
         ∙ take-map (renumbered_run number) s.len (drop s.start runs)
 
     told-moved : (s : Span) (a : ℕ) → w ≤ s.start
-        → run_told_at (runs_in all s) a ≡ option_map (renumbered number) (run_told_at (runs_in runs s) a)
+        → run_told_at (runs_in all s) a ≡ option_map (renumbered number_kept) (run_told_at (runs_in runs s) a)
     told-moved s a le = ap (λ l. run_told_at l a) (runs-moved s le) ∙ told-map (runs_in runs s) a
 
     pub answer-moved : (spans : List Span) (a : ℕ) → All (λ (s : Span). w ≤ s.start) spans
-        → answer_of all spans a ≡ option_map (renumbered number) (answer_of runs spans a)
+        → answer_of all spans a ≡ option_map (renumbered number_kept) (answer_of runs spans a)
     answer-moved [] a after = refl
     answer-moved (s ∷ spans) a after =
         answer-cons all s spans a
@@ -92,10 +95,10 @@ module _ (number : ℕ → ℕ) (small : (file : ℕ) → number file < 2 ^ 63) 
         (told-moved s a (All-head (λ (s : Span). w ≤ s.start) s spans after))
         (answer-moved spans a (All-tail (λ (s : Span). w ≤ s.start) s spans after))
         ∙ elim (covers_span (place_at a) s) as (λ b. (if b
-        then option_map (renumbered number) (run_told_at (runs_in runs s) a)
-        else option_map (renumbered number) (answer_of runs spans a)) ≡ option_map (renumbered number) (if b
+        then option_map (renumbered number_kept) (run_told_at (runs_in runs s) a)
+        else option_map (renumbered number_kept) (answer_of runs spans a)) ≡ option_map (renumbered number_kept) (if b
         then run_told_at (runs_in runs s) a else answer_of runs spans a)) [ true ↦ refl | false ↦ refl ]
-        ∙ ap (option_map (renumbered number)) (sym (answer-cons runs s spans a))
+        ∙ ap (option_map (renumbered number_kept)) (sym (answer-cons runs s spans a))
 
     pub len_anew : length all ≡ length runs
     len_anew = omega (

@@ -122,22 +122,22 @@ told_of_units-push live (v ∷ units) u a =
     ap (option_or (unit_told live v a)) (told_of_units-push live units u a)
     ∙ sym (or-assoc (unit_told live v a) (told_of_units live units a) (unit_told live u a))
 
-renumbered-row : (number : ℕ → ℕ) → ((file : ℕ) → number (held file) ≡ number file) → (o : Option Row)
-    → option_map (renumbered number) (option_map row_told o) ≡ option_map (told_of number) o
-renumbered-row number same None = refl
-renumbered-row number same (Some r) = ap (λ n. Some (told_of (λ _. n) r)) (same r.file)
+renumbered-row : (number : ℕ → ℕ) (o : Option Row)
+    → option_map (renumbered number) (option_map row_told o) ≡ option_map (told_of (λ file. number (held file))) o
+renumbered-row number None = refl
+renumbered-row number (Some r) = refl
 
 -- a unit more
-pub unit_more : (live : ℕ → Bool) (units : List UnitRows) (rows : List Row) (number : ℕ → ℕ)
-    → ((file : ℕ) → number (held file) ≡ number file) → (a : ℕ) (whole unit : Option Told) → whole ≡ told_of_units live units a
+pub unit_more : (live : ℕ → Bool) (units : List UnitRows) (rows : List Row) (number : ℕ → ℕ) (a : ℕ)
+    (whole unit : Option Told) → whole ≡ told_of_units live units a
     → unit ≡ option_map row_told (answer (live_rows live rows) (place_at a))
     → option_or whole (option_map (renumbered number) unit)
-    ≡ told_of_units live (units ++ record { number = number; rows = rows } ∷ []) a
-unit_more live units rows number same a whole unit is_whole is_unit =
+    ≡ told_of_units live (units ++ record { number = λ file. number (held file); rows = rows } ∷ []) a
+unit_more live units rows number a whole unit is_whole is_unit =
     ap₂ (λ o p. option_or o (option_map (renumbered number) p)) is_whole is_unit
-    ∙ ap (option_or (told_of_units live units a)) (renumbered-row number same (answer (live_rows live rows) (place_at a))
-    ∙ ap (option_map (told_of number)) (of_live_rows live rows (place_at a)))
-    ∙ sym (told_of_units-push live units (record { number = number; rows = rows }) a)
+    ∙ ap (option_or (told_of_units live units a)) (renumbered-row number (answer (live_rows live rows) (place_at a))
+    ∙ ap (option_map (told_of (λ file. number (held file)))) (of_live_rows live rows (place_at a)))
+    ∙ sym (told_of_units-push live units (record { number = λ file. number (held file); rows = rows }) a)
 
 map-or : (number : ℕ → ℕ) (o p : Option Row)
     → option_map (told_of number) (option_or o p) ≡ option_or (option_map (told_of number) o) (option_map (told_of number) p)

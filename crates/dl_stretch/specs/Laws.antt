@@ -8,7 +8,8 @@ use Rattle.dl_look.specs.LiveRows.{live_rows}
 use Rattle.dl_look.specs.Units.{answer_of_units}
 use Rattle.dl_stretch.specs.declared.told.Told.{Told}
 use Rattle.dl_stretch.specs.declared.stretch.Stretch.{Stretch}
-use Rattle.dl_stretch.specs.Runs.{place_at, first_address, told_of}
+use Rattle.dl_stretch.specs.Held.{AreHeld}
+use Rattle.dl_stretch.specs.Runs.{place_at, first_address, told_of, number_in, held_in}
 use Rattle.dl_stretch.specs.Stretches.{last_begun, AreStretches}
 use Rattle.dl_stretch.specs.ToldUnits.{UnitRows, told_of_units}
 
@@ -55,3 +56,9 @@ TellsAnswers =
     (live : ℕ → Bool) (number : ℕ → ℕ) (units : List (List Row)) (a : ℕ)
     → told_of_units live (map (numbered number) units) a
     ≡ option_map (told_of number) (answer_of_units (map (live_rows live) units) (place_at a))
+
+-- the numbers of a list that are below 2^63 are held as they are
+abbrev pub HeldAsGiven : Type 0
+HeldAsGiven =
+    (numbers : List ℕ) (other : ℕ) → AreHeld numbers other → (file : ℕ)
+    → held_in numbers other file ≡ number_in numbers other file

@@ -6,7 +6,7 @@ use Rattle.dl_rows.specs.declared.row.Row.{Row}
 use Rattle.dl_look.specs.declared.place.Place.{Place}
 use Rattle.dl_stretch.specs.declared.told.Told.{Told}
 use Rattle.dl_stretch.specs.declared.run.Run.{Run}
-use Rattle.dl_stretch.specs.Held.{told_by}
+use Rattle.dl_stretch.specs.Held.{held, told_by}
 use Rattle.dl_stretch.specs.Stretches.{last_begun}
 
 -- the place that is looked up for the address a
@@ -30,6 +30,10 @@ told_of number r = record {
 -- the number of a file by a list; other where the list ends before it
 abbrev pub number_in : (numbers : List ℕ) → (other : ℕ) → ℕ → ℕ
 number_in numbers other file = slice_index_or numbers file other
+
+-- that number as it is held, by the number of the file as it is
+abbrev pub held_in : (numbers : List ℕ) → (other : ℕ) → ℕ → ℕ
+held_in numbers other file = held (number_in numbers other (held file))
 
 -- the same with another number of its file
 abbrev pub renumbered : (ℕ → ℕ) → Told → Told

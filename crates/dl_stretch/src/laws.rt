@@ -1,7 +1,7 @@
 //! Laws of the definitions of stretches, each the contract of a function that does nothing.
 
 ghost use Rattle.dl_stretch.specs.Laws.{OneListOfStretches, LastIsGap, TellsAnswers};
-ghost use Rattle.dl_stretch.specs.Laws.{CoversAddresses, CoversLast, LastRowBegun};
+ghost use Rattle.dl_stretch.specs.Laws.{CoversAddresses, CoversLast, HeldAsGiven, LastRowBegun};
 
 /// There is at most one list of stretches of a function from addresses to answers.
 pub fn one_list_of_stretches()
@@ -25,4 +25,9 @@ pub fn units_tell_answers()
 pub fn rows_answer_addresses()
     ensures covered { CoversAddresses }
     ensures last { LastRowBegun }
+{}
+
+/// A unit's files have the numbers of a list that has fewer than 2^63 of them, all below 2^63.
+pub fn numbers_are_held()
+    ensures { HeldAsGiven }
 {}

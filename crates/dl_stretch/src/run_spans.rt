@@ -30,7 +30,7 @@ impl RunSpans {
     ghost use Rattle.dl_look.specs.Answer.{place_of};
     ghost use Rattle.dl_look.specs.LiveRows.{live_rows};
     ghost use Rattle.dl_stretch.specs.declared.stretch.Stretch as kept;
-    ghost use Rattle.dl_stretch.specs.Held.{AreHeld};
+    ghost use Rattle.dl_stretch.specs.Held.{held};
     ghost use Rattle.dl_stretch.specs.Runs.{number_in, renumbered};
     ghost use Rattle.dl_stretch.specs.StandFor.{StandFor};
     ghost use Rattle.dl_stretch.specs.Stands.{whole_answer, unit_answer, Holds};
@@ -104,10 +104,9 @@ impl RunSpans {
     /// The current unit ends, and each of its files gets its number from the list; `other` where the list ends before
     /// it.
     pub fn end_unit(&mut self, numbers: &[u64], other: u64)
-        requires { AreHeld numbers.now other }
         ensures count { kept_in self.new ≤ kept_in self.old }
         ensures whole { (a : ℕ) → a < 2 ^ 64 → whole_answer self.new a ≡ option_or (whole_answer self.old a)
-            (option_map (renumbered (number_in numbers.now other)) (unit_answer self.old a)) }
+            (option_map (renumbered (λ file. held (number_in numbers.now other file))) (unit_answer self.old a)) }
         ensures unit { Holds self.new [] }
     {
         self.list.renumber(self.whole_runs, numbers, other);

@@ -30,8 +30,7 @@ impl Runs {
     ghost use Rattle.dl_rows.specs.declared.row.Row as each;
     ghost use Rattle.dl_look.specs.FinderRows.{unended};
     ghost use Rattle.dl_stretch.specs.declared.stretch.Stretch as kept;
-    ghost use Rattle.dl_stretch.specs.Held.{AreHeld};
-    ghost use Rattle.dl_stretch.specs.Runs.{number_in};
+    ghost use Rattle.dl_stretch.specs.Runs.{held_in};
     ghost use Rattle.dl_stretch.specs.StandFor.{StandFor};
     ghost use Rattle.dl_stretch.specs.Stands.{Stands};
     ghost use Rattle.dl_stretch.specs.Stretches.{AreStretches};
@@ -86,14 +85,13 @@ impl Runs {
     }
 
     /// The current unit ends, and its rows count; the next row is the first one of the next unit. The list has for
-    /// each file of the unit the number that stands for it, `other` is that of the files where it ends before. These
-    /// numbers are below 2^63, and there are fewer than 2^63 of them.
+    /// each file of the unit the number that stands for it, `other` is that of the files where it ends before. A number
+    /// above 2^63 - 1 counts as that one.
     pub fn end_unit(&mut self, numbers: &[u64], other: u64)
-        requires { AreHeld numbers.now other }
         ensures count { kept_count self.new ≤ kept_count self.old }
         ensures ended { (live : ℕ → Bool) (units : List UnitRows) (rows : List each.Row)
             → Stands live self.old units rows → Stands live self.new (units ++ record {
-              number = number_in numbers.now other;
+              number = held_in numbers.now other;
               rows = rows;
             } ∷ []) [] }
     {

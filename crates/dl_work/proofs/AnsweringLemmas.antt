@@ -42,11 +42,11 @@ manner w u f style understood form basenames section = record {
 }
 
 -- the words have no address
-pub lines_asked : {refuses : ℕ → Type 0} (w : AddrTexts) (u : AskedWords) (f : ℕ → Option Location) (m : Manner) (Fails : Error → Type 0)
+pub lines_asked : (refuses : ℕ → Type 0) (w : AddrTexts) (u : AskedWords) (f : ℕ → Option Location) (m : Manner) (Fails : Error → Type 0)
     (bytes : List ℕ) (left start now : Option (List ℕ)) (result : Result Answered AnswerFault) → IsUnderstood w u
     → IsManner w f m → length u.asked.items ≡ 0 → AnswersLines m w.hex (TellFails Fails refuses) bytes left start now result
     → AnswersAsked refuses w f Fails bytes left start now result
-lines_asked {refuses} w u f m Fails bytes left start now result understood is none answers = (
+lines_asked refuses w u f m Fails bytes left start now result understood is none answers = (
   m,
   is,
   subst (λ given. AnswersGiven refuses w m Fails given bytes left start now result)
@@ -54,13 +54,13 @@ lines_asked {refuses} w u f m Fails bytes left start now result understood is no
 )
 
 -- the words have some
-pub words_asked : {refuses : ℕ → Type 0} (w : AddrTexts) (u : AskedWords) (f : ℕ → Option Location) (m : Manner) (Fails : Error → Type 0)
+pub words_asked : (refuses : ℕ → Type 0) (w : AddrTexts) (u : AskedWords) (f : ℕ → Option Location) (m : Manner) (Fails : Error → Type 0)
     (left start now : Option (List ℕ)) (found : Result Found AnswerFault) (result : Result Answered AnswerFault)
     (slice : List Asked)
     → IsUnderstood w u → IsManner w f m → (length u.asked.items == 0) ≡ false → slice ≡ u.asked.items
     → AnswersAll m (TellFails Fails refuses) slice start now found
     → result ≡ answered_given found → AnswersAsked refuses w f Fails [] left start now result
-words_asked {refuses} w u f m Fails left start now found result slice understood is some sliced answers given = (
+words_asked refuses w u f m Fails left start now found result slice understood is some sliced answers given = (
   m,
   is,
   subst (λ given. AnswersGiven refuses w m Fails given [] left start now result) understood.asked

@@ -30,24 +30,24 @@ use Rattle.dl_work.specs.declared.command.Command.{Command}
 use Rattle.dl_work.specs.declared.stop.Stop.{Stop}
 use Rattle.dl_work.proofs.LocateLemmas.{all_live, is_code-live}
 
-module _ (held : Text → Option (List ℕ)) (fails : Text → Error → Type 0) (path : Text) (w : IndexTexts) where
-  pub index_refused : {refuses : ℕ → Type 0} (start : Option (List ℕ)) (result : Result Survey Stop) (stop : FileStop) (fault : FileFault)
+module _ (refuses : ℕ → Type 0) (held : Text → Option (List ℕ)) (fails : Text → Error → Type 0) (path : Text) (w : IndexTexts) where
+  pub index_refused : (start : Option (List ℕ)) (result : Result Survey Stop) (stop : FileStop) (fault : FileFault)
       (are_wanted : Bool) → are_wanted ≡ is_none w.comp_dir
       → ForBytes (held path)
       (λ f. RefusesOpening are_wanted (fails path) f fault ⊎ RefusesNaming (fails path) f fault)
       → IsAt path fault stop → result ≡ Err (stop_of stop) → IndexesFile refuses held fails path w start start result
-  index_refused {refuses} start result stop fault are_wanted wants refuses at is = λ f known short.
+  index_refused start result stop fault are_wanted wants why at is = λ f known short.
       inl (
         stop,
         fault,
         subst (λ (b : Bool). RefusesOpening b (fails path) f fault ⊎ RefusesNaming (fails path) f fault) wants
-            (refuses f known short),
+            (why f known short),
         at,
         is,
         Keeps-refl start,
       )
 
-  pub index_done : {refuses : ℕ → Type 0} (ranges : Option CodeRanges) (found : Directories) (id : Option (List ℕ)) (table : Table)
+  pub index_done : (ranges : Option CodeRanges) (found : Directories) (id : Option (List ℕ)) (table : Table)
       (command : Command) (start now : Option (List ℕ)) (answer : Result Survey FileStop) (result : Result Survey Stop)
       (are_wanted : Bool) → are_wanted ≡ is_none w.comp_dir
       → ForBytes (held path) (λ f. (code : Code) × IsCode f (Ok code) × AreLive ranges code)
@@ -59,7 +59,7 @@ module _ (held : Text → Option (List ℕ)) (fails : Text → Error → Type 0)
       → ForBytes (held path) (λ f. OnFile refuses (file_units w.units) (fails path) path w.section command f start now unheard
       answer)
       → result ≡ over_file answer → IndexesFile refuses held fails path w start now result
-  index_done {refuses} ranges found id table command start now answer result are_wanted wants codes are_found named live compiled all
+  index_done ranges found id table command start now answer result are_wanted wants codes are_found named live compiled all
       kept commanded does is = λ f known short.
       let k = codes f known short in
       inr (

@@ -63,11 +63,11 @@ asks_all w u these slice said q i asked sliced own code directories comp_dir for
 
 -- ---- a section on the input
 
-pub section_stops : {refuses : ℕ → Type 0} (held : Text → Option (List ℕ)) (w : AddrTexts) (left start : Option (List ℕ))
+pub section_stops : (refuses : ℕ → Type 0) (held : Text → Option (List ℕ)) (w : AddrTexts) (left start : Option (List ℕ))
     (result : Result Located Stop) (stop : Stop) → result ≡ Err stop → WordsStop refuses w stop
     ⊎ (IsNoQuestion w × (stop ≡ NotUnderstood))
     → LocatesInSection refuses held w [] left start start result
-section_stops {refuses} held w left start result stop is why = inl (stop, why, (is, refl, Keeps-refl start))
+section_stops refuses held w left start result stop is why = inl (stop, why, (is, refl, Keeps-refl start))
 
 pub some_asked : (asked : List Asked) → (length asked == 0) ≡ false → asked ≡ [] → ⊥
 some_asked asked some none =
@@ -80,14 +80,14 @@ is_question w asked suits words some (inr none) =
     some_asked asked some
     (words ∙ ap (map (λ text. record { address = address_by w.hex text })) none)
 
-pub section_done : {refuses : ℕ → Type 0} (held : Text → Option (List ℕ)) (w : AddrTexts) (asked : List Asked) (q : Question)
+pub section_done : (refuses : ℕ → Type 0) (held : Text → Option (List ℕ)) (w : AddrTexts) (asked : List Asked) (q : Question)
     (bytes : List ℕ) (left start now : Option (List ℕ)) (section : SectionWords) (command : Command)
     (answer : Result Survey Stop) (result : Result Located Stop)
     → suits_input w ≡ true → asked ≡ asked_in_words w → (length asked == 0) ≡ false
     → Asks w asked (λ a. true) (said_directory w) q → section ≡ section_of (addr w) → command ≡ asking w q
     → OnInput refuses held section command bytes left start now unheard answer → result ≡ located answer None
     → LocatesInSection refuses held w bytes left start now result
-section_done {refuses} held w asked q bytes left start now section command answer result suits words some asks said commanded does
+section_done refuses held w asked q bytes left start now section command answer result suits words some asks said commanded does
     is =
     inr (
       q,

@@ -28,43 +28,43 @@ use Rattle.dl_work.specs.declared.located.Located.{Located}
 use Rattle.dl_work.specs.declared.stop.Stop.{Stop}
 use Rattle.dl_work.proofs.TableLemmas.{on_file_as}
 
-module _ (fails wider : Error → Type 0) (more : (e : Error) → fails e → wider e) where
+module _ (refuses : ℕ → Type 0) (fails wider : Error → Type 0) (more : (e : Error) → fails e → wider e) where
   -- ---- answers
 
-  stops_wider : {refuses : ℕ → Type 0} (m : Manner) (start now : Option (List ℕ)) (asked : List Asked) (fault : AnswerFault)
+  stops_wider : (m : Manner) (start now : Option (List ℕ)) (asked : List Asked) (fault : AnswerFault)
       → StopsBy m (TellFails fails refuses) start now asked fault → StopsBy m (TellFails wider refuses) start now asked fault
-  stops_wider {refuses} m start now asked (Write lost) stops = stops
-  stops_wider {refuses} m start now asked Input stops = stops
-  stops_wider {refuses} m start now asked (Tell (NotRead error)) (answered, others, is, (reads, out)) =
+  stops_wider m start now asked (Write lost) stops = stops
+  stops_wider m start now asked Input stops = stops
+  stops_wider m start now asked (Tell (NotRead error)) (answered, others, is, (reads, out)) =
       (answered, others, is, (more error reads, out))
-  stops_wider {refuses} m start now asked (Tell NoRoom) stops = stops
+  stops_wider m start now asked (Tell NoRoom) stops = stops
 
-  all_wider : {refuses : ℕ → Type 0} (m : Manner) (asked : List Asked) (start now : Option (List ℕ)) (r : Result Found AnswerFault)
+  all_wider : (m : Manner) (asked : List Asked) (start now : Option (List ℕ)) (r : Result Found AnswerFault)
       → AnswersAll m (TellFails fails refuses) asked start now r → AnswersAll m (TellFails wider refuses) asked start now r
-  all_wider {refuses} m asked start now (Ok found) answers = answers
-  all_wider {refuses} m asked start now (Err fault) stops = stops_wider m start now asked fault stops
+  all_wider m asked start now (Ok found) answers = answers
+  all_wider m asked start now (Err fault) stops = stops_wider m start now asked fault stops
 
-  lines_wider : {refuses : ℕ → Type 0} (m : Manner) (hex : Bool) (bytes : List ℕ) (left start now : Option (List ℕ))
+  lines_wider : (m : Manner) (hex : Bool) (bytes : List ℕ) (left start now : Option (List ℕ))
       (r : Result Answered AnswerFault) → AnswersLines m hex (TellFails fails refuses) bytes left start now r
       → AnswersLines m hex (TellFails wider refuses) bytes left start now r
-  lines_wider {refuses} m hex bytes left start now (Ok answered) answers = answers
-  lines_wider {refuses} m hex bytes left start now (Err Input) out = out
-  lines_wider {refuses} m hex bytes left start now (Err (Write lost)) stops =
+  lines_wider m hex bytes left start now (Ok answered) answers = answers
+  lines_wider m hex bytes left start now (Err Input) out = out
+  lines_wider m hex bytes left start now (Err (Write lost)) stops =
       stops_wider m start now (asked_in hex bytes) (Write lost) stops
-  lines_wider {refuses} m hex bytes left start now (Err (Tell fault)) stops =
+  lines_wider m hex bytes left start now (Err (Tell fault)) stops =
       stops_wider m start now (asked_in hex bytes) (Tell fault) stops
 
-  given_wider : {refuses : ℕ → Type 0} (w : AddrTexts) (m : Manner) (asked : List Asked) (bytes : List ℕ) (left start now : Option (List ℕ))
+  given_wider : (w : AddrTexts) (m : Manner) (asked : List Asked) (bytes : List ℕ) (left start now : Option (List ℕ))
       (r : Result Answered AnswerFault) → AnswersGiven refuses w m fails asked bytes left start now r
       → AnswersGiven refuses w m wider asked bytes left start now r
-  given_wider {refuses} w m [] bytes left start now r answers = lines_wider m w.hex bytes left start now r answers
-  given_wider {refuses} w m (a ∷ asked) bytes left start now r (none, found, answers, is) =
+  given_wider w m [] bytes left start now r answers = lines_wider m w.hex bytes left start now r answers
+  given_wider w m (a ∷ asked) bytes left start now r (none, found, answers, is) =
       (none, found, all_wider m (a ∷ asked) start now found answers, is)
 
-  pub answers_wider : {refuses : ℕ → Type 0} (w : AddrTexts) (f : ℕ → Option Location) (bytes : List ℕ) (left start now : Option (List ℕ))
+  pub answers_wider : (w : AddrTexts) (f : ℕ → Option Location) (bytes : List ℕ) (left start now : Option (List ℕ))
       (r : Result Answered AnswerFault) → AnswersAsked refuses w f fails bytes left start now r
       → AnswersAsked refuses w f wider bytes left start now r
-  answers_wider {refuses} w f bytes left start now r (m, is, answers) =
+  answers_wider w f bytes left start now r (m, is, answers) =
       (m, is, given_wider w m (asked_in_words w) bytes left start now r answers)
 
   -- ---- an ELF file
@@ -73,13 +73,13 @@ module _ (fails wider : Error → Type 0) (more : (e : Error) → fails e → wi
       → RefusesOpening are_wanted wider f fault
   refuses_wider are_wanted f fault refuses = search rules
 
-  pub elf_file_wider : {refuses : ℕ → Type 0} (path : Bor Text) (w : AddrTexts) (f bytes : List ℕ) (left start now : Option (List ℕ))
+  pub elf_file_wider : (path : Bor Text) (w : AddrTexts) (f bytes : List ℕ) (left start now : Option (List ℕ))
       (r : Result Located Stop) → LocatesInElfFile refuses fails path w f bytes left start now r
       → LocatesInElfFile refuses wider path w f bytes left start now r
-  elf_file_wider {refuses} path w f bytes left start now r (inl stops) = inl stops
-  elf_file_wider {refuses} path w f bytes left start now r (inr (inl (fault, none, refuses, is, unanswered))) =
-      inr (inl (fault, none, refuses_wider _ f fault refuses, is, unanswered))
-  elf_file_wider {refuses} path w f bytes left start now r
+  elf_file_wider path w f bytes left start now r (inl stops) = inl stops
+  elf_file_wider path w f bytes left start now r (inr (inl (fault, none, why, is, unanswered))) =
+      inr (inl (fault, none, refuses_wider _ f fault why, is, unanswered))
+  elf_file_wider path w f bytes left start now r
       (inr (inr (code, ranges, found, none, codes, live, are, inl (some, read, (q, answer, asks, does, is))))) =
       inr (inr (
         code,
@@ -92,10 +92,10 @@ module _ (fails wider : Error → Type 0) (more : (e : Error) → fails e → wi
         inl (
           some,
           read,
-          (q, answer, asks, on_file_as _ _ fails wider path.now _ _ f start now unheard answer refl more does, is),
+          (q, answer, asks, on_file_as refuses _ _ fails wider path.now _ _ f start now unheard answer refl more does, is),
         ),
       ))
-  elf_file_wider {refuses} path w f bytes left start now r
+  elf_file_wider path w f bytes left start now r
       (inr (inr (code, ranges, found, none, codes, live, are, inr (lines, (table, told, made, answer, does, rest))))) =
       inr (inr (
         code,
@@ -112,7 +112,7 @@ module _ (fails wider : Error → Type 0) (more : (e : Error) → fails e → wi
             told,
             made,
             answer,
-            on_file_as _ _ fails wider path.now _ _ f (Some []) (Some made) unheard answer refl more does,
+            on_file_as refuses _ _ fails wider path.now _ _ f (Some []) (Some made) unheard answer refl more does,
             rest,
           ),
         ),
@@ -130,16 +130,16 @@ pub reads_wider : (fails wider : Error → Type 0) (known : Option (List ℕ)) �
 reads_wider fails wider known more e (inl reads) = inl (more e reads)
 reads_wider fails wider known more e (inr ends) = inr ends
 
-pub index_wider : {refuses : ℕ → Type 0} (fails wider : Error → Type 0) → ((e : Error) → fails e → wider e)
+pub index_wider : (refuses : ℕ → Type 0) (fails wider : Error → Type 0) → ((e : Error) → fails e → wider e)
     → (held : Text → Option (List ℕ)) (others : Text → Error → Type 0) (path : Bor Text) (w : AddrTexts)
     (b bytes : List ℕ) (left start now : Option (List ℕ)) (r : Result Located Stop)
     → LocatesInIndex refuses held others fails path w b bytes left start now r
     → LocatesInIndex refuses held others wider path w b bytes left start now r
-index_wider {refuses} fails wider more held others path w b bytes left start now r (inl stops) = inl stops
-index_wider {refuses} fails wider more held others path w b bytes left start now r (inr (inl (fault, suits, opened, stops))) =
-    inr (inl (fault, suits, opened_wider fails wider more b fault opened, stops))
-index_wider {refuses} fails wider more held others path w b bytes left start now r (inr (inr (inl stops))) = inr (inr (inl stops))
-index_wider {refuses} fails wider more held others path w b bytes left start now r
+index_wider refuses fails wider more held others path w b bytes left start now r (inl stops) = inl stops
+index_wider refuses fails wider more held others path w b bytes left start now r (inr (inl (fault, suits, opened, stops))) =
+    inr (inl (fault, suits, opened_wider refuses fails wider more b fault opened, stops))
+index_wider refuses fails wider more held others path w b bytes left start now r (inr (inr (inl stops))) = inr (inr (inl stops))
+index_wider refuses fails wider more held others path w b bytes left start now r
     (inr (inr (inr (suits, headed, of, answered, is, answers)))) =
     inr (inr (inr (
       suits,
@@ -147,7 +147,7 @@ index_wider {refuses} fails wider more held others path w b bytes left start now
       of,
       answered,
       is,
-      λ whole. answers_wider (ReadFails (Some b) fails)
+      λ whole. answers_wider refuses (ReadFails (Some b) fails)
           (ReadFails (Some b) wider) (reads_wider fails wider (Some b) more) w (location_in b) bytes left start now answered
           (answers whole),
     )))

@@ -108,16 +108,16 @@ base_fine w (Some text) n is = one (is_some (address_by w.hex text)) (ap is_some
   one : (b : Bool) → b ≡ true → (if b then None else Some text) ≡ None
   one b e = rw e refl
 
-pub base_stops : {refuses : ℕ → Type 0} (w : AddrTexts) (stop : Stop) → IsFirstOther w.hex (option_to_list w.base) stop → WordsStop refuses w stop
-base_stops {refuses} w (NotAddress word) h = first_front w.hex (option_to_list w.base) w.addresses word.now h
-base_stops {refuses} w (Run fault.NoMemory) h = absurd h
-base_stops {refuses} w other h = h
+pub base_stops : (refuses : ℕ → Type 0) (w : AddrTexts) (stop : Stop) → IsFirstOther w.hex (option_to_list w.base) stop → WordsStop refuses w stop
+base_stops refuses w (NotAddress word) h = first_front w.hex (option_to_list w.base) w.addresses word.now h
+base_stops refuses w (Run fault.NoMemory) h = absurd h
+base_stops refuses w other h = h
 
-pub words_stop : {refuses : ℕ → Type 0} (w : AddrTexts) (n : ℕ) (xs ys : List (Bor (List ℕ))) (stop : Stop) → base_in w ≡ Some n → xs ≡ ys
+pub words_stop : (refuses : ℕ → Type 0) (w : AddrTexts) (n : ℕ) (xs ys : List (Bor (List ℕ))) (stop : Stop) → base_in w ≡ Some n → xs ≡ ys
     → w.addresses ≡ map now ys → AddressesStop refuses w.hex (map now xs) stop → WordsStop refuses w stop
-words_stop {refuses} w n xs ys (NotAddress word) based same texts h =
+words_stop refuses w n xs ys (NotAddress word) based same texts h =
     first_after w.hex (option_to_list w.base) w.addresses (base_fine w w.base n based)
     ∙ (ap (first_other w.hex) (texts ∙ ap (map now) (sym same)) ∙ h)
-words_stop {refuses} w n xs ys (Run fault.NoMemory) based same texts h =
+words_stop refuses w n xs ys (Run fault.NoMemory) based same texts h =
     let its : w.addresses ≡ map now xs = texts ∙ ap (map now) (sym same) in rw its h
-words_stop {refuses} w n xs ys other based same texts h = h
+words_stop refuses w n xs ys other based same texts h = h

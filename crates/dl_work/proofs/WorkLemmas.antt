@@ -15,21 +15,21 @@ use Rattle.dl_work.specs.Tables.{OnFile}
 use Rattle.dl_work.specs.Units.{file_units, units_of}
 use Rattle.dl_work.specs.Work.{OnInput, Works}
 
-pub works_on_input : {refuses : ℕ → Type 0} (held : Text → Option (List ℕ)) (fails : Text → Error → Type 0) (request : Option Request)
+pub works_on_input : (refuses : ℕ → Type 0) (held : Text → Option (List ℕ)) (fails : Text → Error → Type 0) (request : Option Request)
     (r : Request) (command : Command) (words : SectionWords) (bytes : List ℕ)
     (left start now : Option (List ℕ)) (hears : List Damage → Type 0) (result : Result Survey Stop) → request ≡ Some r
     → command_of r ≡ Some (command_seen command)
     → file_of r ≡ None → words ≡ section_of r
     → OnInput refuses held words command bytes left start now hears result
     → Works refuses held fails request bytes left start now hears result
-works_on_input {refuses} held fails request r command words bytes left start now hears result is asks no_file said does =
+works_on_input refuses held fails request r command words bytes left start now hears result is asks no_file said does =
     rw (is, asks) (
       command,
       refl,
       rw no_file (subst (λ (w : SectionWords). OnInput refuses held w command bytes left start now hears result) said does),
     )
 
-pub works_on_named : {refuses : ℕ → Type 0} (held : Text → Option (List ℕ)) (fails : Text → Error → Type 0) (request : Option Request)
+pub works_on_named : (refuses : ℕ → Type 0) (held : Text → Option (List ℕ)) (fails : Text → Error → Type 0) (request : Option Request)
     (r : Request) (command : Command) (units : FileUnits) (path : Text) (name : Option Text)
     (left start now : Option (List ℕ)) (hears : List Damage → Type 0)
     (answer : Result Survey FileStop) (result : Result Survey Stop) → request ≡ Some r
@@ -37,7 +37,7 @@ pub works_on_named : {refuses : ℕ → Type 0} (held : Text → Option (List �
     → file_of r ≡ Some path → units ≡ file_units (units_of r) → name ≡ part_name_of r → result ≡ over_file answer
     → ForBytes (held path) (λ f. OnFile refuses units (fails path) path name command f start now hears answer)
     → Works refuses held fails request [] left start now hears result
-works_on_named {refuses} held fails request r command units path name left start now hears answer result is asks named reads said
+works_on_named refuses held fails request r command units path name left start now hears answer result is asks named reads said
     told does =
     rw (is, asks) (
       command,

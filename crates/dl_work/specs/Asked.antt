@@ -231,13 +231,13 @@ Does refuses (Addr question) dialect s limit bytes left start now = EndsThere (�
 Does refuses (AddrAround question) dialect s limit bytes left start now = GoesOn (λ answer.
     (found : Result FoundAround RunFault) × (answer ≡ answered_around found)
     × LocatesAround refuses dialect s question limit bytes left start now found)
-Does refuses (Index table) dialect s limit bytes left start now = EndsThere (Writes dialect s table limit bytes left start now)
+Does refuses (Index table) dialect s limit bytes left start now = EndsThere (Writes refuses dialect s table limit bytes left start now)
 Does refuses (IndexAround table) dialect s limit bytes left start now =
-    GoesOn (WritesAround dialect s table limit bytes left start now)
+    GoesOn (WritesAround refuses dialect s table limit bytes left start now)
 Does refuses (IndexUntil table) dialect s limit bytes left start now =
-    EndsThere (WritesUntil dialect s table limit bytes left start now)
+    EndsThere (WritesUntil refuses dialect s table limit bytes left start now)
 Does refuses (IndexUntilAround table) dialect s limit bytes left start now =
-    GoesOn (WritesUntilAround dialect s table limit bytes left start now)
+    GoesOn (WritesUntilAround refuses dialect s table limit bytes left start now)
 
 -- what `addr` writes of a section without bytes, so that each address has no answer
 abbrev pub Unfound : (refuses : ℕ → Type 0) → Question → (start now : Option (List ℕ)) → Type 0

@@ -6,6 +6,7 @@ pub mod Damages
 pub mod Asked
 pub mod Tables
 pub mod Work
+pub mod Blaming
 pub mod Located
 pub mod Compiled
 pub mod Locate

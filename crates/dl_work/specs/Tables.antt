@@ -23,18 +23,18 @@ use Rattle.dl_open.specs.Tables.{bytes_of, stream_of}
 use Rattle.dl_work.specs.declared.command.Command.{Command}
 use Rattle.dl_work.specs.Asked.{Does, Outcome, WithoutTable, is_copy, looks_up, sections_of}
 
--- ---- the command over the line section
+-- ---- the command over the line section. fails: the errors that opening and reading the file may give
 
 -- the program answers what its command answered
-abbrev pub EndsAt : (path : Text) (stream : Option Stream) → Result Survey RunFault → Result Survey FileStop
-    → Type 0
-EndsAt path stream answer result = MatchResult answer (λ survey. result ≡ Ok survey)
-    (λ f. (stop : FileStop) × (result ≡ Err stop) × StopsAt path stream f stop)
+abbrev pub EndsAt : (fails : Error → Type 0) (path : Text) (stream : Option Stream) → Result Survey RunFault
+    → Result Survey FileStop → Type 0
+EndsAt fails path stream answer result = MatchResult answer (λ survey. result ≡ Ok survey)
+    (λ f. (stop : FileStop) × (result ≡ Err stop) × StopsAt fails path stream f stop)
 
 -- the command is done, over the bytes of the line section in the file's order, with the file's string sections. read:
 -- the bytes that it read, of which `left` are left
-pub record RunsOn (refuses : ℕ → Type 0) (units : FileUnits) (path : Text) (command : Command) (t : LineTable) (start now : Option (List ℕ))
-    (hears : List Damage → Type 0) (result : Result Survey FileStop) : Type 0 where
+pub record RunsOn (refuses : ℕ → Type 0) (units : FileUnits) (fails : Error → Type 0) (path : Text) (command : Command) (t : LineTable)
+    (start now : Option (List ℕ)) (hears : List Damage → Type 0) (result : Result Survey FileStop) : Type 0 where
   pub strings : Strings
   pub whole : IsWhole t.line_str t.str strings
   pub read : List ℕ
@@ -42,7 +42,7 @@ pub record RunsOn (refuses : ℕ → Type 0) (units : FileUnits) (path : Text) (
   pub bytes : Consumes (Some (bytes_of t.line)) left read
   pub answer : Result Survey RunFault
   pub done : Does refuses command (file_dialect units t) strings SECTION_LIMIT read left start now hears answer
-  pub ends : EndsAt path (stream_of t.line) answer result
+  pub ends : EndsAt fails path (stream_of t.line) answer result
 
 -- the table with these bytes of its line section
 abbrev pub with_bytes : LineTable → List ℕ → LineTable
@@ -55,36 +55,36 @@ abbrev pub StopsEarly : (refuses : ℕ → Type 0) → Command → (FileStop →
 StopsEarly refuses command Reason start now hears result =
     (stop : FileStop) × (result ≡ Err stop) × Reason stop × WithoutTable refuses command start now × hears []
 
-abbrev pub OnLines : (refuses : ℕ → Type 0) → FileUnits → (path : Text) → Command → LineTable → Option Part → Outcome FileStop
-OnLines refuses units path command t None start now hears result = RunsOn refuses units path command t start now hears result
-OnLines refuses units path command t (Some part) start now hears result =
-    StopsEarly refuses command (KeepingStops path (file_dialect units t) part t.line) start now hears result
+abbrev pub OnLines : (refuses : ℕ → Type 0) → FileUnits → (fails : Error → Type 0) (path : Text) → Command → LineTable → Option Part → Outcome FileStop
+OnLines refuses units fails path command t None start now hears result = RunsOn refuses units fails path command t start now hears result
+OnLines refuses units fails path command t (Some part) start now hears result =
+    StopsEarly refuses command (KeepingStops fails path (file_dialect units t) part t.line) start now hears result
     ⊎ ((kept : List ℕ) × IsKept (file_dialect units t) part t.line kept
-    × RunsOn refuses units path command (with_bytes t kept) start now hears result)
+    × RunsOn refuses units fails path command (with_bytes t kept) start now hears result)
 
 -- an object file isn't copied
-abbrev pub OnTableWhere : (refuses : ℕ → Type 0) → (is_object_copy : Bool) → FileUnits → (path : Text) → Command → LineTable → Option Part
+abbrev pub OnTableWhere : (refuses : ℕ → Type 0) → (is_object_copy : Bool) → FileUnits → (fails : Error → Type 0) (path : Text) → Command → LineTable → Option Part
     → Outcome FileStop
-OnTableWhere refuses true units path command t part start now hears result =
+OnTableWhere refuses true units fails path command t part start now hears result =
     StopsEarly refuses command (IsAt path ObjectCopy) start now hears result
-OnTableWhere refuses false units path command t part start now hears result =
-    StopsEarly refuses command (StringsStop path t.line_str t.str) start now hears result
-    ⊎ OnLines refuses units path command t part start now hears result
+OnTableWhere refuses false units fails path command t part start now hears result =
+    StopsEarly refuses command (StringsStop fails path t.line_str t.str) start now hears result
+    ⊎ OnLines refuses units fails path command t part start now hears result
 
-abbrev pub OnTable : (refuses : ℕ → Type 0) → FileUnits → (path : Text) → Command → LineTable → Option Part → Outcome FileStop
-OnTable refuses units path command t part = OnTableWhere refuses (is_copy command && t.is_object_file) units path command t part
+abbrev pub OnTable : (refuses : ℕ → Type 0) → FileUnits → (fails : Error → Type 0) (path : Text) → Command → LineTable → Option Part → Outcome FileStop
+OnTable refuses units fails path command t part = OnTableWhere refuses (is_copy command && t.is_object_file) units fails path command t part
 
--- ---- the file. fails: the errors that opening and reading it may give; name: the section that is looked into
+-- ---- the file. name: the section that is looked into
 
 -- all sequences answer, but where addresses are looked up: then those of a part
 abbrev pub OnFoundWhere : (refuses : ℕ → Type 0) → (looks_up : Bool) → FileUnits → (fails : Error → Type 0) (path : Text) (name : Option Text)
     → Command → (f : List ℕ) → LineTable → Outcome FileStop
 OnFoundWhere refuses false units fails path name command f t start now hears result =
-    OnTable refuses units path command t None start now hears result
+    OnTable refuses units fails path command t None start now hears result
 OnFoundWhere refuses true units fails path name command f t start now hears result =
     StopsEarly refuses command (PartStops fails path f t.is_object_file name) start now hears result
     ⊎ ((part : Option Part) × IsPart f t.is_object_file name part
-    × OnTable refuses units path command t part start now hears result)
+    × OnTable refuses units fails path command t part start now hears result)
 
 abbrev pub OnFound : (refuses : ℕ → Type 0) → FileUnits → (fails : Error → Type 0) (path : Text) (name : Option Text) → Command → (f : List ℕ)
     → LineTable → Outcome FileStop

@@ -55,7 +55,11 @@ fn base<'a>(words: &AddrWords<'a>) -> Result<u64, Stop<'a>>
 }
 
 /// The addresses that these words say.
-fn addresses<'a, M: Memory>(memory: &M, hex: bool, words: &[&'a str]) -> Result<Vec<Asked>, Stop<'a>>
+fn addresses<'a, M: Memory>(
+    memory: &M,
+    hex: bool,
+    words: &[&'a str],
+) -> Result<Vec<Asked>, Stop<'a>>
     ensures asked { IfOk result (λ asked. asked.items
         ≡ map (λ s. record { address = address_by hex s.now }) words.now) }
     ensures understood { IfOk result (λ asked. list_all (λ s. is_some (address_by hex s.now)) words.now ≡ true) }

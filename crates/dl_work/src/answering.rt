@@ -4,6 +4,7 @@ ghost use Rattle.std.specs.Io.KnownBytes.{Consumes};
 ghost use Rattle.dl_addr.specs.Location.{Location};
 ghost use Rattle.dl_cmd.specs.Job.{addr_words_made};
 ghost use Rattle.dl_dialogue.specs.Answers.{Determines};
+ghost use Rattle.dl_dialogue.specs.Faults.{BlamesWriter};
 ghost use Rattle.dl_work.specs.Answering.{AnswersAsked, answered_given, stop_of_answer};
 ghost use Rattle.dl_work.specs.OverElfFile.{AnswersMade};
 ghost use Rattle.dl_work.specs.Understood.{IsUnderstood};
@@ -17,12 +18,12 @@ use dl_index::open_unchecked;
 use dl_index_file::OpenFault;
 use dl_input::Source;
 use dl_memory::Memory;
+use dl_output::Destination;
 use dl_run::RunFault;
-use std::io::Write;
 
 /// Answers the addresses among the words, or where there are none those on the input, as they come, by what `teller`
 /// tells.
-pub fn answer_asked<M: Memory, T: Tell, R: Source, W: Write>(
+pub fn answer_asked<M: Memory, T: Tell, R: Source, W: Destination>(
     memory: &M,
     words: &AddrWords<'_>,
     understood: &AskedWords,
@@ -30,11 +31,12 @@ pub fn answer_asked<M: Memory, T: Tell, R: Source, W: Write>(
     input: &mut R,
     output: &mut W,
 ) -> Result<Answered, AnswerFault>
-    ensures { (bytes : List ℕ) × Consumes (R.remaining input.old) (R.remaining input.new) bytes
+    ensures answers { (bytes : List ℕ) × Consumes (R.remaining input.old) (R.remaining input.new) bytes
         × ((f : ℕ → Option Location) → Determines (T.tells teller.old) f
         → IsUnderstood (addr_words_made words.now) understood.now
         → AnswersAsked (M.refuses memory.now) (addr_words_made words.now) f (T.fails_with teller.old) bytes (R.remaining input.new)
         (W.contents output.old) (W.contents output.new) result) }
+    ensures blames_writer { BlamesWriter W.fails result }
 {
     let style = style(words, part_name(words));
     if understood.asked.is_empty() {
@@ -52,7 +54,7 @@ pub fn answer_asked<M: Memory, T: Tell, R: Source, W: Write>(
 }
 
 /// Answers from the bytes of an index; where there are none, each address has no answer.
-pub fn answer_made<M: Memory, R: Source, W: Write>(
+pub fn answer_made<M: Memory, R: Source, W: Destination>(
     memory: &M,
     words: &AddrWords<'_>,
     understood: &AskedWords,
@@ -60,10 +62,11 @@ pub fn answer_made<M: Memory, R: Source, W: Write>(
     input: &mut R,
     output: &mut W,
 ) -> Result<Answered, AnswerFault>
-    ensures { (bytes : List ℕ) × Consumes (R.remaining input.old) (R.remaining input.new) bytes
+    ensures answers { (bytes : List ℕ) × Consumes (R.remaining input.old) (R.remaining input.new) bytes
         × (IsUnderstood (addr_words_made words.now) understood.now
         → AnswersMade (M.refuses memory.now) (addr_words_made words.now) index.now bytes (R.remaining input.new) (W.contents output.old)
         (W.contents output.new) result) }
+    ensures blames_writer { BlamesWriter W.fails result }
 {
     match open_unchecked(index) {
         Ok(mut index) => answer_asked(memory, words, understood, &mut index, input, output),

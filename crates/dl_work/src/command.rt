@@ -3,6 +3,7 @@ ghost use Rattle.std.specs.Prelude.{◌≡◌, ◌≤◌, ◌&&◌, ℕ, List, [
 ghost use Rattle.std.specs.Option.{option_copied};
 ghost use Rattle.std.specs.Io.KnownBytes.{Consumes};
 ghost use Rattle.dl_input.specs.Failing.{Blames};
+ghost use Rattle.dl_run.specs.Blaming.{BlamesWriter};
 ghost use Rattle.dl_run.specs.Commands.{strings_in};
 ghost use Rattle.dl_cmd.specs.Job.{request_made};
 ghost use Rattle.dl_dirs.specs.Compilation.{directory_by};
@@ -17,16 +18,16 @@ use dl_head::{Dialect, Older};
 use dl_input::Source;
 use dl_look::Place;
 use dl_making::{
-    Table, write_index, write_index_around, write_index_until, write_index_until_around,
+    SetMemory, Table, write_index, write_index_around, write_index_until, write_index_until_around,
 };
 use dl_memory::Memory;
 use dl_num::Order;
 use dl_open::Sections;
+use dl_output::Destination;
 use dl_run::{
     DamageSink, Options, RunFault, SECTION_LIMIT, Summary, Survey, check, check_around, copy,
     copy_to_5, dump, dump_around, find,
 };
-use std::io::Write;
 
 /// What `addr` counts.
 pub const NOTHING: Summary = Summary {
@@ -227,7 +228,7 @@ impl<'a> Command<'a> {
     /// Says what there is to say where there is no line table: of `addr`, that each address has no answer, as over a
     /// section without bytes. Whether that could be written, or memory was refused for it, isn't told, since the file's
     /// fault is.
-    pub fn without_table<M: Memory, W: Write>(self, memory: &M, output: &mut W)
+    pub fn without_table<M: Memory, W: Destination>(self, memory: &M, output: &mut W)
         ensures { WithoutTable (M.refuses memory.now) self.entry (W.contents output.old) (W.contents output.new) }
     {
         if let Command::Addr(question) | Command::AddrAround(question) = self {
@@ -237,7 +238,7 @@ impl<'a> Command<'a> {
     }
 
     /// Works through the section, and tells of the units that are damaged where it goes on after them.
-    pub fn run<M: Memory, R: Source, W: Write, D: DamageSink>(
+    pub fn run<M: SetMemory, R: Source, W: Destination, D: DamageSink>(
         self,
         memory: &M,
         input: &mut R,
@@ -252,6 +253,7 @@ impl<'a> Command<'a> {
             (D.hears damages.old damages.new) result) }
         ensures blames { Blames R.follows R.fails input.old input.new
             ((D.hears damages.old damages.old []) × (result ≡ Err RunFault.Read)) }
+        ensures blames_writer { D.hears damages.old damages.old [] → BlamesWriter W.fails result }
     {
         let alloc = memory.alloc();
         match self {
@@ -272,16 +274,16 @@ impl<'a> Command<'a> {
                 answered_around(addr_around(memory, input, output, &question, options))
             }
             Command::Index(table) => {
-                all_whole(write_index(alloc, input, output, &table, options))
+                all_whole(write_index(memory, input, output, &table, options))
             }
             Command::IndexAround(table) => {
-                write_index_around(alloc, input, output, &table, options)
+                write_index_around(memory, input, output, &table, options)
             }
             Command::IndexUntil(table) => {
-                all_whole(write_index_until(alloc, input, output, &table, options))
+                all_whole(write_index_until(memory, input, output, &table, options))
             }
             Command::IndexUntilAround(table) => {
-                write_index_until_around(alloc, input, output, &table, options)
+                write_index_until_around(memory, input, output, &table, options)
             }
         }
     }

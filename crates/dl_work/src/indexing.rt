@@ -25,11 +25,11 @@ use dl_cmd::IndexWords;
 use dl_dirs::Directories;
 use dl_elf::{BuildId, ReadAt};
 use dl_look::CodeRanges;
-use dl_making::Table;
+use dl_making::{SetMemory, Table};
 use dl_memory::Memory;
 use dl_open::{FileFault, FileSource, build_id_of};
+use dl_output::Destination;
 use dl_run::Survey;
-use std::io::Write;
 
 /// The path of the file whose index is made.
 fn file_indexed<'a>(words: &IndexWords<'a>) -> Option<&'a str>
@@ -117,7 +117,7 @@ fn open_named<M: Memory, F: FileSource>(
 }
 
 /// Writes the index of the ELF file at this path.
-fn index_file<'a, M: Memory, F: FileSource, W: Write>(
+fn index_file<'a, M: SetMemory, F: FileSource, W: Destination>(
     memory: &M,
     words: &IndexWords<'a>,
     path: &'a str,
@@ -166,7 +166,7 @@ fn index_file<'a, M: Memory, F: FileSource, W: Write>(
 ///
 /// `NotUnderstood` where the words name no file, list an index, or a size is no size; then, and at each fault but a failed
 /// write, nothing is written.
-pub fn index<'a, M: Memory, F: FileSource, W: Write>(
+pub fn index<'a, M: SetMemory, F: FileSource, W: Destination>(
     memory: &M,
     words: &IndexWords<'a>,
     files: &F,

@@ -23,12 +23,13 @@ use crate::stop::Stop;
 use dl_cmd::AddrWords;
 use dl_dialogue::Nothing;
 use dl_input::Source;
+use dl_making::SetMemory;
 use dl_memory::Memory;
 use dl_open::FileSource;
-use std::io::Write;
+use dl_output::Destination;
 
 /// Looks into the section on the input.
-fn in_section<'a, M: Memory, F: FileSource, R: Source, W: Write>(
+fn in_section<'a, M: SetMemory, F: FileSource, R: Source, W: Destination>(
     memory: &M,
     words: &AddrWords<'a>,
     files: &F,
@@ -66,7 +67,7 @@ fn in_section<'a, M: Memory, F: FileSource, R: Source, W: Write>(
 }
 
 /// Says of each address that it has no answer, where the addresses can be had.
-fn unanswered<M: Memory, R: Source, W: Write>(
+fn unanswered<M: Memory, R: Source, W: Destination>(
     memory: &M,
     words: &AddrWords<'_>,
     understood: &AskedWords,
@@ -81,7 +82,7 @@ fn unanswered<M: Memory, R: Source, W: Write>(
 }
 
 /// Looks into the file at this path, an index or an ELF file.
-fn in_file<'a, M: Memory, F: FileSource, R: Source, W: Write>(
+fn in_file<'a, M: SetMemory, F: FileSource, R: Source, W: Destination>(
     memory: &M,
     words: &AddrWords<'a>,
     path: &'a str,
@@ -98,7 +99,16 @@ fn in_file<'a, M: Memory, F: FileSource, R: Source, W: Write>(
     }
     let understood = asked_words(memory, words)?;
     match open_either(files, path) {
-        Ok((file, true)) => in_index(memory, words, path, &file, &understood, files, input, output),
+        Ok((file, true)) => in_index(
+            memory,
+            words,
+            path,
+            &file,
+            &understood,
+            files,
+            input,
+            output,
+        ),
         Ok((file, false)) => in_elf_file(memory, words, path, &file, &understood, input, output),
         Err(fault) => {
             unanswered(memory, words, &understood, input, output);
@@ -123,7 +133,7 @@ fn in_file<'a, M: Memory, F: FileSource, R: Source, W: Write>(
 /// units that are whole, and `Damaged` tells of the others.
 ///
 /// The answer says whether each address has one, and names the first line of the input that is no address.
-pub fn locate<'a, M: Memory, F: FileSource, R: Source, W: Write>(
+pub fn locate<'a, M: SetMemory, F: FileSource, R: Source, W: Destination>(
     memory: &M,
     words: &AddrWords<'a>,
     files: &F,

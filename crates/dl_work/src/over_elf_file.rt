@@ -24,14 +24,14 @@ use dl_dirs::Directories;
 use dl_elf::ReadAt;
 use dl_input::Source;
 use dl_look::CodeRanges;
-use dl_making::Table;
-use dl_memory::Memory;
+use dl_making::{SetMemory, Table};
+use dl_memory::Held;
 use dl_open::{FileFault, FileStop};
+use dl_output::Destination;
 use dl_run::{RunFault, Survey};
-use std::io::Write;
 
 /// Looks into the ELF file at this path, which is open.
-pub fn in_elf_file<'a, M: Memory, S: ReadAt, R: Source, W: Write>(
+pub fn in_elf_file<'a, M: SetMemory, S: ReadAt, R: Source, W: Destination>(
     memory: &M,
     words: &AddrWords<'a>,
     path: &'a str,
@@ -85,7 +85,7 @@ pub fn in_elf_file<'a, M: Memory, S: ReadAt, R: Source, W: Write>(
 }
 
 /// Answers the addresses among the words, in one pass over the line table.
-fn given<'a, M: Memory, S: ReadAt, W: Write>(
+fn given<'a, M: SetMemory, S: ReadAt, W: Destination>(
     memory: &M,
     words: &AddrWords<'a>,
     path: &'a str,
@@ -123,7 +123,7 @@ fn given<'a, M: Memory, S: ReadAt, W: Write>(
 }
 
 /// Makes the index of the line table in memory, and answers from it the addresses on the input, as they come.
-fn by_index<'a, M: Memory, S: ReadAt, R: Source, W: Write>(
+fn by_index<'a, M: SetMemory, S: ReadAt, R: Source, W: Destination>(
     memory: &M,
     words: &AddrWords<'a>,
     path: &'a str,
@@ -141,7 +141,7 @@ fn by_index<'a, M: Memory, S: ReadAt, R: Source, W: Write>(
         (W.contents output.new) result)) }
 {
     let table = table_of(words, code, directories);
-    let mut index = Vec::new(memory.alloc());
+    let mut index = Held::new(memory);
     let units = units_of_file(words.units);
     let command = making(words, table);
     let answer = on_file(
@@ -160,7 +160,14 @@ fn by_index<'a, M: Memory, S: ReadAt, R: Source, W: Write>(
             fault: FileFault::NoMemory,
         });
     }
-    let answered = answer_made(memory, words, understood, index.as_slice(), input, output);
+    let answered = answer_made(
+        memory,
+        words,
+        understood,
+        index.bytes.as_slice(),
+        input,
+        output,
+    );
     located_after(path, answer, answered)
 }
 

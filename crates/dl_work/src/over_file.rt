@@ -11,16 +11,16 @@ ghost use Rattle.dl_work.specs.Tables.{OnFile, OnFound, OnLines, OnTable, RunsOn
 use crate::command::Command;
 use dl_elf::ReadAt;
 use dl_file::{LineFile, LineReader};
-use dl_memory::Memory;
+use dl_making::SetMemory;
 use dl_open::{
     FileFault, FileStop, FileUnits, Part, StringSections, file_dialect, kept_bytes, open_table,
     part_of,
 };
+use dl_output::Destination;
 use dl_run::{DamageSink, Options, SECTION_LIMIT, Survey};
-use std::io::Write;
 
 /// Works through the line section of the file at this path.
-fn on_section<'p, M: Memory, S: ReadAt, W: Write, D: DamageSink>(
+fn on_section<'p, M: SetMemory, S: ReadAt, W: Destination, D: DamageSink>(
     memory: &M,
     path: &'p str,
     command: Command<'_>,
@@ -30,9 +30,10 @@ fn on_section<'p, M: Memory, S: ReadAt, W: Write, D: DamageSink>(
     damages: &mut D,
 ) -> Result<Survey, FileStop<'p>>
     requires { options.now.limit ≡ SECTION_LIMIT }
-    ensures { (units : FileUnits) (t : LineTable) → GivesLine S.all_bytes line.old t.line → options.now.dialect ≡ file_dialect units t
+    ensures { (source : _) (units : FileUnits) (t : LineTable)
+        → GivesLine S.all_bytes S.fails_with (S.fails_with source) line.old t.line → options.now.dialect ≡ file_dialect units t
         → IsWhole t.line_str t.str (strings_in options.now) → D.hears damages.old damages.old []
-        → RunsOn (M.refuses memory.now) units path.entry.now command.entry t (W.contents output.old) (W.contents output.new)
+        → RunsOn (M.refuses memory.now) units (S.fails_with source) path.entry.now command.entry t (W.contents output.old) (W.contents output.new)
         (D.hears damages.old damages.new) result }
 {
     let stream = line.stream_name();
@@ -43,7 +44,7 @@ fn on_section<'p, M: Memory, S: ReadAt, W: Write, D: DamageSink>(
 }
 
 /// Works through what is left of the line section of the object file at this path.
-fn on_kept<'p, M: Memory, W: Write, D: DamageSink>(
+fn on_kept<'p, M: SetMemory, W: Destination, D: DamageSink>(
     memory: &M,
     path: &'p str,
     command: Command<'_>,
@@ -55,7 +56,7 @@ fn on_kept<'p, M: Memory, W: Write, D: DamageSink>(
     requires { options.now.limit ≡ SECTION_LIMIT }
     ensures { (units : FileUnits) (t : LineTable) → t.line ≡ Plain bytes.now → options.now.dialect ≡ file_dialect units t
         → IsWhole t.line_str t.str (strings_in options.now) → D.hears damages.old damages.old []
-        → RunsOn (M.refuses memory.now) units path.entry.now command.entry t (W.contents output.old) (W.contents output.new)
+        → RunsOn (M.refuses memory.now) units (λ error. ⊥) path.entry.now command.entry t (W.contents output.old) (W.contents output.new)
         (D.hears damages.old damages.new) result }
 {
     let mut input = bytes;
@@ -66,7 +67,7 @@ fn on_kept<'p, M: Memory, W: Write, D: DamageSink>(
 }
 
 /// Works through the line section of the file at this path, or through the sequences of a part of it.
-fn on_lines<'p, M: Memory, S: ReadAt, W: Write, D: DamageSink>(
+fn on_lines<'p, M: SetMemory, S: ReadAt, W: Destination, D: DamageSink>(
     memory: &M,
     path: &'p str,
     command: Command<'_>,
@@ -77,9 +78,10 @@ fn on_lines<'p, M: Memory, S: ReadAt, W: Write, D: DamageSink>(
     damages: &mut D,
 ) -> Result<Survey, FileStop<'p>>
     requires { options.now.limit ≡ SECTION_LIMIT }
-    ensures { (units : FileUnits) (t : LineTable) → GivesLine S.all_bytes line.old t.line → options.now.dialect ≡ file_dialect units t
+    ensures { (source : _) (units : FileUnits) (t : LineTable)
+        → GivesLine S.all_bytes S.fails_with (S.fails_with source) line.old t.line → options.now.dialect ≡ file_dialect units t
         → IsWhole t.line_str t.str (strings_in options.now) → D.hears damages.old damages.old []
-        → OnLines (M.refuses memory.now) units path.entry.now command.entry t (option_copied part.entry) (W.contents output.old)
+        → OnLines (M.refuses memory.now) units (S.fails_with source) path.entry.now command.entry t (option_copied part.entry) (W.contents output.old)
         (W.contents output.new) (D.hears damages.old damages.new) result }
 {
     let Some(part) = part else {
@@ -103,7 +105,7 @@ fn on_lines<'p, M: Memory, S: ReadAt, W: Write, D: DamageSink>(
 }
 
 /// Does what is asked of the line table of the file at this path, which is opened, or of a part of it.
-fn on_table<'p, M: Memory, S: ReadAt, W: Write, D: DamageSink>(
+fn on_table<'p, M: SetMemory, S: ReadAt, W: Destination, D: DamageSink>(
     memory: &M,
     path: &'p str,
     command: Command<'_>,
@@ -113,8 +115,9 @@ fn on_table<'p, M: Memory, S: ReadAt, W: Write, D: DamageSink>(
     output: &mut W,
     damages: &mut D,
 ) -> Result<Survey, FileStop<'p>>
-    ensures { (t : LineTable) → GivesTable S.all_bytes table.entry t → D.hears damages.old damages.old []
-        → OnTable (M.refuses memory.now) units path.entry.now command.entry t (option_copied part.entry) (W.contents output.old)
+    ensures { (source : _) (t : LineTable) → GivesTable S.all_bytes S.fails_with (S.fails_with source) table.entry t
+        → D.hears damages.old damages.old []
+        → OnTable (M.refuses memory.now) units (S.fails_with source) path.entry.now command.entry t (option_copied part.entry) (W.contents output.old)
         (W.contents output.new) (D.hears damages.old damages.new) result }
 {
     let LineFile {
@@ -148,7 +151,7 @@ fn on_table<'p, M: Memory, S: ReadAt, W: Write, D: DamageSink>(
 
 /// Does what is asked of the line table of the file at this path, whose table was found. Addresses are looked up in the
 /// section of this name.
-fn on_found<'p, M: Memory, S: ReadAt, W: Write, D: DamageSink>(
+fn on_found<'p, M: SetMemory, S: ReadAt, W: Destination, D: DamageSink>(
     memory: &M,
     path: &'p str,
     file: &S,
@@ -159,8 +162,8 @@ fn on_found<'p, M: Memory, S: ReadAt, W: Write, D: DamageSink>(
     output: &mut W,
     damages: &mut D,
 ) -> Result<Survey, FileStop<'p>>
-    ensures { ForBytes (S.all_bytes file.now) (λ f. (t : LineTable) → GivesTable S.all_bytes table.entry t
-        → D.hears damages.old damages.old [] → OnFound (M.refuses memory.now) units (S.fails_with file.now) path.entry.now
+    ensures { ForBytes (S.all_bytes file.now) (λ f. (t : LineTable)
+        → GivesTable S.all_bytes S.fails_with (S.fails_with file.now) table.entry t → D.hears damages.old damages.old [] → OnFound (M.refuses memory.now) units (S.fails_with file.now) path.entry.now
         (option_map (λ s. s.now) section.entry) command.entry f t (W.contents output.old) (W.contents output.new)
         (D.hears damages.old damages.new) result) }
 {
@@ -188,7 +191,7 @@ fn on_found<'p, M: Memory, S: ReadAt, W: Write, D: DamageSink>(
 /// Does what is asked of the line table of the file at this path, which is open. In an object file addresses are looked
 /// up in the section of this name, or where none is named in that of its code. Where the table can't be had, `addr`
 /// says of each address that it has no answer.
-pub fn on_file<'p, M: Memory, S: ReadAt, W: Write, D: DamageSink>(
+pub fn on_file<'p, M: SetMemory, S: ReadAt, W: Destination, D: DamageSink>(
     memory: &M,
     path: &'p str,
     file: &S,

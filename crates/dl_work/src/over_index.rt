@@ -10,6 +10,7 @@ ghost use Rattle.dl_open.specs.BuildIds.{IsBuildId};
 ghost use Rattle.dl_index.specs.IsIndex.{IsIndex};
 ghost use Rattle.dl_index_file.specs.Opening.{source_of};
 ghost use Rattle.dl_index_file.specs.Reading.{ReadFails};
+ghost use Rattle.dl_dialogue.specs.Faults.{BlamesWriter};
 ghost use Rattle.dl_work.specs.Answering.{AnswersAsked, located_by};
 ghost use Rattle.dl_work.specs.Indexing.{RefusesNaming};
 ghost use Rattle.dl_work.specs.OverIndex.{LocatesInIndex, MadeOf, OwnIdRefused, has_id, location_in};
@@ -28,13 +29,13 @@ use dl_input::Source;
 use dl_making::id_front;
 use dl_memory::Memory;
 use dl_open::{FileFault, FileSource, open_file};
-use std::io::Write;
+use dl_output::Destination;
 
 /// From how many addresses among the words on an index is read whole: each takes some fifteen reads of a few bytes.
 const FEW: usize = 64;
 
 /// Answers from the index at this path, which is open.
-pub fn in_index<'a, M: Memory, F: FileSource, S: ReadAt, R: Source, W: Write>(
+pub fn in_index<'a, M: Memory, F: FileSource, S: ReadAt, R: Source, W: Destination>(
     memory: &M,
     words: &AddrWords<'a>,
     path: &'a str,
@@ -72,7 +73,7 @@ fn are_few(understood: &AskedWords) -> bool {
 
 /// Answers from an index. Where many addresses are asked for, or they come on the input, it is read whole before, unless it is
 /// long or memory is refused for that.
-fn answer_from<M: Memory, S: ReadAt, R: Source, W: Write>(
+fn answer_from<M: Memory, S: ReadAt, R: Source, W: Destination>(
     memory: &M,
     words: &AddrWords<'_>,
     understood: &AskedWords,
@@ -80,11 +81,12 @@ fn answer_from<M: Memory, S: ReadAt, R: Source, W: Write>(
     input: &mut R,
     output: &mut W,
 ) -> Result<Answered, AnswerFault>
-    ensures { (bytes : List ℕ) × Consumes (R.remaining input.old) (R.remaining input.new) bytes
+    ensures answers { (bytes : List ℕ) × Consumes (R.remaining input.old) (R.remaining input.new) bytes
         × (IsUnderstood (addr_words_made words.now) understood.now → ForBytes (S.all_bytes (source_of index.now))
         (λ b. IsIndex b → AnswersAsked (M.refuses memory.now) (addr_words_made words.now) (location_in b)
         (ReadFails (Some b) (S.fails_with (source_of index.now))) bytes (R.remaining input.new) (W.contents output.old)
         (W.contents output.new) result)) }
+    ensures blames_writer { BlamesWriter W.fails result }
 {
     if !are_few(understood) {
         if let Some(bytes) = index.whole(memory) {

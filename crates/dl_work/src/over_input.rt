@@ -3,6 +3,7 @@ ghost use Rattle.std.specs.Prelude.{◌≡◌, ℕ, List, []};
 ghost use Rattle.std.specs.Io.KnownBytes.{Consumes};
 ghost use Rattle.dl_input.specs.Failing.{Blames};
 ghost use Rattle.dl_open.specs.Files.{FilesStop};
+ghost use Rattle.dl_work.specs.Blaming.{BlamesWriter};
 ghost use Rattle.dl_work.specs.Held.{section_seen};
 ghost use Rattle.dl_work.specs.Work.{OnInput, stopped};
 
@@ -11,11 +12,11 @@ use crate::stop::Stop;
 use crate::unit_words::older_by;
 use dl_head::Dialect;
 use dl_input::Source;
-use dl_memory::Memory;
+use dl_making::SetMemory;
 use dl_num::Order;
 use dl_open::{FileSource, StringSections};
+use dl_output::Destination;
 use dl_run::{DamageSink, RunFault, Survey};
-use std::io::Write;
 
 /// What the words say of a section on the input.
 #[derive(Clone, Copy)]
@@ -55,7 +56,7 @@ fn stopped<'a>(answer: Result<Survey, RunFault>) -> Result<Survey, Stop<'a>>
 }
 
 /// Does what is asked of the section on the input. The string sections are read first.
-pub fn on_input<'p, M: Memory, F: FileSource, R: Source, W: Write, D: DamageSink>(
+pub fn on_input<'p, M: SetMemory, F: FileSource, R: Source, W: Destination, D: DamageSink>(
     memory: &M,
     files: &F,
     section: Section<'_>,
@@ -72,6 +73,7 @@ pub fn on_input<'p, M: Memory, F: FileSource, R: Source, W: Write, D: DamageSink
         × (result ≡ Err (Stop.Run RunFault.Read))
         × ¬ FilesStop (F.held files.now) (section_seen section.entry).line_str (section_seen section.entry).strings
         RunFault.Read) }
+    ensures blames_writer { D.hears damages.old damages.old [] → BlamesWriter W.fails result }
 {
     match StringSections::of_files(memory.alloc(), files, section.line_str, section.strings) {
         Ok(strings) => {

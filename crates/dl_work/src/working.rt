@@ -17,10 +17,10 @@ use crate::stop::{Stop, over_file};
 use crate::unit_words::file_units;
 use dl_cmd::Job;
 use dl_input::Source;
-use dl_memory::Memory;
+use dl_making::SetMemory;
 use dl_open::{FileSource, FileStop, FileUnits, open_file};
+use dl_output::Destination;
 use dl_run::{DamageSink, Survey};
-use std::io::Write;
 
 /// The path of the ELF file that a job names.
 fn file<'a>(job: &Job<'a>) -> Option<&'a str>
@@ -106,7 +106,7 @@ fn section<'a>(job: &Job<'a>) -> Section<'a>
 }
 
 /// Does what is asked of the line table of the file at this path. Addresses are looked up in the section of this name.
-fn on_named<'p, M: Memory, F: FileSource, W: Write, D: DamageSink>(
+fn on_named<'p, M: SetMemory, F: FileSource, W: Destination, D: DamageSink>(
     memory: &M,
     files: &F,
     path: &'p str,
@@ -121,7 +121,9 @@ fn on_named<'p, M: Memory, F: FileSource, W: Write, D: DamageSink>(
         (W.contents output.old) (W.contents output.new) (D.hears damages.old damages.new) result) }
 {
     match open_file(files, path) {
-        Ok(file) => on_file(memory, path, &file, units, section, command, output, damages),
+        Ok(file) => on_file(
+            memory, path, &file, units, section, command, output, damages,
+        ),
         Err(fault) => {
             command.without_table(memory, output);
             Err(FileStop::File { path, fault })
@@ -140,7 +142,7 @@ fn on_named<'p, M: Memory, F: FileSource, W: Write, D: DamageSink>(
 /// `NotUnderstood` where there is no job, ADDRESS is no address, a size is no size, a section of an object file is named without a file,
 /// or the job is `addr`, which is that of `locate`, or `index`, which is that of `index`; then, and at each fault before the command, nothing is
 /// written. Of the input nothing is read then, nor where a file is named.
-pub fn work<'a, M: Memory, F: FileSource, R: Source, W: Write, D: DamageSink>(
+pub fn work<'a, M: SetMemory, F: FileSource, R: Source, W: Destination, D: DamageSink>(
     memory: &M,
     job: Option<Job<'a>>,
     files: &F,
@@ -172,6 +174,14 @@ pub fn work<'a, M: Memory, F: FileSource, R: Source, W: Write, D: DamageSink>(
             output,
             damages,
         )),
-        None => on_input(memory, files, section(&job), command, input, output, damages),
+        None => on_input(
+            memory,
+            files,
+            section(&job),
+            command,
+            input,
+            output,
+            damages,
+        ),
     }
 }

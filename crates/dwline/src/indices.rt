@@ -19,7 +19,12 @@ const OUTPUT: &str = "-";
 pub fn write_index<'a>(rt: &HostRuntime, words: &IndexWords<'a>) -> Result<Survey, Ending<'a>> {
     let files = SystemFiles { rt };
     match words.output {
-        Some(path) if path == OUTPUT => Ok(index(&System::new(rt.alloc()), words, &files, &mut rt.stdout())?),
+        Some(path) if path == OUTPUT => Ok(index(
+            &System::new(rt.alloc()),
+            words,
+            &files,
+            &mut rt.stdout(),
+        )?),
         Some(path) if is_special(rt, path) => write_into(rt, words, path),
         Some(path) => write_beside(rt, words, path),
         None => Err(Ending::Stop(Stop::NotUnderstood)),
@@ -41,7 +46,12 @@ fn write_into<'a>(
     path: &'a str,
 ) -> Result<Survey, Ending<'a>> {
     match OpenOptions::new().write(true).open(rt, path) {
-        Ok(mut file) => Ok(index(&System::new(rt.alloc()), words, &SystemFiles { rt }, &mut file)?),
+        Ok(mut file) => Ok(index(
+            &System::new(rt.alloc()),
+            words,
+            &SystemFiles { rt },
+            &mut file,
+        )?),
         Err(error) => Err(Ending::NotWritten { path, error }),
     }
 }
@@ -58,7 +68,12 @@ fn write_beside<'a>(
         Ok(file) => file,
         Err(error) => return Err(Ending::NotWritten { path, error }),
     };
-    match index(&System::new(rt.alloc()), words, &SystemFiles { rt }, &mut file) {
+    match index(
+        &System::new(rt.alloc()),
+        words,
+        &SystemFiles { rt },
+        &mut file,
+    ) {
         Ok(survey) => match fs::rename(rt, part.as_str(), path) {
             Ok(()) => Ok(survey),
             Err(error) => Err(Ending::NotWritten { path, error }),

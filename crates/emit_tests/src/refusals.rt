@@ -39,13 +39,7 @@ fn header_with(rt: &impl Abort, alloc: Global, numbers: [u8; 3]) -> Header {
 }
 
 /// Begins a unit with this header, and adds these rows one by one.
-fn begin(
-    rt: &impl Abort,
-    memory: &System,
-    program: &mut Program,
-    head: &Header,
-    rows: &[Row],
-) {
+fn begin(rt: &impl Abort, memory: &System, program: &mut Program, head: &Header, rows: &[Row]) {
     program.begin(head);
     for row in rows {
         program.push(memory, row).expect(rt, "memory");
@@ -79,15 +73,7 @@ fn assert_refused_anew(
 ) {
     let output = &mut Sink::new(alloc, 1000, 7);
     let program = &mut Program::new(alloc, Order::Little);
-    assert_refused(
-        rt,
-        &System::new(alloc),
-        output,
-        program,
-        head,
-        rows,
-        fault,
-    );
+    assert_refused(rt, &System::new(alloc), output, program, head, rows, fault);
 }
 
 /// A row is refused for opcode_base 10, whatever its op_index.
@@ -154,7 +140,13 @@ fn assert_begins_anew(
     program: &mut Program,
     head: &Header,
 ) {
-    begin(rt, memory, program, head, &[row(1 << 32, 0, 1), row(0, 0, 1)]);
+    begin(
+        rt,
+        memory,
+        program,
+        head,
+        &[row(1 << 32, 0, 1), row(0, 0, 1)],
+    );
     assert!(rt; program.write_header(output, head) == Err(EmitFault::RowRange(0)));
     begin(rt, memory, program, head, &[row(4, 0, 2)]);
     append_unit(rt, program, head, output);

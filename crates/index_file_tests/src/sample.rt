@@ -16,7 +16,7 @@ pub const BASE: u64 = 0x40_1000;
 const TEXTS: &[&[u8]] = &[b"/src/", b"a.c", b"lib", b"/", b"b.h"];
 
 /// The files, each with the offset of its unit and its texts.
-const FILES: &[(u64, [u32; 3])] = &[(0x40, [1, 2, 0]), (0x40, [1, 3, 5]), (0x140, [0, 0, 0])];
+const FILES: &[(u64, [u64; 3])] = &[(0x40, [1, 2, 0]), (0x40, [1, 3, 5]), (0x140, [0, 0, 0])];
 
 /// The names of the files.
 fn names(alloc: Global) -> Result<Names, NoMemory> {
@@ -62,5 +62,11 @@ fn stretches(alloc: Global, count: u32) -> Result<Vec<Stretch>, NoMemory> {
 pub fn index(alloc: Global, count: u32) -> Result<Vec<u8>, PackFault> {
     let names = names(alloc)?;
     let stretches = stretches(alloc, count)?;
-    index_bytes(alloc, &stretches.as_slice(), &names, true, BUILD_ID)
+    index_bytes(
+        &System::new(alloc),
+        &stretches.as_slice(),
+        &names,
+        true,
+        BUILD_ID,
+    )
 }

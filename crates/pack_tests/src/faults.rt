@@ -1,6 +1,7 @@
 //! Indices that aren't made.
 
 use crate::sample::{STRETCHES, names};
+use dl_memory::System;
 use dl_pack::{Names, PackFault, index_bytes};
 use std::alloc::Global;
 use std::test::Fail;
@@ -8,7 +9,7 @@ use test_support::{hoard_but, hoard_most};
 
 /// Why no index is made of the stretches with these names.
 fn fault(alloc: Global, names: &Names, build_id: &[u8]) -> Option<PackFault> {
-    match index_bytes(alloc, &STRETCHES, names, false, build_id) {
+    match index_bytes(&System::new(alloc), &STRETCHES, names, false, build_id) {
         Ok(_) => None,
         Err(fault) => Some(fault),
     }

@@ -5,7 +5,7 @@ use dl_pack::Names;
 use dl_stretch::{Stretch, Told};
 
 /// Whether this is the text of a number; none for a number of no text.
-fn is_text(names: &Names, number: u32, text: Option<&[u8]>) -> bool {
+fn is_text(names: &Names, number: u64, text: Option<&[u8]>) -> bool {
     match names.text(number) {
         Some(named) => match text {
             Some(text) => text == named,
@@ -16,7 +16,7 @@ fn is_text(names: &Names, number: u32, text: Option<&[u8]>) -> bool {
 }
 
 /// Whether these are the texts of a file's three numbers.
-fn are_texts(names: &Names, numbers: [u32; 3], texts: &PathTexts<'_>) -> bool {
+fn are_texts(names: &Names, numbers: [u64; 3], texts: &PathTexts<'_>) -> bool {
     is_text(names, numbers[0], texts.first)
         && is_text(names, numbers[1], texts.second)
         && is_text(names, numbers[2], texts.third)

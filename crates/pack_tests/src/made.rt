@@ -3,6 +3,7 @@
 use crate::listed::lists;
 use crate::sample::{BUILD_ID, EMPTY, INDEX, STRETCHES, has_file_numbers, has_numbers, names};
 use dl_index::{IndexFault, IndexPart, IndexRef, open};
+use dl_memory::System;
 use dl_pack::{Names, index_bytes};
 use dl_stretch::{Stretch, Told};
 use std::test::Fail;
@@ -26,7 +27,7 @@ fn is_listed(bytes: &[u8], names: &Names, stretches: &[Stretch]) -> bool {
 #[test]
 fn the_worked_index(rt: HostRuntime) -> Result<(), Fail> {
     let names = names(rt.alloc())?;
-    let bytes = index_bytes(rt.alloc(), &STRETCHES, &names, true, BUILD_ID)?;
+    let bytes = index_bytes(&System::new(rt.alloc()), &STRETCHES, &names, true, BUILD_ID)?;
     assert!(rt; bytes.as_slice() == INDEX.as_slice());
     assert!(rt; is_listed(bytes.as_slice(), &names, STRETCHES));
     Ok(())
@@ -38,7 +39,7 @@ const NONE: &[Stretch] = &[];
 #[test]
 fn the_index_of_nothing(rt: HostRuntime) -> Result<(), Fail> {
     let names = Names::new(rt.alloc());
-    let bytes = index_bytes(rt.alloc(), &NONE, &names, false, &[])?;
+    let bytes = index_bytes(&System::new(rt.alloc()), &NONE, &names, false, &[])?;
     assert!(rt; bytes.as_slice() == EMPTY.as_slice());
     assert!(rt; is_listed(bytes.as_slice(), &names, NONE));
     Ok(())
@@ -71,7 +72,7 @@ const LAST: &[Stretch] = &[
 #[test]
 fn the_last_address(rt: HostRuntime) -> Result<(), Fail> {
     let names = names(rt.alloc())?;
-    let bytes = index_bytes(rt.alloc(), &LAST, &names, false, &[7; 32])?;
+    let bytes = index_bytes(&System::new(rt.alloc()), &LAST, &names, false, &[7; 32])?;
     assert!(rt; is_listed(bytes.as_slice(), &names, LAST));
     Ok(())
 }
@@ -91,7 +92,7 @@ const EQUAL: &[Stretch] = &[
 #[test]
 fn stretches_that_do_not_rise(rt: HostRuntime) -> Result<(), Fail> {
     let names = Names::new(rt.alloc());
-    let bytes = index_bytes(rt.alloc(), &EQUAL, &names, false, &[])?;
+    let bytes = index_bytes(&System::new(rt.alloc()), &EQUAL, &names, false, &[])?;
     let is_refused = match open(bytes.as_slice()) {
         Ok(_) => false,
         Err(fault) => fault == IndexFault::Damaged(IndexPart::Order),

@@ -149,7 +149,7 @@ pub const STRETCHES: &[Stretch] = &[
 const TEXTS: &[&[u8]] = &[b"/never", b"/src/", b"a.c", b"lib", b"/", b"b.h", b"/never"];
 
 /// The files, each with the offset of its unit and its texts. The first is told of no stretch.
-const FILES: &[(u64, [u32; 3])] = &[
+const FILES: &[(u64, [u64; 3])] = &[
     (7, [1, 3, 0]),
     (0x40, [2, 3, 0]),
     (0x40, [2, 4, 6]),
@@ -179,7 +179,7 @@ fn add_texts(memory: &System, names: &mut Names) -> Result<(), NoMemory> {
 pub fn has_numbers(alloc: Global) -> Result<bool, NoMemory> {
     let memory = System::new(alloc);
     let mut names = Names::new(alloc);
-    let mut wanted = 1u32;
+    let mut wanted = 1u64;
     for text in TEXTS {
         let number = names.add_text(&memory, text)?;
         if number != wanted {

@@ -1,5 +1,6 @@
 //! Writers that are short, are interrupted, fail or take nothing.
 use crate::fault::{Fault, Plan};
+use dl_output::Destination;
 use std::alloc::Global;
 use std::io;
 use std::io::{ErrorKind, Write};
@@ -56,5 +57,11 @@ impl Write for Sink {
 
     fn flush(&mut self) -> io::Result<()> {
         Ok(())
+    }
+}
+
+impl Destination for Sink {
+    fn write_next(&mut self, bytes: &[u8]) -> io::Result<usize> {
+        self.write(bytes)
     }
 }

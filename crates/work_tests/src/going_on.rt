@@ -120,7 +120,14 @@ fn told<'a>(
     let mut room = output;
     let mut damages = DamageLines::new(errors);
     let job = Some(job_of(checks));
-    let survey = work(&System::new(alloc), job, &shelf, &mut input, &mut room, &mut damages)?;
+    let survey = work(
+        &System::new(alloc),
+        job,
+        &shelf,
+        &mut input,
+        &mut room,
+        &mut damages,
+    )?;
     let damaged = survey
         .damaged
         .map_or(0, |units| units.others.saturating_add(1));

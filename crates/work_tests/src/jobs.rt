@@ -88,7 +88,14 @@ pub fn told(
     let job = Some(job_of(command));
     let nothing: &mut [u8] = &mut [];
     let mut damages = DamageLines::new(nothing);
-    let (status, left) = match work(&System::new(alloc), job, shelf, &mut input, &mut room, &mut damages) {
+    let (status, left) = match work(
+        &System::new(alloc),
+        job,
+        shelf,
+        &mut input,
+        &mut room,
+        &mut damages,
+    ) {
         Ok(_) => (0, errors.len()),
         Err(stop) => told_of_stop(shelf, stop, errors),
     };

@@ -2,17 +2,17 @@
 ghost use Rattle.std.specs.Prelude.{◌≤◌, length};
 ghost use Rattle.dl_table.specs.EntryHeld.{entry_items};
 ghost use Rattle.dl_print.specs.HeaderText.{entry_line, file_text, header_text, table_text};
-ghost use Rattle.dl_print.specs.Output.{Prints};
+ghost use Rattle.dl_print.specs.Output.{BlamesWriter, Prints};
 ghost use Rattle.dl_print.specs.ValueText.{strings_of};
 
 use super::{Printer, StringSections};
 use crate::fault::WriteFault;
 use dl_head::{Entry, Header, Table};
-use std::io::Write;
+use dl_output::Destination;
 
 impl Printer {
     /// Prints the line of an entry of a table: its name, its number and its values.
-    fn entry<W: Write>(
+    fn entry<W: Destination>(
         &mut self,
         output: &mut W,
         strings: &StringSections<'_>,
@@ -23,6 +23,7 @@ impl Printer {
         requires short { length name.now ≤ 16 }
         ensures printed { Prints (W.contents output.old) (W.contents output.new) self.old self.new
             (entry_line (strings_of strings.now) name.now number (entry_items entry.entry)) result }
+        ensures blames { BlamesWriter W.fails result }
     {
         self.number(output, name, number)?;
         for (content, value) in entry.values() {
@@ -32,7 +33,7 @@ impl Printer {
     }
 
     /// Prints a line for each entry of a table, whose numbers begin with `first`.
-    fn table<W: Write>(
+    fn table<W: Destination>(
         &mut self,
         output: &mut W,
         strings: &StringSections<'_>,
@@ -44,6 +45,7 @@ impl Printer {
         requires least { first ≤ 1 }
         ensures printed { Prints (W.contents output.old) (W.contents output.new) self.old self.new
             (table_text (strings_of strings.now) name.now first table.now) result }
+        ensures blames { BlamesWriter W.fails result }
     {
         for i in 0..table.len() {
             if let Some(entry) = table.entry(i) {
@@ -54,7 +56,7 @@ impl Printer {
     }
 
     /// Prints the lines of a header whose unit begins at `offset` of its section.
-    pub fn header<W: Write>(
+    pub fn header<W: Destination>(
         &mut self,
         output: &mut W,
         strings: &StringSections<'_>,
@@ -63,6 +65,7 @@ impl Printer {
     ) -> Result<(), WriteFault>
         ensures printed { Prints (W.contents output.old) (W.contents output.new) self.old self.new
             (header_text (strings_of strings.now) offset header.now) result }
+        ensures blames { BlamesWriter W.fails result }
     {
         let params = header.params();
         let first = header.first_number();
@@ -72,7 +75,7 @@ impl Printer {
     }
 
     /// Prints the line of the file of this number, or that there is none.
-    pub fn file<W: Write>(
+    pub fn file<W: Destination>(
         &mut self,
         output: &mut W,
         strings: &StringSections<'_>,
@@ -81,6 +84,7 @@ impl Printer {
     ) -> Result<(), WriteFault>
         ensures printed { Prints (W.contents output.old) (W.contents output.new) self.old self.new
             (file_text (strings_of strings.now) header.now file) result }
+        ensures blames { BlamesWriter W.fails result }
     {
         match header.file(file) {
             Some(entry) => self.entry(output, strings, b"file ", file, entry),

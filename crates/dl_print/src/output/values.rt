@@ -2,7 +2,7 @@
 ghost use Rattle.std.specs.Prelude.{◌≡◌, ◌+◌, ◌*◌, ◌^◌, ◌<◌, ◌≤◌, ◌++◌, length, flat_map, OnOk, codes, decimal};
 ghost use Rattle.std.specs.Option.{option_copied};
 ghost use Rattle.dl_print.specs.Digits.{hexadecimal, hexadecimal_bytes, hexadecimal_of};
-ghost use Rattle.dl_print.specs.Output.{Prints, printed_len};
+ghost use Rattle.dl_print.specs.Output.{BlamesWriter, Prints, printed_len};
 ghost use Rattle.dl_table.specs.Held.{value_lent};
 ghost use Rattle.dl_print.specs.Spellings.{spelled};
 ghost use Rattle.dl_print.specs.ValueText.{quoted, quoted_bytes, offset_text, quoted_or_offset};
@@ -16,7 +16,7 @@ use crate::text::{
     write_quoted_bytes, write_value_start,
 };
 use dl_head::ValueRef;
-use std::io::Write;
+use dl_output::Destination;
 
 /// How many bytes of a value are printed in one go.
 const PART: usize = 64;
@@ -32,10 +32,15 @@ enum Spelling {
 
 impl Printer {
     /// Prints two digits for each of a few bytes.
-    fn hexadecimal_part<W: Write>(&mut self, output: &mut W, bytes: &[u8]) -> Result<(), WriteFault>
+    fn hexadecimal_part<W: Destination>(
+        &mut self,
+        output: &mut W,
+        bytes: &[u8],
+    ) -> Result<(), WriteFault>
         requires short { length bytes.now ≤ 64 }
         ensures printed { Prints (W.contents output.old) (W.contents output.new)
             self.old self.new (hexadecimal_bytes bytes.now) result }
+        ensures blames { BlamesWriter W.fails result }
     {
         self.make_room(output)?;
         self.held = write_hexadecimal_bytes(&mut self.buffer, self.held, bytes);
@@ -43,16 +48,17 @@ impl Printer {
     }
 
     /// Prints the bytes of a block.
-    fn block<W: Write>(&mut self, output: &mut W, bytes: &[u8]) -> Result<(), WriteFault>
+    fn block<W: Destination>(&mut self, output: &mut W, bytes: &[u8]) -> Result<(), WriteFault>
         ensures printed { Prints (W.contents output.old) (W.contents output.new)
             self.old self.new (codes "block:" ++ hexadecimal_bytes bytes.now) result }
+        ensures blames { BlamesWriter W.fails result }
     {
         self.put(output, b"block:")?;
         self.spelled(output, Spelling::Digits, bytes)
     }
 
     /// Prints a name, of at most 16 bytes, and after it a number in decimal.
-    pub fn number<W: Write>(
+    pub fn number<W: Destination>(
         &mut self,
         output: &mut W,
         name: &[u8],
@@ -61,6 +67,7 @@ impl Printer {
         requires short { length name.now ≤ 16 }
         ensures printed { Prints (W.contents output.old) (W.contents output.new)
             self.old self.new (name.now ++ decimal number) result }
+        ensures blames { BlamesWriter W.fails result }
     {
         self.make_room(output)?;
         self.held = write_number(&mut self.buffer, self.held, name, number);
@@ -68,7 +75,7 @@ impl Printer {
     }
 
     /// Prints a name, of at most 16 bytes, and after it a number in hexadecimal without leading zeros.
-    pub fn hexadecimal_number<W: Write>(
+    pub fn hexadecimal_number<W: Destination>(
         &mut self,
         output: &mut W,
         name: &[u8],
@@ -77,6 +84,7 @@ impl Printer {
         requires short { length name.now ≤ 16 }
         ensures printed { Prints (W.contents output.old) (W.contents output.new)
             self.old self.new (name.now ++ hexadecimal number) result }
+        ensures blames { BlamesWriter W.fails result }
     {
         self.make_room(output)?;
         self.held = write_hexadecimal_number(&mut self.buffer, self.held, name, number);
@@ -84,9 +92,14 @@ impl Printer {
     }
 
     /// Prints an address in sixteen hexadecimal digits after `0x`.
-    pub fn address<W: Write>(&mut self, output: &mut W, address: u64) -> Result<(), WriteFault>
+    pub fn address<W: Destination>(
+        &mut self,
+        output: &mut W,
+        address: u64,
+    ) -> Result<(), WriteFault>
         ensures printed { Prints (W.contents output.old) (W.contents output.new)
             self.old self.new (codes "0x" ++ hexadecimal_of 16 address) result }
+        ensures blames { BlamesWriter W.fails result }
     {
         self.make_room(output)?;
         self.held = write_address(&mut self.buffer, self.held, address);
@@ -94,10 +107,15 @@ impl Printer {
     }
 
     /// Prints a few bytes as they stand between quotes.
-    fn quoted_part<W: Write>(&mut self, output: &mut W, bytes: &[u8]) -> Result<(), WriteFault>
+    fn quoted_part<W: Destination>(
+        &mut self,
+        output: &mut W,
+        bytes: &[u8],
+    ) -> Result<(), WriteFault>
         requires short { length bytes.now ≤ 64 }
         ensures printed { Prints (W.contents output.old) (W.contents output.new)
             self.old self.new (quoted_bytes bytes.now) result }
+        ensures blames { BlamesWriter W.fails result }
     {
         self.make_room(output)?;
         self.held = write_quoted_bytes(&mut self.buffer, self.held, bytes);
@@ -105,7 +123,7 @@ impl Printer {
     }
 
     /// Prints a few bytes, spelled so.
-    fn spelled_part<W: Write>(
+    fn spelled_part<W: Destination>(
         &mut self,
         output: &mut W,
         spelling: Spelling,
@@ -114,6 +132,7 @@ impl Printer {
         requires short { length bytes.now ≤ 64 }
         ensures printed { Prints (W.contents output.old) (W.contents output.new)
             self.old self.new (flat_map (spelled spelling) bytes.now) result }
+        ensures blames { BlamesWriter W.fails result }
     {
         match spelling {
             Spelling::Digits => self.hexadecimal_part(output, bytes),
@@ -122,7 +141,7 @@ impl Printer {
     }
 
     /// Prints bytes, spelled so.
-    fn spelled<W: Write>(
+    fn spelled<W: Destination>(
         &mut self,
         output: &mut W,
         spelling: Spelling,
@@ -130,6 +149,7 @@ impl Printer {
     ) -> Result<(), WriteFault>
         ensures printed { Prints (W.contents output.old) (W.contents output.new)
             self.old self.new (flat_map (spelled spelling) bytes.now) result }
+        ensures blames { BlamesWriter W.fails result }
     {
         let mut done = 0;
         while done < bytes.len() {
@@ -141,9 +161,10 @@ impl Printer {
     }
 
     /// Prints a text in quotes.
-    fn quoted<W: Write>(&mut self, output: &mut W, text: &[u8]) -> Result<(), WriteFault>
+    fn quoted<W: Destination>(&mut self, output: &mut W, text: &[u8]) -> Result<(), WriteFault>
         ensures printed { Prints (W.contents output.old) (W.contents output.new)
             self.old self.new (quoted text.now) result }
+        ensures blames { BlamesWriter W.fails result }
     {
         self.put(output, b"\"")?;
         self.spelled(output, Spelling::Quoted, text)?;
@@ -151,7 +172,7 @@ impl Printer {
     }
 
     /// Prints an offset into a section, after the name of its form.
-    fn offset<W: Write>(
+    fn offset<W: Destination>(
         &mut self,
         output: &mut W,
         name: &[u8],
@@ -160,6 +181,7 @@ impl Printer {
         requires short { length name.now ≤ 16 }
         ensures printed { Prints (W.contents output.old) (W.contents output.new)
             self.old self.new (offset_text name.now offset) result }
+        ensures blames { BlamesWriter W.fails result }
     {
         self.make_room(output)?;
         self.held = write_offset(&mut self.buffer, self.held, name, offset);
@@ -167,7 +189,7 @@ impl Printer {
     }
 
     /// Prints the text at an offset of a section, or the offset where there is none.
-    fn string<W: Write>(
+    fn string<W: Destination>(
         &mut self,
         output: &mut W,
         name: &[u8],
@@ -178,6 +200,7 @@ impl Printer {
         ensures printed { Prints (W.contents output.old) (W.contents output.new) self.old self.new
             (quoted_or_offset name.now offset
             (text_in_section (option_copied section.entry) offset)) result }
+        ensures blames { BlamesWriter W.fails result }
     {
         match text_in_section(section, offset) {
             Some(text) => self.quoted(output, text),
@@ -186,7 +209,7 @@ impl Printer {
     }
 
     /// Prints a value. Texts are looked up in the string sections.
-    fn value<W: Write>(
+    fn value<W: Destination>(
         &mut self,
         output: &mut W,
         strings: &StringSections<'_>,
@@ -194,6 +217,7 @@ impl Printer {
     ) -> Result<(), WriteFault>
         ensures printed { Prints (W.contents output.old) (W.contents output.new) self.old self.new
             (value_text (strings_of strings.now) (value_lent value.entry)) result }
+        ensures blames { BlamesWriter W.fails result }
     {
         match value {
             ValueRef::Text(text) => self.quoted(output, text),
@@ -209,7 +233,7 @@ impl Printer {
     }
 
     /// Prints a value after the name of its content code.
-    pub fn named_value<W: Write>(
+    pub fn named_value<W: Destination>(
         &mut self,
         output: &mut W,
         strings: &StringSections<'_>,
@@ -218,15 +242,21 @@ impl Printer {
     ) -> Result<(), WriteFault>
         ensures printed { Prints (W.contents output.old) (W.contents output.new) self.old self.new
             (named_value (strings_of strings.now) content (value_lent value.entry)) result }
+        ensures blames { BlamesWriter W.fails result }
     {
         self.value_start(output, content)?;
         self.value(output, strings, value)
     }
 
     /// Prints what stands before a value of that content code.
-    fn value_start<W: Write>(&mut self, output: &mut W, content: u64) -> Result<(), WriteFault>
+    fn value_start<W: Destination>(
+        &mut self,
+        output: &mut W,
+        content: u64,
+    ) -> Result<(), WriteFault>
         ensures printed { Prints (W.contents output.old) (W.contents output.new) self.old self.new
             (codes " " ++ content_name content ++ codes "=") result }
+        ensures blames { BlamesWriter W.fails result }
     {
         self.make_room(output)?;
         self.held = write_value_start(&mut self.buffer, self.held, content);

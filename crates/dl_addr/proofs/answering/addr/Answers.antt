@@ -6,7 +6,7 @@ use Rattle.dl_addr.specs.Commands.{Locates}
 use Rattle.dl_addr.specs.Knowing.{Knows}
 use Rattle.dl_addr.proofs.AnsweringLemmas.{is_told}
 use Rattle.dl_run.proofs.BlameLemmas.{blames_where}
-use Rattle.dl_addr.proofs.BlameLemmas.{never_read, told_read}
+use Rattle.dl_addr.proofs.BlameLemmas.{never_read, told_read, told_writer}
 use Rattle.dl_addr.proofs.answering.addr.Goals as goal
 
 pub returns-clause-ran : goal.returns-clause-ran
@@ -27,7 +27,7 @@ returns-clause-ran g c =
     let locates = is_told options.dialect q s first knows options.limit read.0 left new start mid
     c.in-Ok.ensures.made (refuses c.args.memory.now) (λ memory. WasRefused (refuses memory))
     (subst (λ memory. WasRefused (refuses memory)) c.in-Ok.ensures.memory) now c.read_units-ended.result c.print_all-printed.result ran
-    (λ visits stands. c.print_all-printed.ensures first start mid visits stands c.in-Ok.ensures.made) in (
+    (λ visits stands. c.print_all-printed.ensures.printed first start mid visits stands c.in-Ok.ensures.made) in (
       read.0,
       read.1,
       subst (Locates (refuses c.args.memory.now) options.dialect s q options.limit read.0 left start now)
@@ -45,3 +45,9 @@ returns-clause-blames g c =
       },
       told_read c.read_units-ended.result c.print_all-printed.result (sym c.told.ensures ∙ e),
     ))
+
+pub returns-clause-blames_writer : goal.returns-clause-blames_writer
+returns-clause-blames_writer g c =
+    rw c.told.ensures (told_writer _ c.read_units-ended.result c.print_all-printed.result
+    (c.read_units-ended.ensures.blames_writer (c.in-Ok.ensures.begins (g.W.Write.contents c.args.output.now)) (Appends-nil _))
+    c.print_all-printed.ensures.blames_writer)

@@ -5,7 +5,7 @@ use Rattle.dl_run.specs.Commands.{strings_in}
 use Rattle.dl_addr.specs.Knowing.{Knows}
 use Rattle.dl_addr.proofs.AroundAnswers.{is_told_around}
 use Rattle.dl_run.proofs.BlameLemmas.{blames_where}
-use Rattle.dl_addr.proofs.BlameLemmas.{never_read, told_around_read}
+use Rattle.dl_addr.proofs.BlameLemmas.{never_read, told_around_read, told_around_writer}
 use Rattle.dl_addr.proofs.answering.addr_around.Goals as goal
 
 pub returns-clause-ran : goal.returns-clause-ran
@@ -26,7 +26,7 @@ returns-clause-ran g c =
     let locates = is_told_around options.dialect q s first knows options.limit read.0 left new start mid
     c.in-Ok.ensures.made (refuses c.args.memory.now) (λ memory. WasRefused (refuses memory))
     (subst (λ memory. WasRefused (refuses memory)) c.in-Ok.ensures.memory) now c.read_units_around-ended.result c.print_all-printed.result ran
-    (λ visits stands. c.print_all-printed.ensures first start mid visits stands c.in-Ok.ensures.made) in (
+    (λ visits stands. c.print_all-printed.ensures.printed first start mid visits stands c.in-Ok.ensures.made) in (
       read.0,
       read.1,
       rw c.told_around.ensures locates,
@@ -43,3 +43,9 @@ returns-clause-blames g c =
       },
       told_around_read c.read_units_around-ended.result c.print_all-printed.result (sym c.told_around.ensures ∙ e),
     ))
+
+pub returns-clause-blames_writer : goal.returns-clause-blames_writer
+returns-clause-blames_writer g c =
+    rw c.told_around.ensures (told_around_writer _ c.read_units_around-ended.result c.print_all-printed.result
+    (c.read_units_around-ended.ensures.blames_writer (c.in-Ok.ensures.begins (g.W.Write.contents c.args.output.now)) (Appends-nil _))
+    c.print_all-printed.ensures.blames_writer)

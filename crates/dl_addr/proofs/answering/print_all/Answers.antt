@@ -21,8 +21,8 @@ place_at : (base : ℕ) (asked : List Asked) (n : ℕ) → n < length asked
 place_at base asked n lt =
     slice_get-map (looked_up base) asked n ∙ ap (option_map (looked_up base)) (slice_get-get_or asked n no_asked lt)
 
-pub returns-in_err-print_line : goal.returns-in_err-print_line
-returns-in_err-print_line g c first start held visits s made =
+pub returns-in_err-print_line-clause-printed : goal.returns-in_err-print_line-clause-printed
+returns-in_err-print_line-clause-printed g c first start held visits s made =
     let p = err_from_is_err_and c.from_residual.result c.from_residual.ensures.1 in
     let q = c.args.question.now in
     let l = c.loop-number in
@@ -36,7 +36,7 @@ returns-in_err-print_line g c first start held visits s made =
     rw (p.1, p.2) (loses_line q.style (answer_for first visits q.base) q.asked.now old (g.W.Write.contents l.output)
     (g.W.Write.contents c.print_line.new.output) c.new-printer.result l.printer l.number no_asked
     (option_map answer_seen c.answer_to-answer.result) _ lt is nothing
-    (l.invariant.printed first start held visits s made) c.in_err-print_line.ensures)
+    (l.invariant.printed first start held visits s made) c.in_err-print_line.ensures.printed)
 
 pub loop-number-preserved : goal.loop-number-preserved
 loop-number-preserved g c =
@@ -53,7 +53,7 @@ loop-number-preserved g c =
           (option_map answer_seen c.answer_to-answer.result) lt
           (c.answer_to-answer.ensures first start held visits (map (looked_up q.base) q.asked.now) s made
           (place_at q.base q.asked.now l.number lt))
-          (l.invariant.printed first start held visits s made) c.in_ok-print_line.ensures;
+          (l.invariant.printed first start held visits s made) c.in_ok-print_line.ensures.printed;
       found = λ first start held visits s made. found_more q.style (answer_for first visits q.base) q.asked.now l.number
           no_asked c.is_answered.result l.found c.also-found.result lt
           (c.is_answered.ensures ∙ ap (is_answered (get_or q.asked.now l.number no_asked)) (c.is_some.ensures
@@ -63,8 +63,8 @@ loop-number-preserved g c =
           (l.invariant.found first start held visits s made) c.also-found.ensures;
     }
 
-pub returns-in_err-flush : goal.returns-in_err-flush
-returns-in_err-flush g c first start held visits s made =
+pub returns-in_err-flush-clause-printed : goal.returns-in_err-flush-clause-printed
+returns-in_err-flush-clause-printed g c first start held visits s made =
     let p = err_from_is_err_and c.from_residual-in_err-flush.result c.from_residual-in_err-flush.ensures.1 in
     let q = c.args.question.now in
     let l = c.loop-number in
@@ -77,8 +77,8 @@ returns-in_err-flush g c first start held visits s made =
     nothing
     (l.invariant.printed first start held visits s made) c.in_err-flush.ensures.printed)
 
-pub returns : goal.returns
-returns g c first start held visits s made =
+pub returns-clause-printed : goal.returns-clause-printed
+returns-clause-printed g c first start held visits s made =
     let q = c.args.question.now in
     let l = c.loop-number in
     let old = g.W.Write.contents c.args.output.now in

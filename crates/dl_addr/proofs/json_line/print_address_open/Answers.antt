@@ -4,8 +4,8 @@ use Rattle.dl_print.specs.Digits.{hexadecimal_of}
 use Rattle.dl_path.proofs.PrintLemmas.{loses_front, prints_then}
 use Rattle.dl_addr.proofs.json_line.print_address_open.Goals as goal
 
-pub returns-in_err-put : goal.returns-in_err-put
-returns-in_err-put g c start text h =
+pub returns-in_err-put-clause-printed : goal.returns-in_err-put-clause-printed
+returns-in_err-put-clause-printed g c start text h =
     let p = err_from_is_err_and c.from_residual.result c.from_residual.ensures.1 in
     let a = codes "{\"address\":\"" in
     let b = codes "0x" ++ hexadecimal_of 16 c.args.address in
@@ -13,8 +13,8 @@ returns-in_err-put g c start text h =
     let new = g.W.Write.contents c.put.new.output in
     rw (p.1, p.2) (loses_front old new c.args.printer.now a b _ c.in_err-put.ensures.printed start text h)
 
-pub returns : goal.returns
-returns g c =
+pub returns-clause-printed : goal.returns-clause-printed
+returns-clause-printed g c =
     let a = codes "{\"address\":\"" in
     let b = codes "0x" ++ hexadecimal_of 16 c.args.address in
     let old = g.W.Write.contents c.args.output.now in

@@ -4,21 +4,21 @@ use Rattle.dl_print.specs.Digits.{hexadecimal_of}
 use Rattle.dl_path.proofs.PrintLemmas.{loses_front, prints_then}
 use Rattle.dl_addr.proofs.json_line.print_given.Goals as goal
 
-pub returns-in_err-print_address_open : goal.returns-in_err-print_address_open
-returns-in_err-print_address_open g c start text h =
+pub returns-in_err-print_address_open-clause-printed : goal.returns-in_err-print_address_open-clause-printed
+returns-in_err-print_address_open-clause-printed g c start text h =
     let p = err_from_is_err_and c.from_residual.result c.from_residual.ensures.1 in
     let a = codes "{\"address\":\"" ++ (codes "0x" ++ hexadecimal_of 16 c.args.address) in
     let b = codes "\"" in
     let old = g.W.Write.contents c.args.output.now in
     let new = g.W.Write.contents c.print_address_open.new.output in
-    rw (p.1, p.2) (loses_front old new c.args.printer.now a b _ c.in_err-print_address_open.ensures start text h)
+    rw (p.1, p.2) (loses_front old new c.args.printer.now a b _ c.in_err-print_address_open.ensures.printed start text h)
 
-pub returns : goal.returns
-returns g c =
+pub returns-clause-printed : goal.returns-clause-printed
+returns-clause-printed g c =
     let a = codes "{\"address\":\"" ++ (codes "0x" ++ hexadecimal_of 16 c.args.address) in
     let b = codes "\"" in
     let old = g.W.Write.contents c.args.output.now in
     let mid = g.W.Write.contents c.print_address_open.new.output in
     let new = g.W.Write.contents c.put.new.output in
     prints_then old mid new c.args.printer.now c.print_address_open.new.printer c.put.new.self a b c.put.result
-    c.in_ok-print_address_open.ensures c.put.ensures.printed
+    c.in_ok-print_address_open.ensures.printed c.put.ensures.printed

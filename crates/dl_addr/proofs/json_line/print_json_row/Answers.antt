@@ -9,8 +9,8 @@ use Rattle.dl_addr.specs.Printing.{named_text}
 use Rattle.dl_path.proofs.PrintLemmas.{loses_front, loses_then}
 use Rattle.dl_addr.proofs.json_line.print_json_row.Goals as goal
 
-pub returns-in_err-print_path_member : goal.returns-in_err-print_path_member
-returns-in_err-print_path_member g c start text h =
+pub returns-in_err-print_path_member-clause-printed : goal.returns-in_err-print_path_member-clause-printed
+returns-in_err-print_path_member-clause-printed g c start text h =
     let p = err_from_is_err_and c.from_residual.result c.from_residual.ensures.1 in
     let answer = c.args.answer.now in
     let path = codes ",\"path\":" ++ named_text Json (path_kept answer.path) in
@@ -21,10 +21,10 @@ returns-in_err-print_path_member g c start text h =
       p.1,
       p.2,
     ) (loses_front old new c.args.printer.now (path ++ json_position (answer_seen answer)) rest _
-    (loses_front old new c.args.printer.now path (json_position (answer_seen answer)) _ c.in_err-print_path_member.ensures) start text h)
+    (loses_front old new c.args.printer.now path (json_position (answer_seen answer)) _ c.in_err-print_path_member.ensures.printed) start text h)
 
-pub returns-in_err-print_position : goal.returns-in_err-print_position
-returns-in_err-print_position g c start text h =
+pub returns-in_err-print_position-clause-printed : goal.returns-in_err-print_position-clause-printed
+returns-in_err-print_position-clause-printed g c start text h =
     let p = err_from_is_err_and c.from_residual-in_err-print_position.result
     c.from_residual-in_err-print_position.ensures.1 in
     let answer = c.args.answer.now in
@@ -38,4 +38,4 @@ returns-in_err-print_position g c start text h =
       p.2,
     ) (loses_front old new c.args.printer.now (path ++ json_position (answer_seen answer)) rest _
     (loses_then old mid new c.args.printer.now c.print_path_member.new.printer path (json_position (answer_seen answer)) _
-    c.in_ok-print_path_member.ensures c.in_err-print_position.ensures) start text h)
+    c.in_ok-print_path_member.ensures.printed c.in_err-print_position.ensures.printed) start text h)

@@ -4,8 +4,8 @@ use Rattle.dl_print.specs.Digits.{hexadecimal}
 use Rattle.dl_path.proofs.PrintLemmas.{loses_front, prints_then}
 use Rattle.dl_addr.proofs.json_line.print_unit.Goals as goal
 
-pub returns-in_err-hexadecimal_number : goal.returns-in_err-hexadecimal_number
-returns-in_err-hexadecimal_number g c start text h =
+pub returns-in_err-hexadecimal_number-clause-printed : goal.returns-in_err-hexadecimal_number-clause-printed
+returns-in_err-hexadecimal_number-clause-printed g c start text h =
     let p = err_from_is_err_and c.from_residual.result c.from_residual.ensures.1 in
     let a = codes ",\"unit\":\"0x" ++ hexadecimal c.args.unit in
     let b = codes "\"" in
@@ -14,8 +14,8 @@ returns-in_err-hexadecimal_number g c start text h =
     rw (p.1, p.2) (loses_front old new c.args.printer.now a b _ c.in_err-hexadecimal_number.ensures.printed start text
     h)
 
-pub returns : goal.returns
-returns g c =
+pub returns-clause-printed : goal.returns-clause-printed
+returns-clause-printed g c =
     let a = codes ",\"unit\":\"0x" ++ hexadecimal c.args.unit in
     let b = codes "\"" in
     let old = g.W.Write.contents c.args.output.now in

@@ -6,8 +6,8 @@ use Rattle.dl_addr.specs.Printing.{seen_line}
 use Rattle.dl_addr.proofs.LocationLemmas.{kept_is, one_text, printed_at, told_line}
 use Rattle.dl_addr.proofs.location.print_told.Goals as goal
 
-pub returns : goal.returns
-returns g c =
+pub returns-clause-printed : goal.returns-clause-printed
+returns-clause-printed g c =
     let style = c.args.style in
     let l = c.args.location in
     let old = g.W.Write.contents c.args.output.now in
@@ -17,4 +17,4 @@ returns g c =
     c.print_line.result
     (ap (λ p. seen_line style c.args.asked (Some (printed_at l p)))
     (kept_is _ ∙ one_text (record { offset = l.unit; has_directory_0 = false }) path _ c.name_number.result (c.new.ensures ∙ c.bytes_or_none.ensures) c.name_number.ensures)
-    ∙ told_line style c.args.asked l path c.printed_path-path.ensures) c.print_line.ensures
+    ∙ told_line style c.args.asked l path c.printed_path-path.ensures) c.print_line.ensures.printed

@@ -15,8 +15,8 @@ no_text Location = refl
 no_text AddressAndLocation = refl
 no_text Json = sym (ap (λ (w : List ℕ). w ++ []) json_nothing)
 
-pub returns-in-None : goal.returns-in-None
-returns-in-None g c =
+pub returns-in-None-clause-printed : goal.returns-in-None-clause-printed
+returns-in-None-clause-printed g c =
     let form = c.args.form in
     let old = g.W.Write.contents c.args.output.now in
     let new = g.W.Write.contents c.put.new.output in

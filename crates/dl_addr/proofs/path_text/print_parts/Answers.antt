@@ -45,8 +45,8 @@ apart_by form p name base directory e e' =
     e e'
     ∙ sym (apart form p name)
 
-pub returns-in_err-print_directory : goal.returns-in_err-print_directory
-returns-in_err-print_directory g c start text h =
+pub returns-in_err-print_directory-clause-printed : goal.returns-in_err-print_directory-clause-printed
+returns-in_err-print_directory-clause-printed g c start text h =
     let e = err_from_is_err_and c.from_residual.result c.from_residual.ensures.1 in
     let form = c.args.form in
     let p = c.args.path in
@@ -61,10 +61,10 @@ returns-in_err-print_directory g c start text h =
     rw (e.1, e.2) (loses_same old new c.args.printer.now ((a ++ b) ++ n) (inner_text form (path_in_table p name)) _
     (apart_by form p name base directory c.text.ensures refl)
     (loses_front old new c.args.printer.now (a ++ b) n _
-    (loses_front old new c.args.printer.now a b _ c.in_err-print_directory.ensures)) start text h)
+    (loses_front old new c.args.printer.now a b _ c.in_err-print_directory.ensures.printed)) start text h)
 
-pub returns-in_err-print_directory-2 : goal.returns-in_err-print_directory-2
-returns-in_err-print_directory-2 g c start text h =
+pub returns-in_err-print_directory-2-clause-printed : goal.returns-in_err-print_directory-2-clause-printed
+returns-in_err-print_directory-2-clause-printed g c start text h =
     let e = err_from_is_err_and c.from_residual-in_err-print_directory-2.result
     c.from_residual-in_err-print_directory-2.ensures.1 in
     let form = c.args.form in
@@ -81,11 +81,11 @@ returns-in_err-print_directory-2 g c start text h =
     rw (e.1, e.2) (loses_same old new c.args.printer.now ((a ++ b) ++ n) (inner_text form (path_in_table p name)) _
     (apart_by form p name base directory c.text.ensures c.text-2.ensures)
     (loses_front old new c.args.printer.now (a ++ b) n _
-    (loses_then old mid new c.args.printer.now c.print_directory.new.printer a b _ c.in_ok-print_directory.ensures
-    c.in_err-print_directory-2.ensures)) start text h)
+    (loses_then old mid new c.args.printer.now c.print_directory.new.printer a b _ c.in_ok-print_directory.ensures.printed
+    c.in_err-print_directory-2.ensures.printed)) start text h)
 
-pub returns : goal.returns
-returns g c =
+pub returns-clause-printed : goal.returns-clause-printed
+returns-clause-printed g c =
     let form = c.args.form in
     let p = c.args.path in
     let name = c.args.name.now in
@@ -103,4 +103,4 @@ returns g c =
     (prints_then old between new c.args.printer.now c.print_directory-2.new.printer c.print_text.new.printer (a ++ b) n
     c.print_text.result
     (more_then old mid between c.args.printer.now c.print_directory.new.printer c.print_directory-2.new.printer a b
-    c.in_ok-print_directory.ensures c.in_ok-print_directory-2.ensures) c.print_text.ensures)
+    c.in_ok-print_directory.ensures.printed c.in_ok-print_directory-2.ensures.printed) c.print_text.ensures.printed)

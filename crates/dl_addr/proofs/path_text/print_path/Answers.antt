@@ -20,20 +20,20 @@ named_by p name is =
     ∙ sym (map_twice (rooted (option_copied p.root)) (path_in_table p) (option_and_then (text_at p.texts.now)
     p.file.now.name))
 
-pub returns-in-Some : goal.returns-in-Some
-returns-in-Some g c =
+pub returns-in-Some-clause-printed : goal.returns-in-Some-clause-printed
+returns-in-Some-clause-printed g c =
     let old = g.W.Write.contents c.args.output.now in
     let new = g.W.Write.contents c.print_known.new.output in
     subst (λ (o : Option (List ℕ)). Prints old new c.args.printer.now c.print_known.new.printer
     (named_text c.args.form o) c.print_known.result)
     (ap (option_map (path_named c.args.path)) (sym (ap option_copied c.in-Some.is))
-    ∙ named_by c.args.path (option_copied c.text.result) c.text.ensures) c.print_known.ensures
+    ∙ named_by c.args.path (option_copied c.text.result) c.text.ensures) c.print_known.ensures.printed
 
-pub returns-in-None : goal.returns-in-None
-returns-in-None g c =
+pub returns-in-None-clause-printed : goal.returns-in-None-clause-printed
+returns-in-None-clause-printed g c =
     let old = g.W.Write.contents c.args.output.now in
     let new = g.W.Write.contents c.print_no_path.new.output in
     subst (λ (o : Option (List ℕ)). Prints old new c.args.printer.now c.print_no_path.new.printer
     (named_text c.args.form o) c.print_no_path.result)
     (ap (option_map (path_named c.args.path)) (sym (ap option_copied c.in-None.is))
-    ∙ named_by c.args.path (option_copied c.text.result) c.text.ensures) c.print_no_path.ensures
+    ∙ named_by c.args.path (option_copied c.text.result) c.text.ensures) c.print_no_path.ensures.printed

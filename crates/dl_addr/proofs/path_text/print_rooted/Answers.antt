@@ -33,8 +33,8 @@ apart_by form p name root kept is same =
     ∙ sym (root_apart form root (path_in_table p name))
     ∙ ap (λ (o : Option (List ℕ)). inner_text form (under (unwrap_or o []) (path_in_table p name))) is
 
-pub returns-in_err-print_folder : goal.returns-in_err-print_folder
-returns-in_err-print_folder g c start text h =
+pub returns-in_err-print_folder-clause-printed : goal.returns-in_err-print_folder-clause-printed
+returns-in_err-print_folder-clause-printed g c start text h =
     let e = err_from_is_err_and c.from_residual.result c.from_residual.ensures.1 in
     let form = c.args.form in
     let p = c.args.path in
@@ -47,10 +47,10 @@ returns-in_err-print_folder g c start text h =
     (inner_text form (path_named p name)) _
     (apart_by form p name c.in-Some.root.now root (sym (ap option_copied c.in-Some.is)) c.new-root.ensures)
     (loses_front old new c.args.printer.now (inner_text form root ++ slash_after root)
-    (inner_text form (path_in_table p name)) _ c.in_err-print_folder.ensures) start text h)
+    (inner_text form (path_in_table p name)) _ c.in_err-print_folder.ensures.printed) start text h)
 
-pub returns : goal.returns
-returns g c =
+pub returns-clause-printed : goal.returns-clause-printed
+returns-clause-printed g c =
     let form = c.args.form in
     let p = c.args.path in
     let name = c.args.name.now in
@@ -63,4 +63,4 @@ returns g c =
     (inner_text form (path_named p name)) c.print_parts-2.result
     (apart_by form p name c.in-Some.root.now root (sym (ap option_copied c.in-Some.is)) c.new-root.ensures)
     (prints_then old mid new c.args.printer.now c.print_folder.new.printer c.print_parts-2.new.printer folder
-    (inner_text form (path_in_table p name)) c.print_parts-2.result c.in_ok-print_folder.ensures c.print_parts-2.ensures)
+    (inner_text form (path_in_table p name)) c.print_parts-2.result c.in_ok-print_folder.ensures.printed c.print_parts-2.ensures.printed)

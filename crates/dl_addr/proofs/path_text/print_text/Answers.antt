@@ -13,8 +13,8 @@ plain_inner Location w all = plain_shown w all
 plain_inner AddressAndLocation w all = plain_shown w all
 plain_inner Json w all = plain_json w all
 
-pub returns-then-is_plain : goal.returns-then-is_plain
-returns-then-is_plain g c =
+pub returns-then-is_plain-clause-printed : goal.returns-then-is_plain-clause-printed
+returns-then-is_plain-clause-printed g c =
     let text = c.args.text.now in
     prints_same (g.W.Write.contents c.args.output.now) (g.W.Write.contents c.put.new.output) c.args.printer.now
     c.put.new.self c.bytes.result.now (inner_text c.args.form text) c.put.result

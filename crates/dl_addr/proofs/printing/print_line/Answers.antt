@@ -8,8 +8,8 @@ use Rattle.dl_addr.specs.Printing.{seen_text}
 use Rattle.dl_path.proofs.PrintLemmas.{loses_front, loses_then}
 use Rattle.dl_addr.proofs.printing.print_line.Goals as goal
 
-pub returns-in_err-print_asked : goal.returns-in_err-print_asked
-returns-in_err-print_asked g c start text h =
+pub returns-in_err-print_asked-clause-printed : goal.returns-in_err-print_asked-clause-printed
+returns-in_err-print_asked-clause-printed g c start text h =
     let p = err_from_is_err_and c.from_residual.result c.from_residual.ensures.1 in
     let a = asked_text c.args.style.form (option_copied c.args.style.section) c.args.asked in
     let b = seen_text c.args.style.form (option_map answer_seen c.args.answer) in
@@ -19,10 +19,10 @@ returns-in_err-print_asked g c start text h =
       p.1,
       p.2,
     ) (loses_front old new c.args.printer.now (a ++ b) (10 ∷ []) _
-    (loses_front old new c.args.printer.now a b _ c.in_err-print_asked.ensures) start text h)
+    (loses_front old new c.args.printer.now a b _ c.in_err-print_asked.ensures.printed) start text h)
 
-pub returns-in_err-print_answer : goal.returns-in_err-print_answer
-returns-in_err-print_answer g c start text h =
+pub returns-in_err-print_answer-clause-printed : goal.returns-in_err-print_answer-clause-printed
+returns-in_err-print_answer-clause-printed g c start text h =
     let p = err_from_is_err_and c.from_residual-in_err-print_answer.result
     c.from_residual-in_err-print_answer.ensures.1 in
     let a = asked_text c.args.style.form (option_copied c.args.style.section) c.args.asked in
@@ -34,5 +34,5 @@ returns-in_err-print_answer g c start text h =
       p.1,
       p.2,
     ) (loses_front old new c.args.printer.now (a ++ b) (10 ∷ []) _
-    (loses_then old mid new c.args.printer.now c.print_asked.new.printer a b _ c.in_ok-print_asked.ensures
-    c.in_err-print_answer.ensures) start text h)
+    (loses_then old mid new c.args.printer.now c.print_asked.new.printer a b _ c.in_ok-print_asked.ensures.printed
+    c.in_err-print_answer.ensures.printed) start text h)

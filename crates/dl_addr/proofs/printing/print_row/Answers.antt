@@ -11,8 +11,8 @@ use Rattle.dl_addr.specs.Texts.{path_kept}
 use Rattle.dl_path.proofs.PrintLemmas.{loses_front, prints_then}
 use Rattle.dl_addr.proofs.printing.print_row.Goals as goal
 
-pub returns-in_err-print_json_row-in-Json : goal.returns-in_err-print_json_row-in-Json
-returns-in_err-print_json_row-in-Json g c =
+pub returns-in_err-print_json_row-in-Json-clause-printed : goal.returns-in_err-print_json_row-in-Json-clause-printed
+returns-in_err-print_json_row-in-Json-clause-printed g c =
     let p = err_from_is_err_and c.from_residual.result c.from_residual.ensures.1 in
     let path = path_kept c.args.answer.now.path in
     let seen = answer_seen c.args.answer.now in
@@ -21,10 +21,10 @@ returns-in_err-print_json_row-in-Json g c =
     subst (λ (f : Form). Prints old new c.args.printer.now c.print_json_row.new.printer
     (row_text f (named_text f path) seen) c.from_residual.result) (sym c.in-Json.is)
     (λ start text h. rw (p.1, p.2) (loses_front old new c.args.printer.now (json_row (named_text Json path) seen)
-    (codes "}") _ c.in_err-print_json_row-in-Json.ensures start text h))
+    (codes "}") _ c.in_err-print_json_row-in-Json.ensures.printed start text h))
 
-pub returns-in_ok-print_json_row-in-Json : goal.returns-in_ok-print_json_row-in-Json
-returns-in_ok-print_json_row-in-Json g c =
+pub returns-in_ok-print_json_row-in-Json-clause-printed : goal.returns-in_ok-print_json_row-in-Json-clause-printed
+returns-in_ok-print_json_row-in-Json-clause-printed g c =
     let path = path_kept c.args.answer.now.path in
     let seen = answer_seen c.args.answer.now in
     let old = g.W.Write.contents c.args.output.now in
@@ -33,5 +33,5 @@ returns-in_ok-print_json_row-in-Json g c =
     subst (λ (f : Form). Prints old new c.args.printer.now c.put.new.self
     (row_text f (named_text f path) seen) c.put.result) (sym c.in-Json.is)
     (prints_then old mid new c.args.printer.now c.print_json_row.new.printer c.put.new.self
-    (json_row (named_text Json path) seen) (codes "}") c.put.result c.in_ok-print_json_row-in-Json.ensures
+    (json_row (named_text Json path) seen) (codes "}") c.put.result c.in_ok-print_json_row-in-Json.ensures.printed
     c.put.ensures.printed)

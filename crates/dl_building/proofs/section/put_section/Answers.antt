@@ -3,7 +3,7 @@ use Rattle.dl_building.specs.Putting.{PutsIndex}
 use Rattle.dl_building.proofs.section.put_section.Goals as goal
 
 pub returns-in-Ok : goal.returns-in-Ok
-returns-in-Ok c =
+returns-in-Ok g c =
     inl (
       c.in-Ok.made,
       c.in-Ok.ensures,

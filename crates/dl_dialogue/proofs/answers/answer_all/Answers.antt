@@ -27,8 +27,8 @@ loop-each-preserved g c =
           (c.loop-each.invariant.1 f determines)),
     )
 
-pub returns-in_err-answer : goal.returns-in_err-answer
-returns-in_err-answer g c = λ f determines.
+pub returns-in_err-answer-clause-answers : goal.returns-in_err-answer-clause-answers
+returns-in_err-answer-clause-answers g c = λ f determines.
     let m : Manner = record { style = c.args.style; base = c.args.base; told = f } in
     let p = err_from_is_err_and c.from_residual.result c.from_residual.ensures.1 in
     let i = c.loop-each.each-index in
@@ -39,22 +39,22 @@ returns-in_err-answer g c = λ f determines.
     (c.in_err-answer.ensures.answers c.args.teller.now m start (take i asked) c.loop-each.invariant.0 determines
     (c.loop-each.invariant.1 f determines)))
 
-pub returns-in_err-flush : goal.returns-in_err-flush
-returns-in_err-flush g c = λ f determines.
+pub returns-in_err-flush-clause-answers : goal.returns-in_err-flush-clause-answers
+returns-in_err-flush-clause-answers g c = λ f determines.
     let m : Manner = record { style = c.args.style; base = c.args.base; told = f } in
     let p = err_from_is_err_and c.from_residual-in_err-flush.result c.from_residual-in_err-flush.ensures.1 in
     let asked = c.args.asked.now in
     let start = g.W.Write.contents c.args.output.now in
     rw (p.1, p.2) (stops_weaker m (TellFails (g.T.Tell.fails_with c.args.teller.now) (g.M.Memory.refuses c.args.memory.now)) start
     (g.W.Write.contents c.flush.new.output) asked _
-    (c.in_err-flush.ensures m start asked (all_answered m start (g.W.Write.contents c.loop-each.output) asked
+    (c.in_err-flush.ensures.flushed m start asked (all_answered m start (g.W.Write.contents c.loop-each.output) asked
     c.loop-each.each-index c.loop-each.printer c.loop-each.answers c.loop-each-test.false (c.loop-each.invariant.1 f determines))))
 
-pub returns : goal.returns
-returns g c = λ f determines.
+pub returns-clause-answers : goal.returns-clause-answers
+returns-clause-answers g c = λ f determines.
     let m : Manner = record { style = c.args.style; base = c.args.base; told = f } in
     let asked = c.args.asked.now in
     let start = g.W.Write.contents c.args.output.now in
-    let said = c.in_ok-flush.ensures m start asked (all_answered m start (g.W.Write.contents c.loop-each.output) asked
+    let said = c.in_ok-flush.ensures.flushed m start asked (all_answered m start (g.W.Write.contents c.loop-each.output) asked
     c.loop-each.each-index c.loop-each.printer c.loop-each.answers c.loop-each-test.false (c.loop-each.invariant.1 f determines)) in
     (c.found.ensures ∙ said.0.found, said.1)

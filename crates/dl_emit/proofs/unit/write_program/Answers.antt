@@ -14,14 +14,12 @@ loop-row-init g c = record {
   };
 }
 
-pub returns-in_err-out : goal.returns-in_err-out
-returns-in_err-out g c = record {
-  written = λ start text h.
-      let gone = c.loop-row.invariant.gone start text h in
-      let p = err_from_is_err_and c.from_residual.result c.from_residual.ensures.1 in
-      rw (p.1, p.2) (gone_part c.args.order c.args.params.now c.args.rows.now start _ text _ gone.done _ gone.whole
-      (c.in_err-out.ensures.written start _ gone.gathered));
-}
+pub returns-in_err-out-clause-written : goal.returns-in_err-out-clause-written
+returns-in_err-out-clause-written g c = λ start text h.
+    let gone = c.loop-row.invariant.gone start text h in
+    let p = err_from_is_err_and c.from_residual.result c.from_residual.ensures.1 in
+    rw (p.1, p.2) (gone_part c.args.order c.args.params.now c.args.rows.now start _ text _ gone.done _ gone.whole
+    (c.in_err-out.ensures.written start _ gone.gathered))
 
 pub loop-row-preserved : goal.loop-row-preserved
 loop-row-preserved g c = record {
@@ -35,11 +33,9 @@ loop-row-preserved g c = record {
       gone.whole (c.in_ok-out.ensures.written start _ gone.gathered));
 }
 
-pub returns : goal.returns
-returns g c = record {
-  written = λ start text h.
-      let gone = c.loop-row.invariant.gone start text h in
-      gone_all c.args.order c.args.params.now c.args.rows.now start _ _ text (take c.loop-row.held c.loop-row.buffer)
-      c.loop-row.out c.loop-row.row-index c.loop-row.before c.put.result c.loop-row-test.false gone
-      (c.put.ensures.written start gone.gathered.front gone.gathered.out);
-}
+pub returns-clause-written : goal.returns-clause-written
+returns-clause-written g c = λ start text h.
+    let gone = c.loop-row.invariant.gone start text h in
+    gone_all c.args.order c.args.params.now c.args.rows.now start _ _ text (take c.loop-row.held c.loop-row.buffer)
+    c.loop-row.out c.loop-row.row-index c.loop-row.before c.put.result c.loop-row-test.false gone
+    (c.put.ensures.written start gone.gathered.front gone.gathered.out)

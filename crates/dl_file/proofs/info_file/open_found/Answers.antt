@@ -5,14 +5,14 @@ use Rattle.dl_file.proofs.info_file.open_found.Goals as goal
 
 pub returns-in_default-clause-opens : goal.returns-in_default-clause-opens
 returns-in_default-clause-opens g c = λ f is short.
-    no_units {S = g.row.S.Denot} g.S.ReadAt.all_bytes c.args.elf.now f c.args.found.now c.in_ok-info.field-0
+    no_units {S = g.row.S.Denot} g.S.ReadAt.all_bytes g.S.ReadAt.fails_with (g.S.ReadAt.fails_with c.args.source.now) c.args.elf.now f c.args.found.now c.in_ok-info.field-0
     c.in_default.is (c.in_ok-info.ensures.opens f is short)
 
 pub returns-clause-opens : goal.returns-clause-opens
 returns-clause-opens g c = λ f is short.
     let e = c.args.elf.now in
     let found = c.args.found.now in
-    let units = some_units {S = g.row.S.Denot} g.S.ReadAt.all_bytes e f found c.in_ok-info.field-0 c.in-Some.info
+    let units = some_units {S = g.row.S.Denot} g.S.ReadAt.all_bytes g.S.ReadAt.fails_with (g.S.ReadAt.fails_with c.args.source.now) e f found c.in_ok-info.field-0 c.in-Some.info
     c.in-Some.is (c.in_ok-info.ensures.opens f is short) in (
       info_table e f found (Ok units.0),
       (Ok units.0, units.1, refl),

@@ -21,6 +21,6 @@ open_found-requires-clause-within g c = λ f is short.
 
 pub returns-clause-opens : goal.returns-clause-opens
 returns-clause-opens g c = λ f is short.
-    opens_info {S = g.row.S.Denot} g.S.ReadAt.all_bytes f c.in-Ok.elf (slot_of (slots c.in_ok-sections.sections))
+    opens_info {S = g.row.S.Denot} g.S.ReadAt.all_bytes g.S.ReadAt.fails_with (g.S.ReadAt.fails_with c.args.source.now) f c.in-Ok.elf (slot_of (slots c.in_ok-sections.sections))
     c.in-Some.found c.open_found.result (c.in-Ok.ensures.answer f is short) (c.in_ok-sections.ensures.found f is short)
     (sym c.in-Some.is ∙ c.in_ok-found.ensures.found f is short) (c.open_found.ensures.opens f is short)

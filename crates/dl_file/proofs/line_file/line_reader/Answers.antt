@@ -1,20 +1,17 @@
-use Rattle.std.proofs.Common.{◌≡◌, ◌≤◌, ◌<◌, ◌-◌, Some, arith, ap, drop, inl, length, sym, refl, ◌∙◌}
+use Rattle.std.proofs.Common.{◌≡◌, ◌≤◌, ◌<◌, ◌-◌, Some, Ok, Err, arith, ap, drop, inl, length, sym, refl, subst, ℕ, List, ◌∙◌}
 use Rattle.std.proofs.lemmas.List.{with_items_is}
 use Rattle.std.proofs.lemmas.Result.{err_from_is_err_and}
-use Rattle.dl_elf.specs.Compressed.{compression_header}
-use Rattle.dl_elf.specs.declared.fault.ElfFault.TheVariants as fault
-use Rattle.dl_elf.specs.declared.fault.Part.TheVariants as part
-use Rattle.dl_file.specs.LineTable.{Plain}
+use Rattle.dl_file.specs.Answering.{IsMade}
+use Rattle.dl_file.specs.LineTable.{IsLine, Plain, content, held_bytes, line_by, plain_content}
 use Rattle.dl_file.specs.Relocations.{relocated_upto}
-use Rattle.dl_file.proofs.AnswerLemmas.{line_answers, line_has, opened_line, unmade_opens, unread_opens}
-use Rattle.dl_file.proofs.RelocationLemmas.{bytes_refused, bytes_relocated, some_relocations}
+use Rattle.dl_file.proofs.AnswerLemmas.{opened_line, unmade_opens, unread_opens}
+use Rattle.dl_file.proofs.RelocationLemmas.{line_made, line_refused, line_unread, some_relocations}
 use Rattle.dl_file.proofs.line_file.line_reader.Goals as goal
 
 pub returns-then-relocations-eq0-clause-opens : goal.returns-then-relocations-eq0-clause-opens
 returns-then-relocations-eq0-clause-opens g c = λ f is short.
-    let e = c.args.elf.now in
-    let line = c.args.line.now in
-    opened_line g.S.ReadAt.all_bytes (compression_header e f line) e f line (Unit {0}) c.in_ok-reader.reader
+    opened_line g.S.ReadAt.all_bytes g.S.ReadAt.fails_with (g.S.ReadAt.fails_with c.args.source.now) c.args.elf.now f
+    c.args.line.now (Unit {0}) c.in_ok-reader.reader
     ((c.in_ok-relocations.ensures.found f is short).0 ∙ ap Some c.if-relocations-eq0.true)
     (c.in_ok-reader.ensures.opens f is short)
 
@@ -26,8 +23,7 @@ returns-then-relocations-gt-MOST_RELOCATIONS-clause-opens g c = λ f is short.
     let told = (c.in_ok-relocations.ensures.found f is short).0 in
     let sections = c.in_ok-relocations.relocations.count in
     let many : 16 < sections = omega (arith, c.if-relocations-gt-MOST_RELOCATIONS.true) in
-    line_answers (compression_header e f line) e f line sections (fault.Damaged (part.Relocations line.name)) told
-    c.if-relocations-eq0.false (λ none. bytes_refused e f line sections told many)
+    sym (ap (line_by e f line (content e f line)) told ∙ line_refused e f line (content e f line) sections many)
 
 pub returns-in_err-bytes-clause-opens : goal.returns-in_err-bytes-clause-opens
 returns-in_err-bytes-clause-opens g c = λ f is short.
@@ -36,10 +32,13 @@ returns-in_err-bytes-clause-opens g c = λ f is short.
     let line = c.args.line.now in
     let told = (c.in_ok-relocations.ensures.found f is short).0 in
     let sections = c.in_ok-relocations.relocations.count in
+    let few : sections ≤ 16 = omega (arith, c.if-relocations-gt-MOST_RELOCATIONS.false) in
     let some = some_relocations e f line.number sections told c.if-relocations-eq0.false in
-    rw (p.1, p.2) (unread_opens g.S.ReadAt g.S.ReadAt.all_bytes (compression_header e f line) e f line _
-    (g.S.ReadAt.fails_with c.args.source.now) sections c.in_err-bytes.field-0.0 told c.if-relocations-eq0.false (inl some)
-    (c.in_err-bytes.ensures.stops f is short))
+    rw (p.1, p.2) (unread_opens g.S.ReadAt g.S.ReadAt.all_bytes g.S.ReadAt.fails_with
+    (g.S.ReadAt.fails_with c.args.source.now) (IsLine e f line) _ (held_bytes (content e f line)) c.in_err-bytes.field-0.0
+    (inl some) (λ first held. sym (ap (line_by e f line (content e f line)) told
+    ∙ line_unread e f line (content e f line) sections first c.if-relocations-eq0.false few held))
+    (c.in_err-bytes.ensures.bytes f is short))
 
 pub returns-in_err-relocate_line-clause-opens : goal.returns-in_err-relocate_line-clause-opens
 returns-in_err-relocate_line-clause-opens g c = λ f is short.
@@ -49,13 +48,17 @@ returns-in_err-relocate_line-clause-opens g c = λ f is short.
     let line = c.args.line.now in
     let told = (c.in_ok-relocations.ensures.found f is short).0 in
     let sections = c.in_ok-relocations.relocations.count in
-    let some = some_relocations e f line.number sections told c.if-relocations-eq0.false in
     let few : sections ≤ 16 = omega (arith, c.if-relocations-gt-MOST_RELOCATIONS.false) in
-    rw (p.1, p.2) (unmade_opens g.S.ReadAt g.S.ReadAt.all_bytes (compression_header e f line) e f line _
-    (relocated_upto e f line (e.count - 1)) c.relocate_line.new.bytes sections c.in_err-relocate_line.field-0.0 told
-    c.if-relocations-eq0.false (inl some) (bytes_relocated e f line sections told c.if-relocations-eq0.false few)
-    (λ none. c.in_err-relocate_line.ensures.made f is short
-    (c.as_mut_slice.ensures.value ∙ c.in_ok-bytes.ensures.bytes f is short none)))
+    let some = some_relocations e f line.number sections told c.if-relocations-eq0.false in
+    let held = c.in_ok-bytes.ensures.bytes f is short in
+    let made = line_made e f line (content e f line) sections c.in_ok-bytes.bytes.items c.if-relocations-eq0.false few held in
+    rw (p.1, p.2) (unmade_opens g.S.ReadAt g.S.ReadAt.all_bytes g.S.ReadAt.fails_with
+    (g.S.ReadAt.fails_with c.args.source.now) (IsLine e f line) _
+    (relocated_upto e f line c.in_ok-bytes.bytes.items (e.count - 1)) c.relocate_line.new.bytes
+    c.in_err-relocate_line.field-0.0 (inl some) (λ first fault. sym (ap (line_by e f line (content e f line)) told
+    ∙ (made ∙ ap plain_content fault)))
+    (subst (λ (b : List ℕ). IsMade {A = Unit {0}} (relocated_upto e f line b (e.count - 1)) c.relocate_line.new.bytes
+    (Err c.in_err-relocate_line.field-0.0)) c.as_mut_slice.ensures.value (c.in_err-relocate_line.ensures.made f is short)))
 
 pub returns-clause-opens : goal.returns-clause-opens
 returns-clause-opens g c = λ f is short.
@@ -65,18 +68,21 @@ returns-clause-opens g c = λ f is short.
     let sections = c.in_ok-relocations.relocations.count in
     let few : sections ≤ 16 = omega (arith, c.if-relocations-gt-MOST_RELOCATIONS.false) in
     let made = c.relocate_line.new.bytes in
+    let held = c.in_ok-bytes.ensures.bytes f is short in
+    let of = line_made e f line (content e f line) sections c.in_ok-bytes.bytes.items c.if-relocations-eq0.false few held in
+    let relocated : relocated_upto e f line c.in_ok-bytes.bytes.items (e.count - 1) ≡ Ok made =
+    subst (λ (b : List ℕ). relocated_upto e f line b (e.count - 1) ≡ Ok made) c.as_mut_slice.ensures.value
+    (c.in_ok-relocate_line.ensures.made f is short) in
     let same_len : length made ≡ c.in_ok-bytes.bytes.len =
     c.relocate_line.auto.bytes ∙ (ap (λ b. length b) c.as_mut_slice.ensures.value ∙ sym c.in_ok-bytes.bytes.ok.0) in (
       Plain made,
-      line_has (compression_header e f line) e f line sections made told c.if-relocations-eq0.false
-          (λ none. bytes_relocated e f line sections told c.if-relocations-eq0.false few
-          ∙ c.in_ok-relocate_line.ensures.made f is short
-          (c.as_mut_slice.ensures.value ∙ c.in_ok-bytes.ensures.bytes f is short none)),
+      sym (ap (line_by e f line (content e f line)) told ∙ (of ∙ ap plain_content relocated)),
       (
         ap (λ at. Some (drop at c.new.result.inner.items)) c.new.ensures.position
             ∙ (ap (λ v. Some v.items) c.new.ensures.inner
             ∙ ap Some (with_items_is c.in_ok-bytes.bytes made same_len)),
         refl,
         refl,
+        λ error fails. absurd fails,
       ),
     )

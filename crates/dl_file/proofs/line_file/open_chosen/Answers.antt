@@ -1,6 +1,6 @@
 use Rattle.std.proofs.Common.{Ok, sym, ◌∙◌, refl}
 use Rattle.dl_file.specs.LineTable.{line_table}
-use Rattle.dl_file.proofs.LineTableLemmas.{table_whole}
+use Rattle.dl_file.proofs.LineTableLemmas.{strings_lie, table_whole}
 use Rattle.dl_file.proofs.line_file.open_chosen.Goals as goal
 
 pub returns-clause-opens : goal.returns-clause-opens
@@ -22,3 +22,15 @@ returns-clause-opens g c = λ f is short.
         has_str = refl;
       },
     )
+
+pub optional_reader-requires : goal.optional_reader-requires
+optional_reader-requires g c = record {
+  within = λ f is short.
+      (strings_lie c.args.elf.now f c.args.chosen.now (sym (c.in_ok-part.ensures.part f is short) ∙ c.in_default.is)).0;
+}
+
+pub optional_reader-requires-2 : goal.optional_reader-requires-2
+optional_reader-requires-2 g c = record {
+  within = λ f is short.
+      (strings_lie c.args.elf.now f c.args.chosen.now (sym (c.in_ok-part.ensures.part f is short) ∙ c.in_default.is)).1;
+}

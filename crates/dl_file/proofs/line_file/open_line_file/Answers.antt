@@ -9,7 +9,7 @@ use Rattle.dl_file.proofs.line_file.open_line_file.Goals as goal
 pub returns-in_err-elf-clause-opens : goal.returns-in_err-elf-clause-opens
 returns-in_err-elf-clause-opens g c = λ f is short.
     let p = err_from_is_err_and c.from_residual.result c.from_residual.ensures.1 in
-    rw (p.1, p.2) (opens_fault g.S.ReadAt g.S.ReadAt.all_bytes f c.args.wanted c.in_err-elf.field-0.0
+    rw (p.1, p.2) (opens_fault g.S.ReadAt g.S.ReadAt.all_bytes g.S.ReadAt.fails_with (g.S.ReadAt.fails_with c.args.source.now) f c.args.wanted c.in_err-elf.field-0.0
     (c.in_err-elf.ensures.answer f is short))
 
 pub returns-in_default-clause-opens : goal.returns-in_default-clause-opens
@@ -22,7 +22,7 @@ returns-in_default-clause-opens g c = λ f is short.
 
 pub returns-clause-opens : goal.returns-clause-opens
 returns-clause-opens g c = λ f is short.
-    opens_table g.S.ReadAt.all_bytes f c.args.wanted c.in_ok-elf.elf (slot_of (slots c.in_ok-sections.sections))
+    opens_table g.S.ReadAt.all_bytes g.S.ReadAt.fails_with (g.S.ReadAt.fails_with c.args.source.now) f c.args.wanted c.in_ok-elf.elf (slot_of (slots c.in_ok-sections.sections))
     c.in-Some.chosen c.open_chosen.result (c.in_ok-elf.ensures.answer f is short)
     (c.in_ok-sections.ensures.found f is short) (sym c.in-Some.is ∙ c.new.ensures)
     (c.open_chosen.ensures.opens f is short)

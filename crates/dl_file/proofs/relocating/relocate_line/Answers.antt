@@ -1,4 +1,4 @@
-use Rattle.std.proofs.Common.{arith, ◌-◌, ◌∙◌, ap, sym, Ok}
+use Rattle.std.proofs.Common.{arith, ◌-◌}
 use Rattle.std.proofs.lemmas.Result.{err_from_is_err_and}
 use Rattle.dl_file.specs.Relocations.{relocated_at, relocated_upto}
 use Rattle.dl_file.proofs.AnswerLemmas.{fault_made}
@@ -10,20 +10,19 @@ loop-at-init g c = record {
   from = c.requires.from;
   upto = c.requires.within;
   shows = c.new-window.ensures (g.S.ReadAt.all_bytes c.args.source.now);
-  made = λ f is short same. none_relocated c.args.elf.now f c.args.line.now (c.args.first - 1)
-      (c.requires.none f is short) ∙ ap Ok (sym same);
+  made = λ f is short. none_relocated c.args.elf.now f c.args.line.now _ (c.args.first - 1) (c.requires.none f is short);
 }
 
 pub returns-in_err-relocate_at-clause-made : goal.returns-in_err-relocate_at-clause-made
-returns-in_err-relocate_at-clause-made g c = λ f is short same.
+returns-in_err-relocate_at-clause-made g c = λ f is short.
     let p = err_from_is_err_and c.from_residual.result c.from_residual.ensures.1 in
     let e = c.args.elf.now in
     let line = c.args.line.now in
     let why = c.in_err-relocate_at.field-0.0 in
     rw (p.1, p.2) (fault_made (relocated_at e f line c.loop-at.at c.loop-at.bytes)
-    (relocated_upto e f line (e.count - 1)) c.relocate_at.new.bytes c.relocate_at.new.bytes why
-    (relocated_to_fault e f line c.loop-at.at c.loop-at.bytes why c.loop-at.invariant.from c.loop-at-test.true
-    (c.loop-at.invariant.made f is short same)) (c.in_err-relocate_at.ensures.made f is short))
+    (relocated_upto e f line c.args.bytes.now (e.count - 1)) c.relocate_at.new.bytes c.relocate_at.new.bytes why
+    (relocated_to_fault e f line c.args.bytes.now c.loop-at.at c.loop-at.bytes why c.loop-at.invariant.from c.loop-at-test.true
+    (c.loop-at.invariant.made f is short)) (c.in_err-relocate_at.ensures.made f is short))
 
 pub loop-at-preserved : goal.loop-at-preserved
 loop-at-preserved g c =
@@ -33,12 +32,12 @@ loop-at-preserved g c =
       from = omega (arith, from);
       upto = omega (arith, from, within);
       shows = c.relocate_at.ensures.shows;
-      made = λ f is short same. next_relocated c.args.elf.now f c.args.line.now c.loop-at.at c.loop-at.bytes
-          c.relocate_at.new.bytes from (c.loop-at.invariant.made f is short same)
+      made = λ f is short. next_relocated c.args.elf.now f c.args.line.now c.args.bytes.now c.loop-at.at c.loop-at.bytes
+          c.relocate_at.new.bytes from (c.loop-at.invariant.made f is short)
           (c.in_ok-relocate_at.ensures.made f is short);
     }
 
 pub returns-clause-made : goal.returns-clause-made
-returns-clause-made g c = λ f is short same.
-    relocated_whole c.args.elf.now f c.args.line.now c.loop-at.at c.loop-at.bytes c.loop-at.invariant.upto
-    c.loop-at-test.false (c.loop-at.invariant.made f is short same)
+returns-clause-made g c = λ f is short.
+    relocated_whole c.args.elf.now f c.args.line.now c.args.bytes.now c.loop-at.at c.loop-at.bytes c.loop-at.invariant.upto
+    c.loop-at-test.false (c.loop-at.invariant.made f is short)

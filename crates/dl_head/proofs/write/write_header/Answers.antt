@@ -8,8 +8,8 @@ use Rattle.dl_head.proofs.OrderLemmas.{length-header, written_limit-le, initial_
 use Rattle.dl_head.proofs.WriteLemmas.{writes_header}
 use Rattle.dl_head.proofs.write.write_header.Goals as goal
 
-pub returns : goal.returns
-returns g c =
+pub returns-clause-written : goal.returns-clause-written
+returns-clause-written g c =
     let h = c.args.header.now in
     let n = c.args.program_len in
     let limit = written_limit-le h.params.format in

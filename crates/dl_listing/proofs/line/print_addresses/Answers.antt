@@ -5,8 +5,8 @@ use Rattle.dl_path.proofs.PrintLemmas.{loses_front, loses_then, more_then, print
 use Rattle.dl_listing.specs.Listing.{address_text}
 use Rattle.dl_listing.proofs.line.print_addresses.Goals as goal
 
-pub returns-in_err-address : goal.returns-in_err-address
-returns-in_err-address g c start text h =
+pub returns-in_err-address-clause-printed : goal.returns-in_err-address-clause-printed
+returns-in_err-address-clause-printed g c start text h =
     let p = err_from_is_err_and c.from_residual.result c.from_residual.ensures.1 in
     let a = address_text c.args.start in
     let e = address_text (unwrap_or c.args.end (2 ^ 64)) in
@@ -17,8 +17,8 @@ returns-in_err-address g c start text h =
     rw (p.1, p.2) (loses_front old new first (a ++ s ++ e) s _ (loses_front old new first (a ++ s) e _
     (loses_front old new first a s _ c.in_err-address.ensures.printed)) start text h)
 
-pub returns-in_err-put : goal.returns-in_err-put
-returns-in_err-put g c start text h =
+pub returns-in_err-put-clause-printed : goal.returns-in_err-put-clause-printed
+returns-in_err-put-clause-printed g c start text h =
     let p = err_from_is_err_and c.from_residual-in_err-put.result c.from_residual-in_err-put.ensures.1 in
     let a = address_text c.args.start in
     let e = address_text (unwrap_or c.args.end (2 ^ 64)) in
@@ -31,8 +31,8 @@ returns-in_err-put g c start text h =
     (loses_then old mid new first c.address.new.self a s _ c.in_ok-address.ensures.printed
     c.in_err-put.ensures.printed)) start text h)
 
-pub returns-in_err-print_end : goal.returns-in_err-print_end
-returns-in_err-print_end g c start text h =
+pub returns-in_err-print_end-clause-printed : goal.returns-in_err-print_end-clause-printed
+returns-in_err-print_end-clause-printed g c start text h =
     let p = err_from_is_err_and c.from_residual-in_err-print_end.result c.from_residual-in_err-print_end.ensures.1 in
     let a = address_text c.args.start in
     let e = address_text (unwrap_or c.args.end (2 ^ 64)) in
@@ -44,10 +44,10 @@ returns-in_err-print_end g c start text h =
     let first = c.args.printer.now in
     rw (p.1, p.2) (loses_front old new first (a ++ s ++ e) s _ (loses_then old two new first c.put.new.self (a ++ s) e _
     (more_then old one two first c.address.new.self c.put.new.self a s c.in_ok-address.ensures.printed
-    c.in_ok-put.ensures.printed) c.in_err-print_end.ensures) start text h)
+    c.in_ok-put.ensures.printed) c.in_err-print_end.ensures.printed) start text h)
 
-pub returns : goal.returns
-returns g c =
+pub returns-clause-printed : goal.returns-clause-printed
+returns-clause-printed g c =
     let a = address_text c.args.start in
     let e = address_text (unwrap_or c.args.end (2 ^ 64)) in
     let s = codes " " in
@@ -60,4 +60,4 @@ returns g c =
     prints_then old three new first c.print_end.new.printer c.put-2.new.self (a ++ s ++ e) s c.put-2.result
     (more_then old two three first c.put.new.self c.print_end.new.printer (a ++ s) e
     (more_then old one two first c.address.new.self c.put.new.self a s c.in_ok-address.ensures.printed
-    c.in_ok-put.ensures.printed) c.in_ok-print_end.ensures) c.put-2.ensures.printed
+    c.in_ok-put.ensures.printed) c.in_ok-print_end.ensures.printed) c.put-2.ensures.printed

@@ -5,8 +5,8 @@ use Rattle.dl_path.proofs.PrintLemmas.{loses_front, loses_then}
 use Rattle.dl_listing.specs.Listing.{column_text, path_text}
 use Rattle.dl_listing.proofs.line.print_place.Goals as goal
 
-pub returns-in_err-print_path : goal.returns-in_err-print_path
-returns-in_err-print_path g c start text h =
+pub returns-in_err-print_path-clause-printed : goal.returns-in_err-print_path-clause-printed
+returns-in_err-print_path-clause-printed g c start text h =
     let p = err_from_is_err_and c.from_residual.result c.from_residual.ensures.1 in
     let found = c.args.found in
     let path = path_text (texts_told found.texts) in
@@ -15,10 +15,10 @@ returns-in_err-print_path g c start text h =
     let new = g.W.Write.contents c.print_path.new.output in
     let first = c.args.printer.now in
     rw (p.1, p.2) (loses_front old new first (path ++ line) (column_text found.column) _
-    (loses_front old new first path line _ c.in_err-print_path.ensures) start text h)
+    (loses_front old new first path line _ c.in_err-print_path.ensures.printed) start text h)
 
-pub returns-in_err-number : goal.returns-in_err-number
-returns-in_err-number g c start text h =
+pub returns-in_err-number-clause-printed : goal.returns-in_err-number-clause-printed
+returns-in_err-number-clause-printed g c start text h =
     let p = err_from_is_err_and c.from_residual-in_err-number.result c.from_residual-in_err-number.ensures.1 in
     let found = c.args.found in
     let path = path_text (texts_told found.texts) in
@@ -28,5 +28,5 @@ returns-in_err-number g c start text h =
     let new = g.W.Write.contents c.number.new.output in
     let first = c.args.printer.now in
     rw (p.1, p.2) (loses_front old new first (path ++ line) (column_text found.column) _
-    (loses_then old mid new first c.print_path.new.printer path line _ c.in_ok-print_path.ensures
+    (loses_then old mid new first c.print_path.new.printer path line _ c.in_ok-print_path.ensures.printed
     c.in_err-number.ensures.printed) start text h)

@@ -16,8 +16,8 @@ loop-k-init g c =
           (from_the_first b) (nothing_yet old c.args.printer.now (listing b));
     }
 
-pub returns-in_err-print_line : goal.returns-in_err-print_line
-returns-in_err-print_line g c index start text h =
+pub returns-in_err-print_line-clause-printed : goal.returns-in_err-print_line-clause-printed
+returns-in_err-print_line-clause-printed g c index start text h =
     let p = err_from_is_err_and c.from_residual.result c.from_residual.ensures.1 in
     let b = bytes_of c.args.index.now in
     let l = c.loop-k in
@@ -25,7 +25,7 @@ returns-in_err-print_line g c index start text h =
     rw (p.1, p.2) (front_lost (g.W.Write.contents c.args.output.now) (g.W.Write.contents l.output)
     (g.W.Write.contents c.print_line.new.output) c.args.printer.now l.printer (listing b)
     (stretch_lines (stretches_from b l.k)) (line_of b l.k) (stretch_lines (stretches_from b (l.k + 1)))
-    (l.invariant.printed index) (line_first b l.k lt) _ (c.in_err-print_line.ensures index lt) start text h)
+    (l.invariant.printed index) (line_first b l.k lt) _ (c.in_err-print_line.ensures.printed index lt) start text h)
 
 pub loop-k-preserved : goal.loop-k-preserved
 loop-k-preserved g c =
@@ -37,11 +37,11 @@ loop-k-preserved g c =
           (g.W.Write.contents c.print_line.new.output) c.args.printer.now l.printer (listing b)
           (stretch_lines (stretches_from b l.k)) (line_of b l.k) (stretch_lines (stretches_from b (l.k + 1)))
           (l.invariant.printed index) (line_first b l.k lt) c.print_line.new.printer
-          (c.in_ok-print_line.ensures index lt);
+          (c.in_ok-print_line.ensures.printed index lt);
     }
 
-pub returns : goal.returns
-returns g c index =
+pub returns-clause-printed : goal.returns-clause-printed
+returns-clause-printed g c index =
     let b = bytes_of c.args.index.now in
     let l = c.loop-k in
     all_fronts (g.W.Write.contents c.args.output.now) (g.W.Write.contents l.output) c.args.printer.now l.printer

@@ -8,8 +8,8 @@ use Rattle.dl_listing.specs.Listing.{stretch_line}
 use Rattle.dl_listing.proofs.StretchLemmas.{stretch_is}
 use Rattle.dl_listing.proofs.listing.print_line.Goals as goal
 
-pub returns-in-Some : goal.returns-in-Some
-returns-in-Some g c index lt =
+pub returns-in-Some-clause-printed : goal.returns-in-Some-clause-printed
+returns-in-Some-clause-printed g c index lt =
     let b = bytes_of c.args.index.now in
     let s = c.in-Some.stretch in
     let is = c.in-Some.ensures in
@@ -18,4 +18,4 @@ returns-in-Some g c index lt =
     (stretch_line s.start (unwrap_or s.end (2 ^ 64)) (option_map told s.found)) (line_of b c.args.k)
     c.print_stretch.result
     (stretch_is b c.args.k s.start s.end (option_map told s.found) index lt is.start is.end is.told)
-    c.print_stretch.ensures
+    c.print_stretch.ensures.printed

@@ -1,6 +1,8 @@
-use Rattle.std.proofs.Common.{◌<◌, arith, ◌∙◌, ap, sym, subst, ℕ, [], length}
+use Rattle.std.proofs.Common.{inl, inr, ◌<◌, arith, ◌∙◌, ap, sym, subst, ℕ, [], length}
 use Rattle.std.specs.List.{All}
 use Rattle.std.proofs.lemmas.List.{length-map, length-take}
+use Rattle.std.specs.Option.{option_and_then}
+use Rattle.dl_memory.specs.Refusals.{WasRefused}
 use Rattle.dl_run.specs.RowsTold.{rows_after}
 use Rattle.dl_stretch.specs.ToldUnits.{told_of_units}
 use Rattle.dl_pack.specs.IndexOf.{files_told, index_of}
@@ -9,12 +11,14 @@ use Rattle.dl_pack.specs.Shown.{files_of, named_files, texts_of}
 use Rattle.dl_making.specs.Makes.{id_kept}
 use Rattle.dl_making.specs.Making.{code_of, told_after}
 use Rattle.dl_pack.specs.Faults.{TellsUnnamed}
-use Rattle.dl_making.proofs.IndexLemmas.{is_index_of, rise}
+use Rattle.dl_pack.specs.Telling.{named_told}
+use Rattle.dl_pack.proofs.FaultLemmas.{on_err}
+use Rattle.dl_making.proofs.IndexLemmas.{is_index_of, named_is, rise}
 use Rattle.dl_making.proofs.NamedFiles.{none_unnamed}
 use Rattle.dl_making.proofs.making.told_index.Goals as goal
 
-pub returns-in-Ok : goal.returns-in-Ok
-returns-in-Ok c first start held visits m =
+pub returns-in-Ok-clause-index : goal.returns-in-Ok-clause-index
+returns-in-Ok-clause-index g c first start held visits m =
     let t = m.tells c.if-maker.false in
     let names = c.args.maker.now.names in
     let made = c.in-Ok.ensures in
@@ -31,7 +35,7 @@ returns-in-Ok c first start held visits m =
     ∙ ap (λ id. index_of c.args.table.now.all id stretches (files_of names) (texts_of names)) c.id_front.ensures)
 
 pub unreachable-requires : goal.unreachable-requires
-unreachable-requires c =
+unreachable-requires g c =
     let first = c.requires.0 in
     let visits = c.requires.3 in
     let t = c.requires.4.tells c.if-maker.false in
@@ -45,7 +49,40 @@ unreachable-requires c =
     (subst (λ n. TellsUnnamed n stretches) (sym (length-map (files_of names) (named (texts_of names)))) fails.1.2)
 
 pub unreachable-requires-in-Err-BuildId : goal.unreachable-requires-in-Err-BuildId
-unreachable-requires-in-Err-BuildId c =
+unreachable-requires-in-Err-BuildId g c =
     let fails = rw c.in-Err-BuildId.field-0-is at c.in-Err-BuildId.ensures.fails in
     let short = ap length c.id_front.ensures in
     omega (arith, fails, short, length-take 32 c.args.table.now.build_id.now)
+
+pub returns-then-maker-clause-wants : goal.returns-then-maker-clause-wants
+returns-then-maker-clause-wants g c first start held visits m = inl (m.refused c.if-maker.true)
+
+pub returns-in_err-stretches-clause-wants : goal.returns-in_err-stretches-clause-wants
+returns-in_err-stretches-clause-wants g c =
+    let refused = c.in_err-stretches.ensures.refused in
+    on_err c.from_residual.result (λ first start held visits m.
+    inl (subst (λ memory. WasRefused (g.M.Memory.refuses memory)) m.same.memory (refused.0, refused.2)))
+
+pub returns-in-Err-NoMemory-clause-wants : goal.returns-in-Err-NoMemory-clause-wants
+returns-in-Err-NoMemory-clause-wants g c first start held visits m =
+    let fails = rw c.in-Err-NoMemory.field-0-is at c.in-Err-NoMemory.ensures.fails in
+    inl (subst (λ memory. WasRefused (g.M.Memory.refuses memory)) m.same.memory fails.1)
+
+pub returns-in-Err-TooMany-clause-wants : goal.returns-in-Err-TooMany-clause-wants
+returns-in-Err-TooMany-clause-wants g c first start held visits m =
+    let t = m.tells c.if-maker.false in
+    let names = c.args.maker.now.names in
+    let fails = rw c.in-Err-TooMany.field-0-is at c.in-Err-TooMany.ensures.fails in
+    let told = told_of_units (code_of first) t.units in
+    let are = c.in_ok-stretches.ensures.made (code_of first) t.units (rows_after [] visits) t.stands fails.1.0 fails.1.1 in
+    inr (record {
+      stretches = fails.1.0;
+      files = files_of names;
+      texts = texts_of names;
+      right = λ a lt. ap (option_and_then (named_told (named_files names))) (are.right a lt)
+          ∙ named_is (named_files names) (told a) (told_after first visits a) (t.tells a lt);
+      apart = are.apart;
+      starts = fails.1.2;
+      once = t.once;
+      many = fails.1.3;
+    })

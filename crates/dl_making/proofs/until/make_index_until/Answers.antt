@@ -1,11 +1,12 @@
-use Rattle.std.proofs.Common.{None, ap, sym, ◌∙◌}
+use Rattle.std.proofs.Common.{None, ap, subst, sym, ◌∙◌}
 use Rattle.std.proofs.KnownBytes.{Appends-nil}
+use Rattle.dl_memory.specs.Refusals.{WasRefused}
 use Rattle.dl_print.specs.ValueText.{strings_of}
 use Rattle.dl_run.specs.Commands.{strings_in}
-use Rattle.dl_making.specs.Until.{is_refused}
+use Rattle.dl_making.specs.Until.{MakesUntil, is_refused}
 use Rattle.dl_making.proofs.MakerLemmas.{begins}
 use Rattle.dl_making.proofs.MakingLemmas.{Knows}
-use Rattle.dl_making.proofs.UntilLemmas.{told_until, until, refused_by}
+use Rattle.dl_making.proofs.UntilLemmas.{told_until, until, refused_by, told_index_is}
 use Rattle.dl_run.proofs.BlameLemmas.{blames_where}
 use Rattle.dl_making.proofs.BlameLemmas.{never_read}
 use Rattle.dl_making.proofs.until.make_index_until.Goals as goal
@@ -17,15 +18,22 @@ returns-clause-ran g c =
     let options = c.args.options.now in
     let first = c.new-maker.result in
     let ended = c.read_units-ended.result in
+    let left = g.R.Read.remaining c.read_units-ended.new.input in
+    let index = c.index_until.result in
     let knows : Knows first c.args.table.now (strings_in options) =
     record { code = maker.code; directories = maker.directories; strings = ap strings_of maker.strings ∙ c.new-strings.ensures } in (
       read.0,
       read.1,
-      until options.dialect first c.args.table.now (strings_in options) knows options.limit read.0
-          (g.R.Read.remaining c.read_units-ended.new.input) c.read_units-ended.new.visitor None None
-          c.index_until.result c.index_until.ensures.told ended
+      subst (λ m. MakesUntil (g.M.Memory.refuses m) options.dialect (strings_in options) c.args.table.now options.limit read.0 left
+          ended index) maker.memory
+          (until g.M.Memory.refuses options.dialect first c.args.table.now (strings_in options) knows options.limit read.0 left
+          c.read_units-ended.new.visitor None None index ended
           (λ e. c.index_until.ensures.refused (refused_by ended c.err.result c.err.ensures.value e))
-          (read.2 (begins first None maker.runs maker.names (Appends-nil None)) (Appends-nil None)),
+          (λ some. told_index_is (λ m. WasRefused (g.M.Memory.refuses m)) g.M.Memory.refuses c.args.table.now
+          c.read_units-ended.new.visitor index c.index_until.ensures.told
+          (c.index_until.ensures.wants (ap is_refused c.err.ensures.value ∙ some)))
+          (read.2 (begins (λ m. WasRefused (g.M.Memory.refuses m)) first None maker.sufficed maker.runs maker.names
+          (Appends-nil None)) (Appends-nil None))),
     )
 
 pub index_until-requires : goal.index_until-requires
@@ -34,15 +42,15 @@ index_until-requires g c =
     let maker = c.new-maker.ensures in
     let first = c.new-maker.result in
     let ended = c.read_units-ended.result in
-    λ some. told_until c.args.options.now.dialect first c.args.options.now.limit read.0
+    λ some. told_until (λ m. WasRefused (g.M.Memory.refuses m)) c.args.options.now.dialect first c.args.options.now.limit read.0
     (g.R.Read.remaining c.read_units-ended.new.input) c.read_units-ended.new.visitor None None ended
     (ap is_refused (sym c.err.ensures.value) ∙ some)
-    (read.2 (begins first None maker.runs maker.names (Appends-nil None)) (Appends-nil None))
+    (read.2 (begins (λ m. WasRefused (g.M.Memory.refuses m)) first None maker.sufficed maker.runs maker.names (Appends-nil None)) (Appends-nil None))
 
 pub returns-clause-blames : goal.returns-clause-blames
 returns-clause-blames g c =
     let maker = c.new-maker.ensures in
     blames_where c.read_units-ended.ensures.blames (λ e. (
-      never_read c.new-maker.result (begins c.new-maker.result None maker.runs maker.names (Appends-nil None)),
+      never_read (λ m. WasRefused (g.M.Memory.refuses m)) c.new-maker.result (begins (λ m. WasRefused (g.M.Memory.refuses m)) c.new-maker.result None maker.sufficed maker.runs maker.names (Appends-nil None)),
       e,
     ))

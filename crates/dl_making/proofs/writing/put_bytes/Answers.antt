@@ -3,16 +3,16 @@ use Rattle.dl_print.proofs.Outs.{HasPrinted-nothing}
 use Rattle.dl_making.proofs.WritingLemmas.{flushed}
 use Rattle.dl_making.proofs.writing.put_bytes.Goals as goal
 
-pub returns-in-Ok : goal.returns-in-Ok
-returns-in-Ok g c =
+pub returns-in-Ok-clause-written : goal.returns-in-Ok-clause-written
+returns-in-Ok-clause-written g c =
     let old = g.W.Write.contents c.args.output.now in
     let nothing = HasPrinted-nothing old old c.new-printer.result (Appends-nil old) c.new-printer.ensures.nothing_pending
     c.new-printer.ensures.nothing_out in
     flushed old (g.W.Write.contents c.flush.new.output) c.args.bytes.now c.flush.new.self c.flush.result
     (c.flush.ensures.printed old c.args.bytes.now (c.in-Ok.ensures.printed old _ nothing)) c.flush.ensures.empty
 
-pub returns-in-Err : goal.returns-in-Err
-returns-in-Err g c =
+pub returns-in-Err-clause-written : goal.returns-in-Err-clause-written
+returns-in-Err-clause-written g c =
     let old = g.W.Write.contents c.args.output.now in
     let nothing = HasPrinted-nothing old old c.new-printer.result (Appends-nil old) c.new-printer.ensures.nothing_pending
     c.new-printer.ensures.nothing_out in

@@ -3,7 +3,7 @@ use Rattle.std.specs.Io.KnownBytes.{Appends}
 use Rattle.std.proofs.lemmas.Result.{err_from_is_err_and}
 use Rattle.dl_print.specs.Output.{TellsOut}
 use Rattle.dl_run.specs.Commands.{strings_in}
-use Rattle.dl_making.proofs.WritingLemmas.{keeps_same, lost, not_made, written}
+use Rattle.dl_making.proofs.WritingLemmas.{keeps_same, lost, never_written, not_made, written}
 use Rattle.dl_run.proofs.BlameLemmas.{blames_where, same_answer}
 use Rattle.dl_making.proofs.writing.write_index.Goals as goal
 
@@ -15,7 +15,7 @@ returns-in_err-made-clause-ran g c =
     rw (p.1, p.2) (
       read.0,
       read.1,
-      not_made options.dialect (strings_in options) c.args.table.now options.limit read.0
+      not_made (g.M.Memory.refuses c.args.memory.now) options.dialect (strings_in options) c.args.table.now options.limit read.0
           (g.R.Read.remaining c.make_index.new.input) (g.W.Write.contents c.args.output.now)
           (g.W.Write.contents c.args.output.now) _ read.2 (keeps_same (g.W.Write.contents c.args.output.now)),
     )
@@ -28,9 +28,9 @@ returns-in-Ok-clause-ran g c =
     let new = g.W.Write.contents c.put_bytes.new.output in (
       read.0,
       read.1,
-      written options.dialect (strings_in options) c.args.table.now options.limit read.0
+      written (g.M.Memory.refuses c.args.memory.now) options.dialect (strings_in options) c.args.table.now options.limit read.0
           (g.R.Read.remaining c.make_index.new.input) old new c.in_ok-made.made read.2
-          (subst (Appends old new) c.as_slice.ensures.value c.in-Ok.ensures),
+          (subst (Appends old new) c.as_slice.ensures.value c.in-Ok.ensures.written),
     )
 
 pub returns-clause-ran : goal.returns-clause-ran
@@ -41,9 +41,9 @@ returns-clause-ran g c =
     let new = g.W.Write.contents c.put_bytes.new.output in (
       read.0,
       read.1,
-      lost options.dialect (strings_in options) c.args.table.now options.limit read.0
+      lost (g.M.Memory.refuses c.args.memory.now) options.dialect (strings_in options) c.args.table.now options.limit read.0
           (g.R.Read.remaining c.make_index.new.input) old new c.in_ok-made.made c.in-Err.lost read.2
-          (subst (λ text. TellsOut old new text c.in-Err.lost) c.as_slice.ensures.value c.in-Err.ensures),
+          (subst (λ text. TellsOut old new text c.in-Err.lost) c.as_slice.ensures.value c.in-Err.ensures.written),
     )
 
 pub returns-in_err-made-clause-blames : goal.returns-in_err-made-clause-blames
@@ -56,3 +56,11 @@ returns-in-Ok-clause-blames g c = blames_where c.in_ok-made.ensures.blames (λ e
 
 pub returns-clause-blames : goal.returns-clause-blames
 returns-clause-blames g c = blames_where c.in_ok-made.ensures.blames (λ e. absurd cc)
+
+pub returns-in_err-made-clause-blames_writer : goal.returns-in_err-made-clause-blames_writer
+returns-in_err-made-clause-blames_writer g c =
+    let p = err_from_is_err_and c.from_residual.result c.from_residual.ensures.1 in
+    let options = c.args.options.now in
+    let read = c.in_err-made.ensures.ran in
+    rw (p.1, p.2) (never_written _ (g.M.Memory.refuses c.args.memory.now) options.dialect (strings_in options) c.args.table.now options.limit read.0
+    (g.R.Read.remaining c.make_index.new.input) _ read.2)

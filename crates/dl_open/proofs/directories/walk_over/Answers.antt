@@ -9,12 +9,14 @@ loop-walk-preserved g c =
     let more = taken _ _ _ _ _ _ _ read.0 c.in_ok-piece.field-0 c.in-Bytes.is read.1 read.3 c.in_ok-piece.ensures.piece in
     record {
       damage = c.next_piece.ensures.damage ∙ l.invariant.damage;
+      later = λ error at. l.invariant.later error (c.next_piece.ensures.later error at);
       read = (read.0 ++ c.in-Bytes.piece.now, more.0, c.in-Ok.ensures.stands _ _ read.0 read.2, more.1);
     }
 
-pub returns-in-Lost : goal.returns-in-Lost
-returns-in-Lost g c content gives =
+pub returns-in-Lost-clause-walked : goal.returns-in-Lost-clause-walked
+returns-in-Lost-clause-walked g c source content gives =
+    let fails = g.S.ReadAt.fails_with source in
     let read = c.loop-walk.invariant.read in
-    sym (lost {S = g.row.S.Denot} g.S.ReadAt.all_bytes c.args.info.now c.loop-walk.info c.next_piece.new.section
+    sym (lost {S = g.row.S.Denot} g.S.ReadAt.all_bytes g.S.ReadAt.fails_with fails c.args.info.now c.loop-walk.info c.next_piece.new.section
     content _ _ _ read.0 c.in_ok-piece.field-0 c.in-Lost.is gives read.1 read.3 c.loop-walk.invariant.damage
     c.in_ok-piece.ensures.piece)

@@ -8,7 +8,7 @@ returns-in-Err g c f known short =
     let fault = c.in-Err.fault in
     let opened = c.open_line_file in (
       Elf fault,
-      refuses {S = g.row.S.Denot} g.S.ReadAt.all_bytes (g.S.ReadAt.fails_with c.args.file.now) f c.args.wanted
+      refuses {S = g.row.S.Denot} g.S.ReadAt.all_bytes g.S.ReadAt.fails_with (g.S.ReadAt.fails_with c.args.file.now) f c.args.wanted
           opened.result fault c.in-Err.is (opened.ensures.opens f known short) opened.ensures.read,
       (refl, refl),
     )

@@ -10,5 +10,5 @@ returns-then-not-table g c f known short =
 pub returns : goal.returns
 returns g c f known short =
     let (t, has, given) = c.in-Ok.ensures f known short in
-    with_section _ {S = g.row.S.Denot} g.S.ReadAt.all_bytes (g.S.ReadAt.fails_with c.args.file.now) c.args.path.now
+    with_section _ {S = g.row.S.Denot} g.S.ReadAt.all_bytes g.S.ReadAt.fails_with (g.S.ReadAt.fails_with c.args.file.now) c.args.path.now
     f t c.with_named.result (sym given.has_str ∙ c.if-not-table.false) has (c.with_named.ensures f known short t given has)

@@ -6,7 +6,7 @@ use Rattle.dl_pack.proofs.HeadLemmas.{filled_sums}
 use Rattle.dl_pack.proofs.header.fill_header.Goals as goal
 
 pub returns-clause-whole : goal.returns-clause-whole
-returns-clause-whole c =
+returns-clause-whole g c =
     let same : c.args.bytes.now.len ≡ length c.args.bytes.now.items = sym c.deref.ensures.len ∙ ap length c.deref.ensures.value in
     let room : 128 ≤ length c.args.bytes.now.items = omega arith in
     let five : length c.args.described.now.widths ≡ 5 = search rules in
@@ -22,7 +22,7 @@ returns-clause-whole c =
     ∙ ap (λ xs. c.as_slice.result.now ++ drop (length c.as_slice.result.now) xs) c.as_mut_slice.ensures.value)
 
 pub returns-clause-sums : goal.returns-clause-sums
-returns-clause-sums c =
+returns-clause-sums g c =
     let same : c.args.bytes.now.len ≡ length c.args.bytes.now.items = sym c.deref.ensures.len ∙ ap length c.deref.ensures.value in
     let room : 128 ≤ length c.args.bytes.now.items = omega arith in
     let five : length c.args.described.now.widths ≡ 5 = search rules in
@@ -33,4 +33,4 @@ returns-clause-sums c =
     c.args.described.now.texts c.args.described.now.text_bytes c.crc_32.result c.args.described.now.widths
     c.args.build_id.now (c.len.ensures ∙ same) (omega arith) room five c.requires.short
     (c.crc_32.ensures ∙ ap crc_32 (take_all _ (drop 128 c.deref.result.now) all) ∙ ap (λ xs. crc_32 (drop 128 xs)) c.deref.ensures.value)
-    (omega arith) c.in_ok-header.ensures.sum (returns-clause-whole c)
+    (omega arith) c.in_ok-header.ensures.sum (returns-clause-whole g c)

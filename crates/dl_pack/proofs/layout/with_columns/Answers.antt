@@ -1,5 +1,6 @@
-use Rattle.std.proofs.Common.{◌++◌, ◌∷◌, [], length, map, arith, ap, ap₂, sym, subst, ◌∙◌, length-append}
+use Rattle.std.proofs.Common.{ℕ, replicate, ◌++◌, ◌∷◌, [], length, map, arith, ap, ap₂, sym, subst, ◌∙◌, length-append}
 use Rattle.std.specs.List.{flat_map}
+use Rattle.std.proofs.lemmas.List.{length-replicate}
 use Rattle.dl_index.specs.Columns.{size_of}
 use Rattle.dl_pack.specs.Columns.{columns_of, padded, part_by, statement_bytes}
 use Rattle.dl_pack.specs.IndexOf.{base_of}
@@ -26,7 +27,7 @@ returns-clause-put g c = λ list stands. (
     let t = c.args.totals.now in
     let first = c.in_ok-writer.writer in
     let now = c.tell.new.sink in
-    let front = c.args.front.items in
+    let front = replicate {A = ℕ} 128 0 in
     let told = c.tell.ensures in
     let all = c.requires.totals list stands in
     let few = c.in_ok-writer.ensures.few in
@@ -45,7 +46,8 @@ returns-clause-room g c =
     omega (
       arith,
       ap length put,
-      length-append c.args.front.items
+      length-replicate {A = ℕ} 128 0,
+      length-append (replicate {A = ℕ} 128 0)
           (flat_map padded (map (part_by (base_of list) (order_of c.args.totals.now.files.files) list) columns_of)
           ++ padded (statement_bytes list)),
     )
@@ -55,7 +57,7 @@ returns-clause-widths g c = λ list stands. (
     let t = c.args.totals.now in
     let first = c.in_ok-writer.writer in
     let now = c.tell.new.sink in
-    let front = c.args.front.items in
+    let front = replicate {A = ℕ} 128 0 in
     let told = c.tell.ensures in
     let all = c.requires.totals list stands in
     let few = c.in_ok-writer.ensures.few in

@@ -1,7 +1,6 @@
-use Rattle.std.proofs.Common.{◌≡◌, ◌<◌, ◌^◌, ◌++◌, ℕ, ap, ◌∙◌, sym, replicate, length, map, rules, subst, arith, length-append}
+use Rattle.std.proofs.Common.{◌≡◌, ◌<◌, ◌^◌, ◌++◌, ℕ, ap, ◌∙◌, sym, replicate, length, map, rules, subst, arith, length-append, refl}
 use Rattle.std.specs.List.{flat_map}
 use Rattle.std.specs.Prelude.{if◌then◌else◌}
-use Rattle.std.proofs.lemmas.List.{length-replicate}
 use Rattle.dl_pack.specs.Columns.{columns_of, padded, width_by}
 use Rattle.dl_pack.specs.Fits.{NumbersFit, AreKnown}
 use Rattle.dl_pack.specs.IndexOf.{base_of, text_order, tables_by, index_by, body_by}
@@ -15,16 +14,12 @@ use Rattle.dl_pack.proofs.making.made.Goals as goal
 pub fill_header-requires-clause-room : goal.fill_header-requires-clause-room
 fill_header-requires-clause-room g c =
     let names = c.args.names.now in
-    let zeros = c.in_ok-put_zeros.ensures ∙ ap (λ o. o ++ replicate {A = ℕ} 128 0) c.new-front.ensures.items in
-    let tables = flat_map padded (tables_by (order_of c.args.totals.now.files.files) (order_of c.in_ok-texts.texts)
+    let tables = flat_map padded (tables_by (order_of c.args.totals.now.files.files) (order_of c.args.texts.now)
     (files_of names) (texts_of names)) in
-    let first = ap length zeros in
     let last = ap length c.in_ok-text_bytes.ensures.put in
     omega (
       arith,
       c.in_ok-bytes.ensures.room,
-      first,
-      length-replicate {A = ℕ} 128 0,
       last,
       length-append c.in_ok-bytes.bytes.items tables,
       c.put_tables.new.bytes.ok.0,
@@ -40,18 +35,17 @@ returns-clause-made g c = λ list stands. (
     let order = order_of t.files.files in
     let is = ordered t all.0 list all.1 c.requires.good in
     let flags : c.from.result ≡ (if c.args.all then 1 else 0) = search rules in
-    made_whole c.args.all c.args.build_id.now order (order_of c.in_ok-texts.texts) (text_order files order) list
+    made_whole c.args.all c.args.build_id.now order (order_of c.args.texts.now) (text_order files order) list
     files texts c.from.result t.starts.base t.starts.count
     (length c.order.result.now) (length c.order-2.result.now) c.in_ok-text_bytes.text_bytes
     c.in_ok-bytes.widths c.put_tables.new.bytes.items _ flags all.1.starts.base (c.in_ok-bytes.ensures.few list stands)
     (ap length c.order.ensures.order) (ap length c.order-2.ensures.order) c.in_ok-text_bytes.ensures.total
     (c.in_ok-bytes.ensures.widths list stands ∙ ap (λ b. map (width_by b order list) columns_of) (sym all.1.starts.base))
-    c.in_ok-texts.ensures.order
+    c.requires.order
     (c.in_ok-text_bytes.ensures.put
-    ∙ body_put (replicate {A = ℕ} 128 0) c.put_zeros.new.out.items _ (base_of list) order (order_of c.in_ok-texts.texts) list files texts
-    (c.in_ok-put_zeros.ensures ∙ ap (λ o. o ++ replicate {A = ℕ} 128 0) c.new-front.ensures.items)
-    (c.in_ok-bytes.ensures.put list stands)
-    ∙ ap (λ b. replicate {A = ℕ} 128 0 ++ body_by b order (order_of c.in_ok-texts.texts) list files texts)
+    ∙ body_put (replicate {A = ℕ} 128 0) (replicate {A = ℕ} 128 0) _ (base_of list) order (order_of c.args.texts.now) list files texts
+    refl (c.in_ok-bytes.ensures.put list stands)
+    ∙ ap (λ b. replicate {A = ℕ} 128 0 ++ body_by b order (order_of c.args.texts.now) list files texts)
     (sym all.1.starts.base))
     c.in_ok-fill_header.ensures.whole
     ∙ ap (λ o. index_by c.args.all c.args.build_id.now o (text_order files o) list files texts) is)
@@ -68,11 +62,11 @@ returns-clause-fits g c = λ list stands. (
     record {
       starts = all.1.starts.starts;
       numbers = subst (λ o. NumbersFit (base_of list) o list) is (c.in_ok-bytes.ensures.fits list stands);
-      known = subst (AreKnown files (length texts)) is c.in_ok-texts.ensures.known;
+      known = subst (AreKnown files (length texts)) is c.requires.known;
       count = (let n = c.in_ok-bytes.ensures.few list stands in omega (arith, n));
       files_few = subst (λ o. length o < 2 ^ 32) (c.order.ensures.order ∙ is) c.order.ensures.few;
-      texts_few = subst (λ o. length o < 2 ^ 32) (c.order-2.ensures.order ∙ c.in_ok-texts.ensures.order
+      texts_few = subst (λ o. length o < 2 ^ 32) (c.order-2.ensures.order ∙ c.requires.order
           ∙ ap (text_order files) is) c.order-2.ensures.few;
-      total = subst (λ o. total_len (texts_at texts o) < 2 ^ 64) (c.in_ok-texts.ensures.order ∙ ap (text_order files) is)
+      total = subst (λ o. total_len (texts_at texts o) < 2 ^ 64) (c.requires.order ∙ ap (text_order files) is)
           (subst (λ n. n < 2 ^ 64) c.in_ok-text_bytes.ensures.total (omega arith));
     })

@@ -11,8 +11,9 @@ returns-in-Some-clause-fails g c =
     let told = c.tell.ensures in
     let now = c.tell.new.sink in
     let all = told.3 c.new-totals.result [] (λ m z. z) n
-    (subst (λ m. Totalled m c.new-totals.result []) (c.in-Ok.ensures.1 ∙ c.file_count.ensures) c.new-totals.ensures) in
-    totals_fail n (g.T.Stretches.stands c.args.stretches.now) told.0 c.in-Some.fault told.1
+    (subst (λ m. Totalled m c.new-totals.result []) (c.in-Ok.ensures.made.1 ∙ c.file_count.ensures) c.new-totals.ensures) in
+    totals_fail (g.M.Memory.refuses c.args.memory.now) (files_of c.args.names.now) (g.T.Stretches.stands c.args.stretches.now)
+    told.0 c.in-Some.fault told.1 all.starts.starts
     (subst (λ o. OrderOr o n (order_of now.files.files) told.0) (sym c.fault.ensures ∙ c.in-Some.is) all.files.order)
 
 pub returns-in-None-clause-totals : goal.returns-in-None-clause-totals
@@ -20,5 +21,5 @@ returns-in-None-clause-totals g c = λ list stands. (
     let n = length (files_of c.args.names.now) in
     let told = c.tell.ensures in
     let all = told.3 c.new-totals.result [] (λ m z. z) n
-    (subst (λ m. Totalled m c.new-totals.result []) (c.in-Ok.ensures.1 ∙ c.file_count.ensures) c.new-totals.ensures) in
+    (subst (λ m. Totalled m c.new-totals.result []) (c.in-Ok.ensures.made.1 ∙ c.file_count.ensures) c.new-totals.ensures) in
     subst (Totalled n c.tell.new.sink) (sym (told.2 list stands)) all)

@@ -4,7 +4,7 @@ use Rattle.dl_pack.proofs.TableLemmas.{bytes_more}
 use Rattle.dl_pack.proofs.tables.put_bytes.Goals as goal
 
 pub loop-text-preserved : goal.loop-text-preserved
-loop-text-preserved c =
+loop-text-preserved g c =
     bytes_more (texts_of c.args.names.now) c.order-text-items.result.now (order_of c.args.texts.now) c.loop-text.text-index
     _ c.args.out.now.items _ _ _ c.order-text-items.ensures.order c.loop-text-test.true c.text_at.ensures
-    c.loop-text.invariant c.in-Ok.ensures.items
+    c.loop-text.invariant c.in_ok-extend_from_slice.ensures.items

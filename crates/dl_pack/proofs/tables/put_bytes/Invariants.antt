@@ -6,5 +6,5 @@ use Rattle.dl_pack.specs.Mentioned.{order_of}
 use Rattle.dl_pack.proofs.tables.put_bytes.Given as goal
 
 abbrev pub invariant-loop-text : goal.invariant-loop-text
-invariant-loop-text l =
+invariant-loop-text g l =
     l.out.items ≡ l.fn.out.items ++ concat (texts_at (texts_of l.names) (take l.text-index (order_of l.texts)))

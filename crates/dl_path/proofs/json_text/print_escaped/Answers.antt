@@ -16,8 +16,8 @@ loop-at-init g c = record {
   printed = nothing_yet (g.W.Write.contents c.args.output.now) c.args.printer.now (escape c.args.text.now);
 }
 
-pub returns-in_err-print_front : goal.returns-in_err-print_front
-returns-in_err-print_front g c start text h =
+pub returns-in_err-print_front-clause-printed : goal.returns-in_err-print_front-clause-printed
+returns-in_err-print_front-clause-printed g c start text h =
     let p = err_from_is_err_and c.from_residual.result c.from_residual.ensures.1 in
     let l = c.loop-at in
     let all = c.args.text.now in
@@ -26,7 +26,7 @@ returns-in_err-print_front g c start text h =
     rw (p.1, p.2) (front_lost (g.W.Write.contents c.args.output.now) (g.W.Write.contents l.output)
     (g.W.Write.contents c.print_front.new.output) c.args.printer.now l.printer (escape all) (escape (drop l.at all))
     (front_text escape_byte (take len w)) (escape (drop len w)) l.invariant.printed
-    (ap escape (sym (left all l.at)) ∙ c.front_len-len.ensures.cut) _ c.in_err-print_front.ensures start text h)
+    (ap escape (sym (left all l.at)) ∙ c.front_len-len.ensures.cut) _ c.in_err-print_front.ensures.printed start text h)
 
 pub loop-at-preserved : goal.loop-at-preserved
 loop-at-preserved g c =
@@ -45,11 +45,11 @@ loop-at-preserved g c =
           ∙ c.front_len-len.ensures.cut
           ∙ ap (λ (x : List ℕ). front_text escape_byte (take len w) ++ escape x)
           (ap (drop len) (left all l.at) ∙ drop-drop len l.at all))
-          c.print_front.new.printer c.in_ok-print_front.ensures;
+          c.print_front.new.printer c.in_ok-print_front.ensures.printed;
     }
 
-pub returns : goal.returns
-returns g c =
+pub returns-clause-printed : goal.returns-clause-printed
+returns-clause-printed g c =
     let l = c.loop-at in
     all_fronts (g.W.Write.contents c.args.output.now) (g.W.Write.contents l.output) c.args.printer.now l.printer
     (escape c.args.text.now) (escape (drop l.at c.args.text.now)) l.invariant.printed

@@ -21,8 +21,8 @@ loop-chunk-init g c =
     ∙ c.utf8_chunks-chunk-items.ensures.rest))
     (nothing_yet old c.args.printer.now all)
 
-pub returns-in_err-print_escaped : goal.returns-in_err-print_escaped
-returns-in_err-print_escaped g c start text h =
+pub returns-in_err-print_escaped-clause-printed : goal.returns-in_err-print_escaped-clause-printed
+returns-in_err-print_escaped-clause-printed g c start text h =
     let p = err_from_is_err_and c.from_residual.result c.from_residual.ensures.1 in
     let l = c.loop-chunk in
     let s = c.in-Some.ensures.steps in
@@ -37,7 +37,7 @@ returns-in_err-print_escaped g c start text h =
     (escape (utf8_lossy rest)) l.invariant
     (chunk_text (utf8_chunks_rest l.chunk-iterator) valid invalid rest s.0 s.3.0 s.3.1 s.2) _
     (loses_front mid new l.printer (escape valid) b _
-    (rw (c.as_bytes.ensures.value, c.valid.ensures) at c.in_err-print_escaped.ensures)) start text h)
+    (rw (c.as_bytes.ensures.value, c.valid.ensures) at c.in_err-print_escaped.ensures.printed)) start text h)
 
 pub loop-chunk-preserved : goal.loop-chunk-preserved
 loop-chunk-preserved g c =
@@ -56,11 +56,11 @@ loop-chunk-preserved g c =
     (chunk_text (utf8_chunks_rest l.chunk-iterator) valid invalid rest s.0 s.3.0 s.3.1 s.2)
     c.print_replacement.new.printer
     (more_then mid between new l.printer c.print_escaped.new.printer c.print_replacement.new.printer (escape valid) b
-    (rw (c.as_bytes.ensures.value, c.valid.ensures) at c.in_ok-print_escaped.ensures)
-    (rw c.invalid.ensures at c.in_ok-print_replacement.ensures))
+    (rw (c.as_bytes.ensures.value, c.valid.ensures) at c.in_ok-print_escaped.ensures.printed)
+    (rw c.invalid.ensures at c.in_ok-print_replacement.ensures.printed))
 
-pub returns-in_err-print_replacement : goal.returns-in_err-print_replacement
-returns-in_err-print_replacement g c start text h =
+pub returns-in_err-print_replacement-clause-printed : goal.returns-in_err-print_replacement-clause-printed
+returns-in_err-print_replacement-clause-printed g c start text h =
     let p = err_from_is_err_and c.from_residual-in_err-print_replacement.result
     c.from_residual-in_err-print_replacement.ensures.1 in
     let l = c.loop-chunk in
@@ -77,18 +77,18 @@ returns-in_err-print_replacement g c start text h =
     (escape (utf8_lossy rest)) l.invariant
     (chunk_text (utf8_chunks_rest l.chunk-iterator) valid invalid rest s.0 s.3.0 s.3.1 s.2) _
     (loses_then mid between new l.printer c.print_escaped.new.printer (escape valid) b _
-    (rw (c.as_bytes.ensures.value, c.valid.ensures) at c.in_ok-print_escaped.ensures)
-    (rw c.invalid.ensures at c.in_err-print_replacement.ensures)) start text h)
+    (rw (c.as_bytes.ensures.value, c.valid.ensures) at c.in_ok-print_escaped.ensures.printed)
+    (rw c.invalid.ensures at c.in_err-print_replacement.ensures.printed)) start text h)
 
-pub returns : goal.returns
-returns g c =
+pub returns-clause-printed : goal.returns-clause-printed
+returns-clause-printed g c =
     let l = c.loop-chunk in
     all_fronts (g.W.Write.contents c.args.output.now) (g.W.Write.contents l.output) c.args.printer.now l.printer
     (escape (utf8_lossy c.args.text.now)) (escape (utf8_lossy (utf8_chunks_rest l.chunk-iterator))) l.invariant
     (ap escape (utf8_lossy_empty (utf8_chunks_rest l.chunk-iterator) c.in-None.ensures.steps.0))
 
-pub returns-then-is_all_plain : goal.returns-then-is_all_plain
-returns-then-is_all_plain g c =
+pub returns-then-is_all_plain-clause-printed : goal.returns-then-is_all_plain-clause-printed
+returns-then-is_all_plain-clause-printed g c =
     let text = c.args.text.now in
     prints_same (g.W.Write.contents c.args.output.now) (g.W.Write.contents c.put.new.output) c.args.printer.now
     c.put.new.self text (escape (utf8_lossy c.args.text.now)) c.put.result

@@ -31,6 +31,7 @@ returns-then-is_empty g c =
           (g.W.Write.contents c.args.output.now) (g.W.Write.contents c.pieces.output) _
           (omega (arith, so.within), c.in-Ok.ensures.end none) (omega (arith, c.requires.limit, so.within)) is);
       blames = blames_next _ c.pieces.invariant.follows c.next_piece.ensures.blames (λ e. absurd cc);
+      blames_writer = λ tells out. tt;
     }
 
 pub returns-in_err-feed : goal.returns-in_err-feed
@@ -46,6 +47,8 @@ returns-in_err-feed g c =
           c.args.options.now.dialect (so.t ++ c.front-within.result.now) c.feed.new.self c.in_err-feed.field-0.0
           (c.in_err-feed.ensures.fed c.args.options.now.dialect so.t
           c.args.visitor.now (g.W.Write.contents c.args.output.now) (so.told e.0.tells e.0.out)) (same_fault _ e.1)));
+      blames_writer = λ tells out. c.in_err-feed.ensures.blames_writer c.args.options.now.dialect so.t
+          c.args.visitor.now (g.W.Write.contents c.args.output.now) (so.told tells out);
     })
 
 pub returns-in-Stop : goal.returns-in-Stop
@@ -56,6 +59,7 @@ returns-in-Stop g c =
           c.front-within.ensures.front c.in-Stop.is (λ is. c.in_ok-feed.ensures.fed c.args.options.now.dialect so.t
           c.args.visitor.now (g.W.Write.contents c.args.output.now) is) c.survey.ensures;
       blames = blames_next _ c.pieces.invariant.follows c.next_piece.ensures.blames (λ e. absurd cc);
+      blames_writer = λ tells out. tt;
     }
 
 pub returns-then-within-piece : goal.returns-then-within-piece
@@ -66,6 +70,7 @@ returns-then-within-piece g c =
           c.front-within.ensures.front c.in-On.is (λ is. c.in_ok-feed.ensures.fed c.args.options.now.dialect so.t
           c.args.visitor.now (g.W.Write.contents c.args.output.now) is) c.if-within-piece.true;
       blames = blames_next _ c.pieces.invariant.follows c.next_piece.ensures.blames (λ e. absurd cc);
+      blames_writer = λ tells out. tt;
     }
 
 pub pieces-preserved : goal.pieces-preserved

@@ -9,6 +9,7 @@ returns-in_err-summary g c =
     rw (p.1, p.2) (record {
       ran = failed _ _ _ _ _ _ _ _ _ tt _ c.in_err-summary.ensures.ran;
       blames = blames_where c.in_err-summary.ensures.blames (λ e. (record { tells = begins tt; out = Appends-nil _; never = λ visits no. no }, e));
+      blames_writer = c.in_err-summary.ensures.blames_writer (begins tt) (Appends-nil _);
     })
 
 pub returns-in_err-summary-2 : goal.returns-in_err-summary-2
@@ -21,6 +22,7 @@ returns-in_err-summary-2 g c =
       ran = line_lost _ _ _ _ _ _ _ _ _ tt _ c.in_ok-summary.ensures.ran (g.W.Write.contents c.summary.new.output) _
           (c.in_err-summary-2.ensures.printed _ [] nothing);
       blames = blames_where c.in_ok-summary.ensures.blames (λ e. absurd cc);
+      blames_writer = c.in_err-summary-2.ensures.blames;
     })
 
 pub returns-in_err-flush : goal.returns-in_err-flush
@@ -34,6 +36,7 @@ returns-in_err-flush g c =
           (c.in_err-flush.ensures.printed _ (summary_line c.in_ok-summary.summary)
           (c.in_ok-summary-2.ensures.printed _ [] nothing));
       blames = blames_where c.in_ok-summary.ensures.blames (λ e. absurd cc);
+      blames_writer = c.in_err-flush.ensures.blames;
     })
 
 pub returns : goal.returns
@@ -49,4 +52,5 @@ returns g c =
       ran = line_out _ _ _ _ _ _ _ _ _ tt _ c.in_ok-summary.ensures.ran now
           (HasPrinted-out start now line c.flush.new.self printed c.in_ok-flush.ensures.empty);
       blames = blames_where c.in_ok-summary.ensures.blames (λ e. absurd cc);
+      blames_writer = tt;
     }

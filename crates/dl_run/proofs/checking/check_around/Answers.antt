@@ -10,6 +10,7 @@ returns-in_err-survey g c =
     rw (p.1, p.2) (record {
       ran = failed_around _ _ _ _ _ _ _ _ _ _ (search) _ c.in_err-survey.ensures.ran;
       blames = blames_where c.in_err-survey.ensures.blames (λ e. (record { tells = begins e.0; out = Appends-nil _; never = λ visits no. no }, e.1));
+      blames_writer = λ hears. c.in_err-survey.ensures.blames_writer (begins hears) (Appends-nil _);
     })
 
 pub returns-in_err-survey-2 : goal.returns-in_err-survey-2
@@ -21,6 +22,7 @@ returns-in_err-survey-2 g c =
           (g.W.Write.contents c.survey.new.output) _ (λ out. rw (← c.damaged_units.ensures) (c.in_err-survey-2.ensures.printed _ []
           (HasPrinted-nothing _ _ new.result out new.ensures.nothing_pending new.ensures.nothing_out)));
       blames = blames_where c.in_ok-survey.ensures.blames (λ e. absurd cc);
+      blames_writer = λ hears. c.in_err-survey-2.ensures.blames;
     })
 
 pub returns-in_err-flush : goal.returns-in_err-flush
@@ -33,6 +35,7 @@ returns-in_err-flush g c =
           (c.in_ok-survey-2.ensures.printed _ []
           (HasPrinted-nothing _ _ new.result out new.ensures.nothing_pending new.ensures.nothing_out))));
       blames = blames_where c.in_ok-survey.ensures.blames (λ e. absurd cc);
+      blames_writer = λ hears. c.in_err-flush.ensures.blames;
     })
 
 pub returns : goal.returns
@@ -47,4 +50,5 @@ returns g c =
           (HasPrinted-nothing _ _ new.result out new.ensures.nothing_pending new.ensures.nothing_out)))
           c.in_ok-flush.ensures.empty));
       blames = blames_where c.in_ok-survey.ensures.blames (λ e. absurd cc);
+      blames_writer = λ hears. tt;
     }

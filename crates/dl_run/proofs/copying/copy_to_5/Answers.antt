@@ -29,4 +29,6 @@ returns g c =
         },
         e,
       ));
+      blames_writer = c.read_units.ensures.blames_writer
+          (begins copier.result _ copier.ensures.nothing_pending copier.ensures.nothing_out) (Appends-nil _);
     }

@@ -3,14 +3,14 @@ use Rattle.dl_run.proofs.Names.{◌++◌, append_assoc, err_from_is_err_and, Has
 use Rattle.dl_run.proofs.Names.{TellsOut-front, ℕ}
 use Rattle.dl_run.proofs.copying.print_parts.Goals as goal
 
-pub returns-in_err-put : goal.returns-in_err-put
-returns-in_err-put g c start text h =
+pub returns-in_err-put-clause-printed : goal.returns-in_err-put-clause-printed
+returns-in_err-put-clause-printed g c start text h =
     let p = err_from_is_err_and c.from_residual.result c.from_residual.ensures.1 in
     rw (p.1, p.2) (TellsOut-front start _ text c.args.first.now c.args.last.now _
     (c.in_err-put.ensures.printed start text h))
 
-pub returns : goal.returns
-returns g c start text h =
+pub returns-clause-printed : goal.returns-clause-printed
+returns-clause-printed g c start text h =
     let first = c.args.first.now in
     let last = c.args.last.now in
     let printed = c.put-2.ensures.printed start (text ++ first) (c.in_ok-put.ensures.printed start text h) in

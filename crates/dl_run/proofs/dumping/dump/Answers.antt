@@ -20,4 +20,6 @@ returns g c =
         },
         e,
       ));
+      blames_writer = c.read_units.ensures.blames_writer
+          (record { strings = refl; damages = refl; heard = tt; printed = nothing }) (Appends-nil start);
     }

@@ -24,4 +24,6 @@ returns g c =
         },
         e.1,
       ));
+      blames_writer = λ none. c.read_units_around.ensures.blames_writer
+          (record { strings = refl; damages = refl; heard = none; printed = nothing }) (Appends-nil start);
     }

@@ -24,6 +24,7 @@ returns-in_err-summary g c =
         record { tells = begun; out = Appends-nil _; never = λ visits no. no },
         e,
       ));
+      blames_writer = c.in_err-summary.ensures.blames_writer begun (Appends-nil _);
     })
 
 pub returns-then-seeker : goal.returns-then-seeker
@@ -38,6 +39,7 @@ returns-then-seeker g c =
         found _ _ _ _ _ first _ _ _ c.new-strings.ensures _ c.if-seeker.true (read.2 begun (Appends-nil _)),
       );
       blames = blames_where c.in_ok-summary.ensures.blames (λ e. absurd cc);
+      blames_writer = tt;
     }
 
 pub returns-else-seeker : goal.returns-else-seeker
@@ -52,4 +54,5 @@ returns-else-seeker g c =
         not_found _ _ _ _ _ first _ _ _ c.new-strings.ensures _ c.if-seeker.false (read.2 begun (Appends-nil _)),
       );
       blames = blames_where c.in_ok-summary.ensures.blames (λ e. absurd cc);
+      blames_writer = tt;
     }

@@ -5,7 +5,7 @@ use Rattle.std.proofs.lemmas.List.{nil_from_length}
 use Rattle.std.proofs.KnownBytes.{Consumes-nil}
 use Rattle.dl_run.proofs.SectionLemmas.{none_begins, none_refused, nothing_before}
 use Rattle.dl_run.proofs.ReadLemmas.{failed_read, at_end, stops, wants_no_more, too_long, reads_on}
-use Rattle.dl_run.proofs.BlameLemmas.{blames_next, none_finished, none_worked, same_fault}
+use Rattle.dl_run.proofs.BlameLemmas.{blames_next, finished_blames, none_finished, none_worked, same_fault}
 use Rattle.dl_run.proofs.section.read_pieces.Goals as goal
 
 pub pieces-init : goal.pieces-init
@@ -35,6 +35,7 @@ returns-in_default g c =
           (g.W.Write.contents c.args.output.now) (g.W.Write.contents l.output) l.units l.left l.invariant.so
           (g.R.Read.remaining c.next_piece.new.reader) c.in_default.ensures.err;
       blames = blames_next _ (λ first is. l.invariant.follows first is) c.in_default.ensures.blames (λ e. refl);
+      blames_writer = λ tells out. tt;
     }
 
 pub returns-then-is_empty : goal.returns-then-is_empty
@@ -57,6 +58,12 @@ returns-then-is_empty g c =
           (c.finish.ensures c.args.options.now.dialect (nothing_before c.args.options.now.dialect) l.invariant.so.t
           told.units told.b told.are told.none told.sound
           (omega (arith, c.requires.limit, l.invariant.so.within))) e.1));
+      blames_writer = λ tells out.
+          let told = l.invariant.so.told tells out in
+          finished_blames _ (nothing_before c.args.options.now.dialect) l.invariant.so.t told.units told.b c.finish.result
+          (c.finish.ensures c.args.options.now.dialect (nothing_before c.args.options.now.dialect) l.invariant.so.t
+          told.units told.b told.are told.none told.sound
+          (omega (arith, c.requires.limit, l.invariant.so.within)));
     }
 
 pub returns-in_err-work_through : goal.returns-in_err-work_through
@@ -72,7 +79,7 @@ returns-in_err-work_through g c =
           (g.W.Write.contents c.args.output.now) (g.W.Write.contents l.output) l.units l.left l.invariant.so
           (g.R.Read.remaining c.next_piece.new.reader) c.in-Ok.piece.now c.in-Ok.ensures.ok c.work_through.new.visitor
           (g.W.Write.contents c.work_through.new.output) c.work_through.new.units _ _ c.front-within.ensures.front
-          (λ told. c.in_err-work_through.ensures c.args.options.now.dialect
+          (λ told. c.in_err-work_through.ensures.worked c.args.options.now.dialect
           (nothing_before c.args.options.now.dialect) l.invariant.so.t told.units told.b
           c.args.visitor.now (g.W.Write.contents c.args.output.now) told.are
           (omega (arith, c.requires.limit, l.invariant.so.within, c.front-within.ensures.short)) told.settled.tells);
@@ -80,9 +87,15 @@ returns-in_err-work_through g c =
           c.args.visitor.now c.work_through.new.visitor (g.W.Write.contents c.args.output.now)
           (g.W.Write.contents c.work_through.new.output) e.0.never (nothing_before c.args.options.now.dialect)
           (l.invariant.so.t ++ c.front-within.result.now) c.work_through.new.units c.in_err-work_through.field-0.0
-          (c.in_err-work_through.ensures c.args.options.now.dialect (nothing_before c.args.options.now.dialect)
+          (c.in_err-work_through.ensures.worked c.args.options.now.dialect (nothing_before c.args.options.now.dialect)
           l.invariant.so.t told.units told.b c.args.visitor.now (g.W.Write.contents c.args.output.now) told.are
           (omega (arith, c.requires.limit, l.invariant.so.within, c.front-within.ensures.short)) told.settled.tells) (same_fault _ e.1)));
+      blames_writer = λ tells out.
+          let told = l.invariant.so.told tells out in
+          c.in_err-work_through.ensures.blames_writer c.args.options.now.dialect
+          (nothing_before c.args.options.now.dialect) l.invariant.so.t told.units told.b
+          c.args.visitor.now (g.W.Write.contents c.args.output.now) told.are
+          (omega (arith, c.requires.limit, l.invariant.so.within, c.front-within.ensures.short)) told.settled.tells;
     })
 
 pub returns-in-Stop : goal.returns-in-Stop
@@ -95,11 +108,12 @@ returns-in-Stop g c =
           (g.R.Read.remaining c.next_piece.new.reader) c.in-Ok.piece.now c.in-Ok.ensures.ok c.work_through.new.visitor
           (g.W.Write.contents c.work_through.new.output) c.work_through.new.units c.in_ok-work_through.field-0 _
           c.in-Stop.is c.front-within.ensures.front
-          (λ told. c.in_ok-work_through.ensures c.args.options.now.dialect
+          (λ told. c.in_ok-work_through.ensures.worked c.args.options.now.dialect
           (nothing_before c.args.options.now.dialect) l.invariant.so.t told.units told.b
           c.args.visitor.now (g.W.Write.contents c.args.output.now) told.are
           (omega (arith, c.requires.limit, l.invariant.so.within, c.front-within.ensures.short)) told.settled.tells);
       blames = blames_next _ (λ first is. l.invariant.follows first is) c.next_piece.ensures.blames (λ e. absurd cc);
+      blames_writer = λ tells out. tt;
     }
 
 pub returns-then-within-piece : goal.returns-then-within-piece
@@ -112,12 +126,13 @@ returns-then-within-piece g c =
           (g.R.Read.remaining c.next_piece.new.reader) c.in-Ok.piece.now c.in-Ok.ensures.ok c.work_through.new.visitor
           (g.W.Write.contents c.work_through.new.output) c.work_through.new.units c.in_ok-work_through.field-0 _
           c.in-On.is c.front-within.ensures.front
-          (λ told. c.in_ok-work_through.ensures c.args.options.now.dialect
+          (λ told. c.in_ok-work_through.ensures.worked c.args.options.now.dialect
           (nothing_before c.args.options.now.dialect) l.invariant.so.t told.units told.b
           c.args.visitor.now (g.W.Write.contents c.args.output.now) told.are
           (omega (arith, c.requires.limit, l.invariant.so.within, c.front-within.ensures.short)) told.settled.tells)
           c.if-within-piece.true;
       blames = blames_next _ (λ first is. l.invariant.follows first is) c.next_piece.ensures.blames (λ e. absurd cc);
+      blames_writer = λ tells out. tt;
     }
 
 pub pieces-preserved : goal.pieces-preserved
@@ -130,7 +145,7 @@ pieces-preserved g c =
           (g.R.Read.remaining c.next_piece.new.reader) c.in-Ok.piece.now c.in-Ok.ensures.ok c.work_through.new.visitor
           (g.W.Write.contents c.work_through.new.output) c.work_through.new.units c.in_ok-work_through.field-0 _
           c.in-On.is c.front-within.ensures.front
-          (λ told. c.in_ok-work_through.ensures c.args.options.now.dialect
+          (λ told. c.in_ok-work_through.ensures.worked c.args.options.now.dialect
           (nothing_before c.args.options.now.dialect) l.invariant.so.t told.units told.b
           c.args.visitor.now (g.W.Write.contents c.args.output.now) told.are
           (omega (arith, c.requires.limit, l.invariant.so.within, c.front-within.ensures.short)) told.settled.tells)

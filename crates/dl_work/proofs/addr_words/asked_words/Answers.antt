@@ -7,13 +7,13 @@ use Rattle.dl_work.proofs.addr_words.asked_words.Goals as goal
 pub returns-in_err-base-clause-stops : goal.returns-in_err-base-clause-stops
 returns-in_err-base-clause-stops g c =
     let p = err_from_is_err_and c.from_residual.result c.from_residual.ensures.1 in
-    rw (p.1, p.2) (base_stops (addr_words_made c.args.words.now) _ c.in_err-base.ensures)
+    rw (p.1, p.2) (base_stops (g.M.Memory.refuses c.args.memory.now) (addr_words_made c.args.words.now) _ c.in_err-base.ensures)
 
 pub returns-in_err-asked-clause-stops : goal.returns-in_err-asked-clause-stops
 returns-in_err-asked-clause-stops g c =
     let p = err_from_is_err_and c.from_residual-in_err-asked.result c.from_residual-in_err-asked.ensures.1 in
     let w = c.args.words.now in
-    rw (p.1, p.2) (words_stop (addr_words_made w) _ c.as_slice.result.now w.addresses.items _ c.in_ok-base.ensures
+    rw (p.1, p.2) (words_stop (g.M.Memory.refuses c.args.memory.now) (addr_words_made w) _ c.as_slice.result.now w.addresses.items _ c.in_ok-base.ensures
     c.as_slice.ensures.value refl c.in_err-asked.ensures.stops)
 
 pub returns-clause-asked : goal.returns-clause-asked

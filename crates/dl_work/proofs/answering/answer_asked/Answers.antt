@@ -6,10 +6,11 @@ use Rattle.std.proofs.lemmas.Grind.{common_steps}
 use Rattle.dl_cmd.specs.Job.{addr_words_made}
 use Rattle.dl_dialogue.specs.Answers.{Manner}
 use Rattle.dl_work.proofs.AnsweringLemmas.{lines_asked, manner, words_asked}
+use Rattle.dl_work.proofs.BlameLemmas.{given_writer}
 use Rattle.dl_work.proofs.answering.answer_asked.Goals as goal
 
-pub returns-then-is_empty : goal.returns-then-is_empty
-returns-then-is_empty g c =
+pub returns-then-is_empty-clause-answers : goal.returns-then-is_empty-clause-answers
+returns-then-is_empty-clause-answers g c =
     let w = addr_words_made c.args.words.now in
     let u = c.args.understood.now in
     let none : vec_len u.asked ≡ 0 = eqb-true (vec_len u.asked) 0 (sym c.is_empty.ensures ∙ c.if-is_empty.true) in
@@ -20,7 +21,7 @@ returns-then-is_empty g c =
       e.1,
       λ f determines understood.
           let m : Manner = record { style = c.style-style.result; base = u.base; told = f } in
-          lines_asked w u f m (g.T.Tell.fails_with c.args.teller.now) e.0
+          lines_asked (g.M.Memory.refuses c.args.memory.now) w u f m (g.T.Tell.fails_with c.args.teller.now) e.0
           (g.R.Read.remaining c.answer_lines.new.input) start (g.W.Write.contents c.answer_lines.new.output)
           c.answer_lines.result understood
           (manner w u f c.style-style.result understood c.style-style.ensures.form c.style-style.ensures.basenames
@@ -28,8 +29,8 @@ returns-then-is_empty g c =
           (e.2 f determines),
     )
 
-pub returns : goal.returns
-returns g c =
+pub returns-clause-answers : goal.returns-clause-answers
+returns-clause-answers g c =
     let w = addr_words_made c.args.words.now in
     let u = c.args.understood.now in
     let len : vec_len u.asked ≡ length u.asked.items = first_of (omega arith, search rules, grind (arith, common_steps)) in
@@ -38,11 +39,15 @@ returns g c =
       Consumes-nil _,
       λ f determines understood.
           let m : Manner = record { style = c.style-style.result; base = u.base; told = f } in
-          words_asked w u f m (g.T.Tell.fails_with c.args.teller.now) (g.R.Read.remaining c.args.input.now) start
+          words_asked (g.M.Memory.refuses c.args.memory.now) w u f m (g.T.Tell.fails_with c.args.teller.now) (g.R.Read.remaining c.args.input.now) start
           (g.W.Write.contents c.answer_all.new.output) c.answer_all.result c.answered_given.result c.as_slice.result.now
           understood
           (manner w u f c.style-style.result understood c.style-style.ensures.form c.style-style.ensures.basenames
           (ap option_copied c.style-style.ensures.section ∙ c.part_name.ensures))
           (ap (λ (n : ℕ). n == 0) (sym len) ∙ sym c.is_empty.ensures ∙ c.if-is_empty.false) c.as_slice.ensures.value
-          (c.answer_all.ensures f determines) c.answered_given.ensures,
+          (c.answer_all.ensures.answers f determines) c.answered_given.ensures,
     )
+
+pub returns-clause-blames_writer : goal.returns-clause-blames_writer
+returns-clause-blames_writer g c =
+    rw c.answered_given.ensures (given_writer _ c.answer_all.result c.answer_all.ensures.blames_writer)

@@ -4,9 +4,9 @@ use Rattle.dl_work.specs.OverIndex.{location_in}
 use Rattle.dl_work.proofs.AnsweringLemmas.{never_empty}
 use Rattle.dl_work.proofs.answering.answer_made.Goals as goal
 
-pub returns-in-Ok : goal.returns-in-Ok
-returns-in-Ok g c =
-    let e = c.answer_asked.ensures in
+pub returns-in-Ok-clause-answers : goal.returns-in-Ok-clause-answers
+returns-in-Ok-clause-answers g c =
+    let e = c.answer_asked.ensures.answers in
     let bytes = c.args.index.now in
     let same = c.in-Ok.ensures.bytes in (
       e.0,
@@ -18,9 +18,9 @@ returns-in-Ok g c =
       },
     )
 
-pub returns-in-Err : goal.returns-in-Err
-returns-in-Err g c =
-    let e = c.answer_asked-in-Err.ensures in (
+pub returns-in-Err-clause-answers : goal.returns-in-Err-clause-answers
+returns-in-Err-clause-answers g c =
+    let e = c.answer_asked-in-Err.ensures.answers in (
       e.0,
       e.1,
       λ understood. record {

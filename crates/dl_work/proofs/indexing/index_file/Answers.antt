@@ -11,14 +11,14 @@ use Rattle.dl_work.proofs.indexing.index_file.Goals as goal
 
 pub returns-in-Err : goal.returns-in-Err
 returns-in-Err g c =
-    index_refused (g.F.FileSource.held c.args.files.now) (g.F.FileSource.fails_with c.args.files.now) c.args.path.now
+    index_refused (g.M.Memory.refuses c.args.memory.now) (g.F.FileSource.held c.args.files.now) (g.F.FileSource.fails_with c.args.files.now) c.args.path.now
     (index_words_made c.args.words.now) _ _ (at.File c.args.path c.in-Err.fault) c.in-Err.fault
     c.wants_directories-wanted.result c.wants_directories-wanted.ensures c.in-Err.ensures.code (refl, refl) refl
 
 pub returns : goal.returns
 returns g c =
     let told = c.in-Ok.ensures in
-    index_done (g.F.FileSource.held c.args.files.now) (g.F.FileSource.fails_with c.args.files.now) c.args.path.now
+    index_done (g.M.Memory.refuses c.args.memory.now) (g.F.FileSource.held c.args.files.now) (g.F.FileSource.fails_with c.args.files.now) c.args.path.now
     (index_words_made c.args.words.now) c.in-Ok.opened.code c.in-Ok.opened.directories
     (option_map build_id_bytes c.in-Ok.opened.build_id) (record {
       code = c.live_in.result;
@@ -31,6 +31,6 @@ returns g c =
     c.compiled_in.ensures refl
     (c.id_bytes.ensures ∙ ap (λ id. unwrap_or (option_map build_id_bytes id) []) c.as_ref-2.ensures.value)
     c.indexing-command.ensures
-    (λ f known short. on_file_as c.units_of_file-units.result _ _ _ c.args.path.now _ c.indexing-command.result f _ _ _
+    (λ f known short. on_file_as (g.M.Memory.refuses c.args.memory.now) c.units_of_file-units.result _ _ _ c.args.path.now _ c.indexing-command.result f _ _ _
     _ c.units_of_file-units.ensures told.reads (c.on_file.ensures tt f (told.bytes ∙ known) short))
     c.over_file.ensures

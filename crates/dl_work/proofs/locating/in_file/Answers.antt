@@ -44,7 +44,7 @@ returns-in-Ok-default-true g c =
       λ f known short. inr (inr (inl (
         sym c.suits_file.ensures ∙ c.if-not-suits_file.false,
         subst (λ b. MatchBool b (HasMagic f) (¬ (HasMagic f))) opened.field-0-1-test (opened.ensures.magic f known short),
-        index_wider (g.F.File.ReadAt.fails_with opened.file)
+        index_wider (g.M.Memory.refuses c.args.memory.now) (g.F.File.ReadAt.fails_with opened.file)
             (g.F.FileSource.fails_with c.args.files.now c.args.path.now) opened.ensures.reads
             (g.F.FileSource.held c.args.files.now) (g.F.FileSource.fails_with c.args.files.now) c.args.path w f e.0 _ _ _ _
             (e.2 understood f (opened.ensures.bytes ∙ known) short),
@@ -67,7 +67,7 @@ returns-in-Ok-default-false g c =
       λ f known short. inr (inr (inr (
         sym c.suits_file.ensures ∙ c.if-not-suits_file.false,
         subst (λ b. MatchBool b (HasMagic f) (¬ (HasMagic f))) opened.field-0-1-test (opened.ensures.magic f known short),
-        elf_file_wider (g.F.File.ReadAt.fails_with opened.file)
+        elf_file_wider (g.M.Memory.refuses c.args.memory.now) (g.F.File.ReadAt.fails_with opened.file)
             (g.F.FileSource.fails_with c.args.files.now c.args.path.now) opened.ensures.reads c.args.path w f e.0 _ _ _ _
             (e.2 understood f (opened.ensures.bytes ∙ known) short),
       ))),

@@ -13,7 +13,7 @@ pub returns-then-not-suits_input : goal.returns-then-not-suits_input
 returns-then-not-suits_input g c = (
   [],
   Consumes-nil _,
-  section_stops _ _ _ _ _ _ refl (inr (inl (sym c.suits_input.ensures ∙ c.if-not-suits_input.true), refl)),
+  section_stops (g.M.Memory.refuses c.args.memory.now) _ _ _ _ _ _ refl (inr (inl (sym c.suits_input.ensures ∙ c.if-not-suits_input.true), refl)),
 )
 
 pub returns-in_err-base : goal.returns-in_err-base
@@ -21,7 +21,7 @@ returns-in_err-base g c =
     let p = err_from_is_err_and c.from_residual.result c.from_residual.ensures.1 in (
       [],
       Consumes-nil _,
-      section_stops _ _ _ _ _ c.in_err-base.field-0.0 (p.1
+      section_stops (g.M.Memory.refuses c.args.memory.now) _ _ _ _ _ c.in_err-base.field-0.0 (p.1
           ∙ ap Err p.2) (inl c.in_err-base.ensures.stops),
     )
 
@@ -32,7 +32,7 @@ returns-then-is_empty g c =
     let empty : length asked.items ≡ 0 = first_of (omega arith, search rules, grind (arith, common_steps)) in (
       [],
       Consumes-nil _,
-      section_stops _ _ _ _ _ _ refl (inr (inr (map_none _ _ _ c.in_ok-base.ensures.asked empty), refl)),
+      section_stops (g.M.Memory.refuses c.args.memory.now) _ _ _ _ _ _ refl (inr (inr (map_none _ _ _ c.in_ok-base.ensures.asked empty), refl)),
     )
 
 pub returns : goal.returns
@@ -44,7 +44,7 @@ returns g c =
     let len : vec_len asked ≡ length asked.items = first_of (omega arith, search rules, grind (arith, common_steps)) in (
       e.0,
       e.1,
-      section_done (g.F.FileSource.held c.args.files.now) (addr_words_made c.args.words.now) _ c.question-question.result e.0
+      section_done (g.M.Memory.refuses c.args.memory.now) (g.F.FileSource.held c.args.files.now) (addr_words_made c.args.words.now) _ c.question-question.result e.0
           _ _ _ _ c.asking-command.result c.on_input-answer.result _ (sym c.suits_input.ensures ∙ c.if-not-suits_input.false)
           told.asked (ap (λ (n : ℕ). n == 0) (sym len) ∙ sym c.is_empty.ensures ∙ c.if-is_empty.false)
           (asks_all (addr_words_made c.args.words.now) c.in_ok-base.field-0 _ _ c.said_directory.result c.question-question.result

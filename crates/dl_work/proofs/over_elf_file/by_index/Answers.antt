@@ -12,7 +12,7 @@ pub returns-then-is_refused : goal.returns-then-is_refused
 returns-then-is_refused g c =
     let w = addr_words_made c.args.words.now in
     let reads = g.S.ReadAt.fails_with c.args.file.now in
-    let index = c.on_file-answer.new.output.items in (
+    let index = c.on_file-answer.new.output.bytes.items in (
       [],
       Consumes-nil _,
       λ understood f known short. (
@@ -23,8 +23,8 @@ returns-then-is_refused g c =
         subst (λ command. OnFile (g.M.Memory.refuses c.args.memory.now) (file_units w.units) reads c.args.path.now w.section command f (Some []) (Some index) unheard
             c.on_file-answer.result) c.making-command.ensures
             (subst (λ start. OnFile (g.M.Memory.refuses c.args.memory.now) (file_units w.units) reads c.args.path.now w.section c.making-command.result f
-            (Some start) (Some index) unheard c.on_file-answer.result) c.new-index.ensures.items
-            (on_file_as c.units_of_file-units.result _ _ _ c.args.path.now _ c.making-command.result f _ _ _ _
+            (Some start) (Some index) unheard c.on_file-answer.result) c.new-index.ensures
+            (on_file_as (g.M.Memory.refuses c.args.memory.now) c.units_of_file-units.result _ _ _ c.args.path.now _ c.making-command.result f _ _ _ _
             c.units_of_file-units.ensures (λ e fails. fails) (c.on_file-answer.ensures tt f known short))),
         inl (sym c.is_refused.ensures ∙ c.if-is_refused.true, (refl, refl, Keeps-refl _)),
       ),
@@ -34,8 +34,8 @@ pub returns : goal.returns
 returns g c =
     let w = addr_words_made c.args.words.now in
     let reads = g.S.ReadAt.fails_with c.args.file.now in
-    let index = c.on_file-answer.new.output.items in
-    let e = c.answer_made-answered.ensures in (
+    let index = c.on_file-answer.new.output.bytes.items in
+    let e = c.answer_made-answered.ensures.answers in (
       e.0,
       e.1,
       λ understood f known short. (
@@ -46,8 +46,8 @@ returns g c =
         subst (λ command. OnFile (g.M.Memory.refuses c.args.memory.now) (file_units w.units) reads c.args.path.now w.section command f (Some []) (Some index) unheard
             c.on_file-answer.result) c.making-command.ensures
             (subst (λ start. OnFile (g.M.Memory.refuses c.args.memory.now) (file_units w.units) reads c.args.path.now w.section c.making-command.result f
-            (Some start) (Some index) unheard c.on_file-answer.result) c.new-index.ensures.items
-            (on_file_as c.units_of_file-units.result _ _ _ c.args.path.now _ c.making-command.result f _ _ _ _
+            (Some start) (Some index) unheard c.on_file-answer.result) c.new-index.ensures
+            (on_file_as (g.M.Memory.refuses c.args.memory.now) c.units_of_file-units.result _ _ _ c.args.path.now _ c.making-command.result f _ _ _ _
             c.units_of_file-units.ensures (λ e fails. fails) (c.on_file-answer.ensures tt f known short))),
         inr (
           sym c.is_refused.ensures ∙ c.if-is_refused.false,

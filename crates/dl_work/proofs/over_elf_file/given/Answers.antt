@@ -30,7 +30,7 @@ returns g c = λ understood f known short.
       subst (λ command. OnFile (g.M.Memory.refuses c.args.memory.now) (file_units w.units) reads c.args.path.now w.section command f
           (g.W.Write.contents c.args.output.now) (g.W.Write.contents c.on_file-answer.new.output) unheard
           c.on_file-answer.result) c.asking-command.ensures
-          (on_file_as c.units_of_file-units.result _ _ _ c.args.path.now _ c.asking-command.result f _ _ _ _
+          (on_file_as (g.M.Memory.refuses c.args.memory.now) c.units_of_file-units.result _ _ _ c.args.path.now _ c.asking-command.result f _ _ _ _
           c.units_of_file-units.ensures (λ e fails. fails) (c.on_file-answer.ensures tt f known short)),
       c.by_answer.ensures ∙ ap (λ answer. located answer None) c.over_file.ensures,
     )

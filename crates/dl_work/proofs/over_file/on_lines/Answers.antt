@@ -4,14 +4,15 @@ use Rattle.dl_head.specs.declared.dialect.Dialect.{Dialect}
 use Rattle.dl_file.specs.LineTable.{Plain}
 use Rattle.dl_open.specs.Tables.{IsKept}
 use Rattle.dl_work.specs.Tables.{with_bytes}
-use Rattle.dl_work.proofs.TableLemmas.{of_part}
+use Rattle.dl_work.proofs.TableLemmas.{of_part, runs_wider}
 use Rattle.dl_work.proofs.over_file.on_lines.Goals as goal
 
 pub returns-in-Ok : goal.returns-in-Ok
-returns-in-Ok g c units t gives ordered whole untold =
+returns-in-Ok g c source units t gives ordered whole untold =
     let kept = c.in-Ok.bytes.items in
-    of_part _ _ _ t c.in-Some.part.now _ _ _ _ _ (ap option_copied c.in-Some.is) (inr (
+    of_part (g.M.Memory.refuses c.args.memory.now) _ _ _ _ t c.in-Some.part.now _ _ _ _ _ (ap option_copied c.in-Some.is) (inr (
       kept,
-      subst (λ (d : Dialect). IsKept d c.in-Some.part.now t.line kept) ordered (c.in-Ok.ensures t.line gives),
-      c.on_kept.ensures units (with_bytes t kept) (ap Plain (sym c.as_slice.ensures.value)) ordered whole untold,
+      subst (λ (d : Dialect). IsKept d c.in-Some.part.now t.line kept) ordered (c.in-Ok.ensures source t.line gives),
+      runs_wider (g.M.Memory.refuses c.args.memory.now) units (λ error. ⊥) (g.S.ReadAt.fails_with source) _ _ (with_bytes t kept) _ _ _ _ (λ error no. absurd no)
+          (c.on_kept.ensures units (with_bytes t kept) (ap Plain (sym c.as_slice.ensures.value)) ordered whole untold),
     ))

@@ -1,19 +1,30 @@
-use Rattle.std.proofs.Common.{◌∙◌, refl, sym}
+use Rattle.std.proofs.Common.{◌∙◌, Err, ap, refl, sym}
 use Rattle.dl_open.specs.Tables.{stream_of}
-use Rattle.dl_open.proofs.ReaderLemmas.{reader_known, reader_stream, reader_told}
+use Rattle.dl_open.proofs.ReaderLemmas.{reader_known, reader_stream, reader_told, stops_at}
 use Rattle.dl_work.proofs.TableLemmas.{ran}
 use Rattle.dl_work.proofs.over_file.on_section.Goals as goal
 
 pub returns-in-Err : goal.returns-in-Err
-returns-in-Err g c units t gives ordered whole untold =
-    let named = reader_stream {S = g.row.S.Denot} g.S.ReadAt.all_bytes c.args.line.now t.line gives
+returns-in-Err g c source units t gives ordered whole untold =
+    let fails = g.S.ReadAt.fails_with source in
+    let named = reader_stream {S = g.row.S.Denot} g.S.ReadAt.all_bytes g.S.ReadAt.fails_with fails c.args.line.now t.line gives
     ∙ sym c.stream_name-stream.ensures in
     let does = c.in-Err.ensures.ran in
-    ran _ _ _ t _ _ _ _ (g.D.DamageSink.hears c.args.damages.now c.run.new.damages) _ _ _ _ _ _ (λ read.
-    reader_known {S = g.row.S.Denot} g.S.ReadAt.all_bytes c.args.line.now t.line _ read gives) whole ordered refl
+    ran (g.M.Memory.refuses c.args.memory.now) _ _ _ _ t _ _ _ _ (g.D.DamageSink.hears c.args.damages.now c.run.new.damages) _ _ _ _ _ _ (λ read.
+    reader_known {S = g.row.S.Denot} g.S.ReadAt.all_bytes g.S.ReadAt.fails_with fails c.args.line.now t.line _ read gives) whole ordered refl
     c.requires (does.0, does.1, does.2 untold) (
       c.at.result,
       refl,
-      c.at.ensures (stream_of t.line) named (rw c.last_fault.ensures (reader_told {S = g.row.S.Denot} g.S.ReadAt.all_bytes
-          g.S.ReadAt.fails_with c.args.line.now c.run.new.input t.line gives c.run.ensures.blames)),
+      stops_at fails c.args.path.now (stream_of t.line) c.stream_name-stream.result c.last_fault.result c.in-Err.fault
+          c.at.result named (λ read. rw c.last_fault.ensures (reader_told {S = g.row.S.Denot} g.S.ReadAt.all_bytes
+          g.S.ReadAt.fails_with fails c.args.line.now c.run.new.input t.line gives c.run.ensures.blames
+          (untold, c.in-Err.is ∙ ap Err read))) c.at.ensures,
     )
+
+pub returns-in-Ok : goal.returns-in-Ok
+returns-in-Ok g c source units t gives ordered whole untold =
+    let fails = g.S.ReadAt.fails_with source in
+    let does = c.in-Ok.ensures.ran in
+    ran (g.M.Memory.refuses c.args.memory.now) _ fails _ _ t _ _ _ _ (g.D.DamageSink.hears c.args.damages.now c.run.new.damages) _ _ _ _ _ _ (λ read.
+    reader_known {S = g.row.S.Denot} g.S.ReadAt.all_bytes g.S.ReadAt.fails_with fails c.args.line.now t.line _ read gives)
+    whole ordered refl c.requires (does.0, does.1, does.2 untold) refl

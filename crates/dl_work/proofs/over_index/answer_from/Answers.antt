@@ -8,16 +8,16 @@ use Rattle.dl_work.specs.OverIndex.{location_in}
 use Rattle.dl_work.proofs.ReadsLemmas.{answers_wider}
 use Rattle.dl_work.proofs.over_index.answer_from.Goals as goal
 
-pub returns-in-Some : goal.returns-in-Some
-returns-in-Some g c =
+pub returns-in-Some-clause-answers : goal.returns-in-Some-clause-answers
+returns-in-Some-clause-answers g c =
     let w = addr_words_made c.args.words.now in
-    let e = c.answer_made.ensures in
+    let e = c.answer_made.ensures.answers in
     let start = g.W.Write.contents c.args.output.now in (
       e.0,
       e.1,
       λ understood b known short whole.
           let same = c.as_slice.ensures.value ∙ c.in-Some.ensures b known short in
-          answers_wider (λ _. ⊥) (ReadFails (Some b) (g.S.ReadAt.fails_with (source_of c.args.index.now)))
+          answers_wider (g.M.Memory.refuses c.args.memory.now) (λ _. ⊥) (ReadFails (Some b) (g.S.ReadAt.fails_with (source_of c.args.index.now)))
           (λ error fails. absurd fails) w (location_in b) e.0 (g.R.Read.remaining c.answer_made.new.input) start
           (g.W.Write.contents c.answer_made.new.output) c.answer_made.result
           (subst (λ i. AnswersAsked (g.M.Memory.refuses c.args.memory.now) w (location_in i) (λ _. ⊥) e.0 (g.R.Read.remaining c.answer_made.new.input) start
@@ -25,16 +25,16 @@ returns-in-Some g c =
           ((e.2 understood).made (subst IsIndex (sym same) whole))),
     )
 
-pub returns : goal.returns
-returns g c =
+pub returns-clause-answers : goal.returns-clause-answers
+returns-clause-answers g c =
     let w = addr_words_made c.args.words.now in
-    let e = c.answer_asked.ensures in
+    let e = c.answer_asked.ensures.answers in
     let known_of = g.S.ReadAt.all_bytes in
     let same = c.of-finder.ensures in (
       e.0,
       e.1,
       λ understood b known short whole.
-          answers_wider _ (ReadFails (Some b) (g.S.ReadAt.fails_with (source_of c.args.index.now)))
+          answers_wider (g.M.Memory.refuses c.args.memory.now) _ (ReadFails (Some b) (g.S.ReadAt.fails_with (source_of c.args.index.now)))
           (λ error fails. subst (λ k. ReadFails k (g.S.ReadAt.fails_with (source_of c.args.index.now)) error) known
           (subst (λ i. ReadFails (known_of (source_of i)) (g.S.ReadAt.fails_with (source_of i)) error) same fails))
           w (location_in b) e.0 _ _ _ c.answer_asked.result

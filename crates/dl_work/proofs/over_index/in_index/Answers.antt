@@ -52,7 +52,7 @@ returns-in_err-check_made_of g c =
 pub returns : goal.returns
 returns g c =
     let w = addr_words_made c.args.words.now in
-    let e = c.answer_from.ensures in (
+    let e = c.answer_from.ensures.answers in (
       e.0,
       e.1,
       λ understood b known short.

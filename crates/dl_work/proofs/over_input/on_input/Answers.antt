@@ -4,7 +4,7 @@ use Rattle.dl_open.specs.Files.{FilesStop}
 use Rattle.dl_run.proofs.BlameLemmas.{blames_where}
 use Rattle.dl_run.specs.declared.fault.RunFault.{RunFault}
 use Rattle.dl_work.specs.Held.{section_seen}
-use Rattle.dl_work.proofs.BlameLemmas.{same_stop, stopped_read}
+use Rattle.dl_work.proofs.BlameLemmas.{files_writer, same_stop, stopped_read, stopped_writer}
 use Rattle.dl_work.proofs.over_input.on_input.Goals as goal
 
 pub returns-in-Err-clause-ran : goal.returns-in-Err-clause-ran
@@ -25,3 +25,12 @@ returns-in-Err-clause-blames g c first is = (
 pub returns-in-Ok-clause-blames : goal.returns-in-Ok-clause-blames
 returns-in-Ok-clause-blames g c =
     blames_where c.run.ensures.blames (λ e. (e.0, stopped_read c.run.result (sym c.stopped.ensures ∙ e.1)))
+
+pub returns-in-Ok-clause-blames_writer : goal.returns-in-Ok-clause-blames_writer
+returns-in-Ok-clause-blames_writer g c untold =
+    rw c.stopped.ensures (stopped_writer _ c.run.result (c.run.ensures.blames_writer untold))
+
+pub returns-in-Err-clause-blames_writer : goal.returns-in-Err-clause-blames_writer
+returns-in-Err-clause-blames_writer g c untold =
+    files_writer _ (g.F.FileSource.held c.args.files.now) (section_seen c.args.section).line_str
+    (section_seen c.args.section).strings c.in-Err.fault c.in-Err.ensures

@@ -4,5 +4,5 @@ use Rattle.dl_work.proofs.working.on_named.Goals as goal
 
 pub returns-in-Ok : goal.returns-in-Ok
 returns-in-Ok g c untold f known short =
-    on_file_weaker _ _ _ c.args.path.now _ c.args.command f _ _ _ _ c.in-Ok.ensures.reads
+    on_file_weaker (g.M.Memory.refuses c.args.memory.now) _ _ _ c.args.path.now _ c.args.command f _ _ _ _ c.in-Ok.ensures.reads
     (c.on_file.ensures untold f (c.in-Ok.ensures.bytes ∙ known) short)

@@ -13,7 +13,7 @@ returns-clause-ran g c =
     let done = c.on_input.ensures.ran in (
       done.0,
       done.1,
-      λ untold. works_on_input (g.F.FileSource.held c.args.files.now) (g.F.FileSource.fails_with c.args.files.now) _
+      λ untold. works_on_input (g.M.Memory.refuses c.args.memory.now) (g.F.FileSource.held c.args.files.now) (g.F.FileSource.fails_with c.args.files.now) _
           (request_made c.in-Some.job) c.in-Some-of.command (section_seen c.section.result) done.0 _ _ _ _ _
           (ap (option_map request_made) c.in-Some.is) (sym c.of.ensures
           ∙ ap (option_map command_seen) c.in-Some-of.is) (sym c.in-None.ensures) c.section.ensures (done.2 untold),
@@ -23,7 +23,7 @@ pub returns-in-Some-file-clause-ran : goal.returns-in-Some-file-clause-ran
 returns-in-Some-file-clause-ran g c = (
   [],
   Consumes-nil _,
-  λ untold. works_on_named (g.F.FileSource.held c.args.files.now) (g.F.FileSource.fails_with c.args.files.now) _
+  λ untold. works_on_named (g.M.Memory.refuses c.args.memory.now) (g.F.FileSource.held c.args.files.now) (g.F.FileSource.fails_with c.args.files.now) _
       (request_made c.in-Some.job) c.in-Some-of.command c.file_units.result c.in-Some-file.path.now _ _ _ _ _ _ _
       (ap (option_map request_made) c.in-Some.is) (sym c.of.ensures ∙ ap (option_map command_seen) c.in-Some-of.is) (sym c.in-Some-file.ensures)
       c.file_units.ensures c.part_name.ensures c.over_file.ensures (c.on_named.ensures untold),

@@ -3,8 +3,8 @@ use Rattle.dl_run.specs.Section.{of_header}
 use Rattle.dl_addr.proofs.LocatorLemmas.{goes_on}
 use Rattle.dl_addr.proofs.locating.LocatorVisitor.header.Goals as goal
 
-pub returns : goal.returns
-returns g c first start visits s =
+pub returns-clause-heard : goal.returns-clause-heard
+returns-clause-heard g c first start visits s =
     goes_on first c.args.self.now (record c.args.self.now {
       unit =
           c.args.offset;

@@ -12,8 +12,8 @@ use Rattle.dl_addr.specs.Locating.{code_of}
 use Rattle.dl_addr.proofs.LocatorLemmas.{goes_on}
 use Rattle.dl_addr.proofs.locating.LocatorVisitor.row.Goals as goal
 
-pub returns-then-takes : goal.returns-then-takes
-returns-then-takes g c first start visits s =
+pub returns-then-takes-clause-heard : goal.returns-then-takes-clause-heard
+returns-then-takes-clause-heard g c first start visits s =
     let live = code_of first in
     let rows = rows_after [] visits in
     let r = c.args.row.now in
@@ -32,8 +32,8 @@ returns-then-takes g c first start visits s =
     (λ places units st. subst (λ (l : List Row). Stand c.row.new.self places units l) (sym told)
     (c.row.ensures.stand places units (live_rows live rows) st))
 
-pub returns-else-takes : goal.returns-else-takes
-returns-else-takes g c first start visits s =
+pub returns-else-takes-clause-heard : goal.returns-else-takes-clause-heard
+returns-else-takes-clause-heard g c first start visits s =
     let live = code_of first in
     let rows = rows_after [] visits in
     let r = c.args.row.now in

@@ -3,6 +3,7 @@ use Rattle.std.specs.Prelude.{option_map}
 use Rattle.dl_addr.specs.Commands.{is_answered}
 use Rattle.dl_addr.specs.Locations.{location_seen}
 use Rattle.dl_dialogue.proofs.AnswerLemmas.{answers_one, some_mapped, stops_before}
+use Rattle.dl_dialogue.proofs.BlameLemmas.{stopped_writer, written_writer}
 use Rattle.dl_dialogue.specs.Faults.{TellFails}
 use Rattle.dl_dialogue.proofs.StayLemmas.{determined, tell_fails}
 use Rattle.dl_dialogue.proofs.answers.Answers.answer.Goals as goal
@@ -14,7 +15,7 @@ returns-in-Ok-clause-answers g c = λ first m start before stays determines stan
     (option_map location_seen c.in-Ok.location) c.is_answered.result c.print_location.result c.print_location.new.printer _
     (c.in-Ok.ensures.told m stands.base (determined stays determines))
     (c.is_answered.ensures ∙ ap (is_answered c.args.asked) (c.is_some.ensures
-    ∙ some_mapped location_seen c.in-Ok.location)) refl refl c.also-self.ensures c.print_location.ensures)
+    ∙ some_mapped location_seen c.in-Ok.location)) refl refl c.also-self.ensures c.print_location.ensures.printed)
 
 pub returns-in-Err-clause-answers : goal.returns-in-Err-clause-answers
 returns-in-Err-clause-answers g c = λ first m start before stays determines stands.
@@ -23,3 +24,11 @@ returns-in-Err-clause-answers g c = λ first m start before stays determines sta
     c.in-Err.fault c.flush.new.self c.flush.result _ (tell_fails stays (g.M.Memory.refuses c.args.memory.now) c.in-Err.fault c.in-Err.ensures.fails)
     c.flush.ensures.printed
     c.flush.ensures.empty)
+
+pub returns-in-Ok-clause-blames_writer : goal.returns-in-Ok-clause-blames_writer
+returns-in-Ok-clause-blames_writer g c =
+    rw c.written.ensures (written_writer _ c.print_location.result c.print_location.ensures.blames_writer)
+
+pub returns-in-Err-clause-blames_writer : goal.returns-in-Err-clause-blames_writer
+returns-in-Err-clause-blames_writer g c =
+    rw c.stopped.ensures (stopped_writer _ c.flush.result c.in-Err.fault c.flush.ensures.blames)

@@ -8,5 +8,5 @@ pub returns-clause-answers : goal.returns-clause-answers
 returns-clause-answers g c = λ first m start before stays determines stands.
     written_weaker _ m (TellFails (g.T.Tell.fails_with first) (g.M.Memory.refuses c.args.memory.now)) start
     (g.W.Write.contents c.flush.new.output) (before ++ and_asked c.args.asked []) c.flush.result
-    (c.flush.ensures m start (before ++ and_asked c.args.asked [])
+    (c.flush.ensures.flushed m start (before ++ and_asked c.args.asked [])
     (c.in_ok-answer_if_asked.ensures.answers first m start before stays determines stands))

@@ -47,4 +47,4 @@ returns-clause-answers g c = λ first m hex start done stays determines talks.
     piece_spoken m hex (TellFails (g.T.Tell.fails_with first) (g.M.Memory.refuses c.args.memory.now)) start (g.W.Write.contents c.loop-byte.output)
     (g.W.Write.contents c.flush.new.output) done c.args.piece.now c.loop-byte.byte-index c.loop-byte.printer c.flush.new.printer c.loop-byte.self
     c.flush.result c.loop-byte-test.false (c.loop-byte.invariant.1 first m hex start done stays determines talks)
-    (λ asked stands. c.flush.ensures m start asked stands)
+    (λ asked stands. c.flush.ensures.flushed m start asked stands)

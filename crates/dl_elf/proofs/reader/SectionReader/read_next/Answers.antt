@@ -28,7 +28,8 @@ returns-clause-later g c error fails =
       | inl given ↦ inl given
       | inr early ↦ inr (
         early.0,
+        omega (arith, early.1),
         ends_before (g.S.ReadAt.all_bytes c.args.self.now.source.now) c.args.self.now.offset c.args.self.now.left n
-            c.in-Some.offset left c.in-Some.ensures.1 early.1,
+            c.in-Some.offset left c.in-Some.ensures.1 early.2,
       )
     ]

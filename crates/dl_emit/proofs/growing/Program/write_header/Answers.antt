@@ -55,7 +55,7 @@ returns-in_err-write_header-clause-written g c rows grown =
     let header =
     subst (λ (o : Order). WritesHeader o h m (g.W.Write.contents c.args.output.now)
     (g.W.Write.contents c.write_header.new.output) (Err c.in_err-write_header.field-0.0))
-    (ap (λ (p : ProgramData). p.order) same) c.in_err-write_header.ensures in
+    (ap (λ (p : ProgramData). p.order) same) c.in_err-write_header.ensures.written in
     rw (e.1, e.2) (header_written h rows p.order _ _ m (Err c.in_err-write_header.field-0.0)
     (refuses_none p h.params rows grown none
     (ap (λ (q : Params). q.version) (sym c.params-params.ensures.value) ∙ c.if-params-ne5.false)) len header)
@@ -83,7 +83,7 @@ returns-clause-written g c rows grown =
     let header =
     subst (λ (o : Order). WritesHeader o h m (g.W.Write.contents c.args.output.now)
     (g.W.Write.contents c.write_header.new.output) (Ok c.in_ok-write_header.field-0))
-    (ap (λ (p : ProgramData). p.order) same) c.in_ok-write_header.ensures in
+    (ap (λ (p : ProgramData). p.order) same) c.in_ok-write_header.ensures.written in
     header_written h rows p.order _ _ m (Ok c.in_ok-write_header.field-0)
     (refuses_none p h.params rows grown none
     (ap (λ (q : Params). q.version) (sym c.params-params.ensures.value) ∙ c.if-params-ne5.false)) len header

@@ -1,4 +1,6 @@
 use Rattle.std.proofs.Common.{◌≡◌, arith}
+use Rattle.std.proofs.Math.Logic.{∥∥₁_elim, ∥∥₁_prop}
+use Rattle.std.proofs.Props.{props}
 use Rattle.dl_file.proofs.StreamLemmas.{more_fed}
 use Rattle.dl_file.proofs.stream_reader.StreamReader.feed_piece.Goals as goal
 
@@ -25,3 +27,12 @@ returns-clause-fed g c = λ told b stands.
       f.says,
       none,
     )
+
+pub invariant_of-self-clause-inflates : goal.invariant_of-self-clause-inflates
+invariant_of-self-clause-inflates g c =
+    ∥∥₁_elim c.take.new.self.inflates ∥∥₁_prop (λ s. ∣ (_, s.1, (c.feed-fed.ensures.fed s.0 s.1 s.2).stands) ∣₁)
+
+pub returns-clause-full : goal.returns-clause-full
+returns-clause-full g c = λ is.
+    ∥∥₁_elim c.take.new.self.inflates (hlevel props)
+    (λ s. omega (arith, (c.feed-fed.ensures.fed s.0 s.1 s.2).full is))

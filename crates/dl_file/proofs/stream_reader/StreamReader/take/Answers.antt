@@ -1,5 +1,6 @@
 use Rattle.std.proofs.Common.{◌≡◌, ◌+◌, ◌-◌, ◌++◌, length, length-append, arith, ap, ◌∙◌, nat_lt}
 use Rattle.dl_file.proofs.StreamLemmas.{taken_left, taken_over}
+use Rattle.std.proofs.Math.Logic.{∥∥₁_elim, ∥∥₁_prop}
 use Rattle.dl_zlib.specs.StreamStands.{waiting}
 use Rattle.dl_file.proofs.stream_reader.StreamReader.take.Goals as goal
 
@@ -21,3 +22,7 @@ returns-clause-stands g c = λ told b bytes gone s.
       few = s.few;
       sized = s.sized;
     }
+
+pub invariant_of-self-clause-inflates : goal.invariant_of-self-clause-inflates
+invariant_of-self-clause-inflates g c =
+    ∥∥₁_elim c.args.self.now.inflates ∥∥₁_prop (λ s. ∣ (s.0, _, c.take.ensures.stands s.0 s.1 s.2) ∣₁)

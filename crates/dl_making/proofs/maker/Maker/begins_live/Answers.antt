@@ -2,5 +2,5 @@ use Rattle.std.proofs.Common.{sym, ◌∙◌, true≢false}
 use Rattle.dl_making.proofs.maker.Maker.begins_live.Goals as goal
 
 pub returns-else-begins : goal.returns-else-begins
-returns-else-begins c live units rows stands none =
+returns-else-begins g c live units rows stands none =
     absurd (true≢false (sym ((c.begins.ensures live units rows stands).1 none) ∙ c.if-begins.false))

@@ -1,16 +1,13 @@
 use Rattle.std.proofs.Common.{◌∙◌, ◌++◌, ◌∷◌, [], ap₂, refl, subst}
 use Rattle.dl_path.specs.Paths.{beside_table}
-use Rattle.dl_stretch.specs.Runs.{number_in}
+use Rattle.dl_stretch.specs.Runs.{held_in}
 use Rattle.dl_stretch.specs.Stands.{Stands}
 use Rattle.dl_making.specs.declared.files.UnitFiles.{UnitFiles}
 use Rattle.dl_making.proofs.MakerLemmas.{ended, file_is}
 use Rattle.dl_making.proofs.maker.Maker.end_unit.Goals as goal
 
-pub end_unit-requires : goal.end_unit-requires
-end_unit-requires c = rw c.as_slice.ensures.value c.in_ok-numbers.ensures.held
-
 pub returns-clause-ended : goal.returns-clause-ended
-returns-clause-ended c =
+returns-clause-ended g c =
     let unit : UnitFiles = record {
       strings = c.args.self.now.strings;
       header = c.args.header;
@@ -18,9 +15,10 @@ returns-clause-ended c =
       offset = c.args.self.now.unit;
     } in
     ended c.args.self.now _ _ unit c.unit_runs-runs.result.now c.in_ok-numbers.numbers.items c.in_ok-numbers.other
+    c.in_ok-numbers.ensures.held
     c.numbers_of.ensures.grows c.numbers_of.ensures.once c.in_ok-numbers.ensures.numbers c.unit_runs-runs.ensures
     (λ file. file_is c.args.self.now _ unit file refl
     (c.beside_table.ensures ∙ ap₂ beside_table c.has_directory_0.ensures c.of.ensures) refl refl)
     (λ live units rows st. subst (λ ns. Stands live c.end_unit.new.self
-    (units ++ record { number = number_in ns c.in_ok-numbers.other; rows = rows } ∷ []) [])
+    (units ++ record { number = held_in ns c.in_ok-numbers.other; rows = rows } ∷ []) [])
     c.as_slice.ensures.value (c.end_unit.ensures.ended live units rows st))

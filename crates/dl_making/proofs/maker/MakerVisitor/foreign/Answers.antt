@@ -6,9 +6,9 @@ use Rattle.dl_making.specs.Making.{code_of}
 use Rattle.dl_making.proofs.MakerLemmas.{goes_on}
 use Rattle.dl_making.proofs.maker.MakerVisitor.foreign.Goals as goal
 
-pub returns : goal.returns
-returns g c first start visits s =
+pub returns-clause-heard : goal.returns-clause-heard
+returns-clause-heard g c first start visits s =
     let more = of_version c.args._offset c.args._version ∷ [] in
     goes_on first c.args.self.now c.args.self.now start (g.W.Write.contents c.args._output.now) visits more s
-    (λ rows n x. refl) (record { code = refl; directories = refl; strings = refl }) refl refl refl
+    (λ rows n x. refl) (record { memory = refl; code = refl; directories = refl; strings = refl }) refl refl refl
     (λ units e stands. subst (Stands (code_of first) c.args.self.now.runs units) (sym (rows_after-append [] visits more)) stands)

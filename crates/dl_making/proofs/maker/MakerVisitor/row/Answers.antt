@@ -5,25 +5,27 @@ use Rattle.dl_run.specs.Section.{of_row}
 use Rattle.dl_run.proofs.VisitLemmas.{rows_after-append}
 use Rattle.dl_addr.specs.Code.{is_code}
 use Rattle.dl_stretch.specs.Stands.{Stands}
+use Rattle.dl_memory.specs.Refusals.{WasRefused}
 use Rattle.dl_making.specs.Making.{code_of}
 use Rattle.dl_making.proofs.MakerLemmas.{goes_on, stops}
 use Rattle.dl_making.proofs.maker.MakerVisitor.row.Goals as goal
 
-pub returns-in-Ok : goal.returns-in-Ok
-returns-in-Ok g c first start visits s =
+pub returns-in-Ok-clause-heard : goal.returns-in-Ok-clause-heard
+returns-in-Ok-clause-heard g c first start visits s =
     let live = code_of first in
     let rows = rows_after [] visits in
     let r = c.args.row.now in
     let more = of_row r ∷ [] in
     goes_on first c.args.self.now (record c.args.self.now { runs = c.row.new.self }) start
     (g.W.Write.contents c.args._output.now) visits more s
-    (λ rows n x. refl) (record { code = refl; directories = refl; strings = refl }) refl refl refl
+    (λ rows n x. refl) (record { memory = refl; code = refl; directories = refl; strings = refl }) refl refl refl
     (λ units e stands. subst (Stands live c.row.new.self units) (sym (rows_after-append [] visits more))
     (c.in-Ok.ensures.taken live units rows stands (λ none. c.begins_live-is_live.ensures live units rows stands none
     ∙ ap (λ code. is_code (option_copied code) r.address) s.same.code)))
 
-pub returns-in-Err : goal.returns-in-Err
-returns-in-Err g c first start visits s =
-    stops first c.args.self.now (record c.args.self.now { runs = c.row.new.self; is_refused = true }) start
+pub returns-in-Err-clause-heard : goal.returns-in-Err-clause-heard
+returns-in-Err-clause-heard g c first start visits s =
+    stops (λ memory. WasRefused (g.M.Memory.refuses memory)) first c.args.self.now (record c.args.self.now { runs = c.row.new.self; is_refused = true }) start
     (g.W.Write.contents c.args._output.now) visits (of_row c.args.row.now) s
-    (record { code = refl; directories = refl; strings = refl }) refl refl
+    (record { memory = refl; code = refl; directories = refl; strings = refl }) refl refl
+    (c.in-Err.ensures.refused.0, c.in-Err.ensures.refused.2)

@@ -24,5 +24,6 @@ returns-in-Ok c = λ n list h. (
 pub returns-in-Err : goal.returns-in-Err
 returns-in-Err c = λ n list h. record {
   count = c.mention_told.ensures.count ∙ h.count;
-  order = fails_here n (count_of c.args.self.now.files) list c.args.stretch.now c.in-Err.fault h.count c.in-Err.ensures.fails;
+  order = fails_here c.args.self.now.fault n (count_of c.args.self.now.files) (order_of c.args.self.now.files) list
+      c.args.stretch.now c.in-Err.fault (sym c.is_some.ensures ∙ c.if-is_some.false) h.order h.count c.in-Err.ensures.fails;
 }

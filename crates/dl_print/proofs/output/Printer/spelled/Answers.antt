@@ -4,18 +4,16 @@ use Rattle.dl_print.specs.Spellings.{spelled}
 use Rattle.dl_print.proofs.Pieces.{PrintsMore-piece, TellsOut-piece}
 use Rattle.dl_print.proofs.output.Printer.spelled.Goals as goal
 
-pub returns-in_err-spelled_part : goal.returns-in_err-spelled_part
-returns-in_err-spelled_part g c = record {
-  printed = λ start text h.
-      let p = err_from_is_err_and c.from_residual.result c.from_residual.ensures.1 in
-      let i = c.loop-done.done in
-      let tells = c.in_err-spelled_part.ensures.printed start _ (c.loop-done.invariant.printed start text h) in
-      rw (
-        p.1,
-        p.2,
-      ) (TellsOut-piece (spelled c.args.spelling) c.args.bytes.now i c.min-end.result (omega (arith, c.min-end.ensures))
-      start _ text _ tells);
-}
+pub returns-in_err-spelled_part-clause-printed : goal.returns-in_err-spelled_part-clause-printed
+returns-in_err-spelled_part-clause-printed g c = λ start text h.
+    let p = err_from_is_err_and c.from_residual.result c.from_residual.ensures.1 in
+    let i = c.loop-done.done in
+    let tells = c.in_err-spelled_part.ensures.printed start _ (c.loop-done.invariant.printed start text h) in
+    rw (
+      p.1,
+      p.2,
+    ) (TellsOut-piece (spelled c.args.spelling) c.args.bytes.now i c.min-end.result (omega (arith, c.min-end.ensures))
+    start _ text _ tells)
 
 pub loop-done-preserved : goal.loop-done-preserved
 loop-done-preserved g c =

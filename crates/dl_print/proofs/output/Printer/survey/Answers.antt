@@ -5,22 +5,18 @@ use Rattle.dl_print.specs.Text.{survey_line}
 use Rattle.dl_print.proofs.Outs.{HasPrinted-held, TellsOut-more}
 use Rattle.dl_print.proofs.output.Printer.survey.Goals as goal
 
-pub returns-in_err-make_room : goal.returns-in_err-make_room
-returns-in_err-make_room g c = record {
-  printed = λ start text h.
-      let p = err_from_is_err_and c.from_residual.result c.from_residual.ensures.1 in
-      rw (
-        p.1,
-        p.2,
-      ) (TellsOut-more start _ text (survey_line c.args.summary.now c.args.damaged) _
-      (c.in_err-make_room.ensures.printed start text h));
-}
+pub returns-in_err-make_room-clause-printed : goal.returns-in_err-make_room-clause-printed
+returns-in_err-make_room-clause-printed g c = λ start text h.
+    let p = err_from_is_err_and c.from_residual.result c.from_residual.ensures.1 in
+    rw (
+      p.1,
+      p.2,
+    ) (TellsOut-more start _ text (survey_line c.args.summary.now c.args.damaged) _
+    (c.in_err-make_room.ensures.printed start text h))
 
-pub returns : goal.returns
-returns g c = record {
-  printed = λ start text h.
-      let more = survey_line c.args.summary.now c.args.damaged in
-      HasPrinted-held start _ text more _ _ (c.in_ok-make_room.ensures.printed start text h)
-      (c.write_survey_line-self-inside.ensures.written ∙ ap (λ (p : Printed). p.pending ++ more) c.self.view_is)
-      (ap (λ (p : Printed). p.out) c.self.view_is);
-}
+pub returns-clause-printed : goal.returns-clause-printed
+returns-clause-printed g c = λ start text h.
+    let more = survey_line c.args.summary.now c.args.damaged in
+    HasPrinted-held start _ text more _ _ (c.in_ok-make_room.ensures.printed start text h)
+    (c.write_survey_line-self-inside.ensures.written ∙ ap (λ (p : Printed). p.pending ++ more) c.self.view_is)
+    (ap (λ (p : Printed). p.out) c.self.view_is)

@@ -25,7 +25,7 @@ returns-in-Stop-clause-fed g c dialect t first start is =
     let some = some_rest c.units.rest.now c.is_empty.ensures c.units-test.true in
     let r = at_unit so some in
     let short = within_limit so c.units.invariant.short in
-    let w = c.in-Err.ensures dialect (past so.is r.0 r.1) r.0 [] r.0 first start (are so.is r.0 r.1)
+    let w = c.in-Err.ensures.worked dialect (past so.is r.0 r.1) r.0 [] r.0 first start (are so.is r.0 r.1)
     (short_here so.is r.0 r.1 c.units.rest.now short) (tells so.is r.0 r.1) in
     rw so.whole (ends so.is r.0 r.1 c.units.rest.now short
     (hit c.in-Some.damage c.in-Err.fault w (sym c.damage.ensures ∙ c.in-Some.is) c.damaged.ensures) c.damaged.ensures
@@ -50,7 +50,7 @@ units-preserved g c = record {
       let some = some_rest c.units.rest.now c.is_empty.ensures c.units-test.true in
       let r = at_unit so some in
       let short = within_limit so c.units.invariant.short in
-      let w = c.in-Err.ensures dialect (past so.is r.0 r.1) r.0 [] r.0 first start (are so.is r.0 r.1)
+      let w = c.in-Err.ensures.worked dialect (past so.is r.0 r.1) r.0 [] r.0 first start (are so.is r.0 r.1)
       (short_here so.is r.0 r.1 c.units.rest.now short) (tells so.is r.0 r.1) in
       rw (so.whole, c.pass_over-rest-in-On.ensures.rest) (goes_on so.is r.0 r.1 c.units.rest.now short
       (hit c.in-Some.damage c.in-Err.fault w (sym c.damage.ensures ∙ c.in-Some.is) c.damaged.ensures)
@@ -65,7 +65,7 @@ returns-in-Ok-On-clause-fed g c dialect t first start is =
     let r = at_unit so (some_rest c.units.rest.now c.is_empty.ensures c.units-test.true) in
     let short = within_limit so c.units.invariant.short in
     rw so.whole (reads_on so.is r.0 r.1 c.units.rest.now short
-    (rw c.in-Ok-On.field-0-is at (c.in-Ok-On.ensures dialect (past so.is r.0 r.1) r.0 [] r.0 first start (are so.is r.0 r.1)
+    (rw c.in-Ok-On.field-0-is at (c.in-Ok-On.ensures.worked dialect (past so.is r.0 r.1) r.0 [] r.0 first start (are so.is r.0 r.1)
     (short_here so.is r.0 r.1 c.units.rest.now short) (tells so.is r.0 r.1))) _ (rw c.saturating_add-self.ensures refl))
 
 pub returns-in-Ok-Stop-clause-fed : goal.returns-in-Ok-Stop-clause-fed
@@ -75,7 +75,7 @@ returns-in-Ok-Stop-clause-fed g c dialect t first start is =
     let r = at_unit so (some_rest c.units.rest.now c.is_empty.ensures c.units-test.true) in
     let short = within_limit so c.units.invariant.short in
     rw so.whole (no_more so.is r.0 r.1 c.units.rest.now short {u = c.work_through.new.units}
-    (rw c.in-Ok-Stop.field-0-is at (c.in-Ok-Stop.ensures dialect (past so.is r.0 r.1) r.0 [] r.0 first start
+    (rw c.in-Ok-Stop.field-0-is at (c.in-Ok-Stop.ensures.worked dialect (past so.is r.0 r.1) r.0 [] r.0 first start
     (are so.is r.0 r.1) (short_here so.is r.0 r.1 c.units.rest.now short) (tells so.is r.0 r.1))) _ refl)
 
 pub returns-in_default-clause-fed : goal.returns-in_default-clause-fed
@@ -86,7 +86,7 @@ returns-in_default-clause-fed g c dialect t first start is =
     let short = within_limit so c.units.invariant.short in
     of_all so _ _ (record c.units.self { units = c.work_through.new.units }) (Err c.in-Err.fault)
     (stops so.is r.0 r.1 c.units.rest.now _ _ _ c.in-Err.fault (not_damage c.in-Err.fault (sym c.damage.ensures ∙ c.in_default.is))
-    (c.in-Err.ensures dialect (past so.is r.0 r.1) r.0 [] r.0 first start
+    (c.in-Err.ensures.worked dialect (past so.is r.0 r.1) r.0 [] r.0 first start
     (are so.is r.0 r.1) (short_here so.is r.0 r.1 c.units.rest.now short) (tells so.is r.0 r.1))
     (record c.units.self { units = c.work_through.new.units }))
 
@@ -95,3 +95,12 @@ returns-clause-fed g c dialect t first start is =
     let so = c.units.invariant.fed dialect (t ++ c.args.piece.now) first start
     (enters is c.args.piece.now c.requires.short c.pass_over-rest.ensures.rest c.pass_over-rest.ensures.read) in
     all_read so (no_rest c.units.rest.now c.is_empty.ensures c.units-test.false)
+
+pub returns-in_default-clause-blames_writer : goal.returns-in_default-clause-blames_writer
+returns-in_default-clause-blames_writer g c dialect t first start is =
+    let so = c.units.invariant.fed dialect (t ++ c.args.piece.now) first start
+    (enters is c.args.piece.now c.requires.short c.pass_over-rest.ensures.rest c.pass_over-rest.ensures.read) in
+    let r = at_unit so (some_rest c.units.rest.now c.is_empty.ensures c.units-test.true) in
+    let short = within_limit so c.units.invariant.short in
+    c.in-Err.ensures.blames_writer dialect (past so.is r.0 r.1) r.0 [] r.0 first start
+    (are so.is r.0 r.1) (short_here so.is r.0 r.1 c.units.rest.now short) (tells so.is r.0 r.1)

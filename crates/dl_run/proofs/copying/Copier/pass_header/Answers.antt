@@ -1,5 +1,5 @@
 use Rattle.dl_emit.specs.Writing.{WritesUnitHeader}
-use Rattle.dl_run.proofs.Names.{arith, EmitFault, Err, header_bytes, program_len, subst}
+use Rattle.dl_run.proofs.Names.{ap, arith, EmitFault, Err, header_bytes, program_len, subst}
 use Rattle.dl_run.proofs.CopierLemmas.{all_passed, part_passed}
 use Rattle.dl_run.proofs.copying.Copier.pass_header.Goals as goal
 
@@ -30,3 +30,7 @@ returns-in-Err-Write-clause-printed g c rows grown accepted =
           (c.in_ok-flush.ensures.printed start text has) c.in_ok-flush.ensures.empty _ c.in-Err-Write.part written.1
           written.2),
     )
+
+pub returns-in-Err-Write-clause-blames_writer : goal.returns-in-Err-Write-clause-blames_writer
+returns-in-Err-Write-clause-blames_writer g c small =
+    c.in-Err-Write.ensures.blames c.in-Err-Write.part (ap (λ (f : EmitFault). Err f) c.in-Err-Write.field-0-is)

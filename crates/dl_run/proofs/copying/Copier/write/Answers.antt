@@ -24,7 +24,7 @@ returns-in_err-print_parts-clause-printed g c rows grown =
     rw (p.1, p.2) (
       printed.0,
       λ start before has. rw (append_assoc, text) at
-          (c.in_err-print_parts.ensures start (before ++ _) (printed.1 start before has)),
+          (c.in_err-print_parts.ensures.printed start (before ++ _) (printed.1 start before has)),
     )
 
 pub returns-clause-printed : goal.returns-clause-printed
@@ -36,5 +36,5 @@ returns-clause-printed g c rows grown =
     c.first_bytes-first.ensures c.last_bytes-last.ensures in (
       printed.0,
       λ start before has. rw (append_assoc, text) at
-          (c.in_ok-print_parts.ensures start (before ++ _) (printed.1 start before has)),
+          (c.in_ok-print_parts.ensures.printed start (before ++ _) (printed.1 start before has)),
     )

@@ -3,18 +3,18 @@ use Rattle.dl_run.proofs.Names.{◌∙◌, [], ap, err_from_is_err_and, None, of
 use Rattle.dl_run.proofs.CopierLemmas.{copies_on, copies_unit, grows_no_more, stops_at_unit, stops_for_memory}
 use Rattle.dl_run.proofs.copying.CopierVisitor.end.Goals as goal
 
-pub returns-in_default : goal.returns-in_default
-returns-in_default g c first start visits s told =
+pub returns-in_default-clause-heard : goal.returns-in_default-clause-heard
+returns-in_default-clause-heard g c first start visits s told =
     let old = c.args.self.now in
     rw c.in_default.is (copies_on s old (g.W.Write.contents c.args.output.now) (of_end None) [] s.text refl refl refl refl
     (grows_no_more visits None old) s.printed)
 
-pub returns-in_default-make : goal.returns-in_default-make
-returns-in_default-make g c first start visits s told = rw c.in-Some.is (stops_for_memory
+pub returns-in_default-make-clause-heard : goal.returns-in_default-make-clause-heard
+returns-in_default-make-clause-heard g c first start visits s told = rw c.in-Some.is (stops_for_memory
     (λ memory. WasRefused (g.M.Memory.refuses memory)) s (of_end (Some c.in-Some.header)) c.in_default-make.ensures.tables)
 
-pub returns-in_err-write : goal.returns-in_err-write
-returns-in_err-write g c first start visits s told =
+pub returns-in_err-write-clause-heard : goal.returns-in_err-write-clause-heard
+returns-in_err-write-clause-heard g c first start visits s told =
     let p = err_from_is_err_and c.from_residual.result c.from_residual.ensures.1 in
     let own = c.in-Some in
     let std = c.in-Ok in
@@ -25,8 +25,8 @@ returns-in_err-write g c first start visits s told =
     (λ memory. WasRefused (g.M.Memory.refuses memory)) _
     (ensures.printed s.rows grown))
 
-pub returns : goal.returns
-returns g c first start visits s told =
+pub returns-clause-heard : goal.returns-clause-heard
+returns-clause-heard g c first start visits s told =
     let own = c.in-Some in
     let std = c.in-Ok in
     let ensures = c.in_ok-write.ensures in

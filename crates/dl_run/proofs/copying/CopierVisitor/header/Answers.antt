@@ -2,8 +2,8 @@ use Rattle.dl_run.proofs.Names.{[], of_header, refl}
 use Rattle.dl_run.proofs.CopierLemmas.{copies_on, grows_from}
 use Rattle.dl_run.proofs.copying.CopierVisitor.header.Goals as goal
 
-pub returns : goal.returns
-returns g c first start visits s =
+pub returns-clause-heard : goal.returns-clause-heard
+returns-clause-heard g c first start visits s =
     let new = record c.args.self.now { unit = c.args.offset; program = c.begin.new.program } in
     let grown = c.begin.ensures c.args.offset in
     let h = c.args.header.now in

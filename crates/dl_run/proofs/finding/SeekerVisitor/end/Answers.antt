@@ -5,8 +5,8 @@ use Rattle.dl_run.proofs.SeekerLemmas.{has_found, no_answer, seeks_on, stops_pri
 use Rattle.dl_run.proofs.finding.SeekerVisitor.end.Goals.{in_default-via-in-Some+in_default, in_default-via-in_default}
 use Rattle.dl_run.proofs.finding.SeekerVisitor.end.Goals as goal
 
-pub returns-in_default : goal.returns-in_default
-returns-in_default g c first start visits s told =
+pub returns-in_default-clause-heard : goal.returns-in_default-clause-heard
+returns-in_default-clause-heard g c first start visits s told =
     let new = record c.args.self.now { finder = c.new-self.result } in
     let answers = c.answer-answer.ensures first.place s.rows s.stands in
     let none : answer_under c.args.header (answer s.rows first.place) ≡ seeks [] = elim c.in_default.branch [
@@ -16,8 +16,8 @@ returns-in_default g c first start visits s told =
     seeks_on s new (of_end c.args.header) [] refl refl s.not_found refl none
     (rw s.place at c.new-self.ensures)
 
-pub returns-in_err-file : goal.returns-in_err-file
-returns-in_err-file g c first start visits s told =
+pub returns-in_err-file-clause-heard : goal.returns-in_err-file-clause-heard
+returns-in_err-file-clause-heard g c first start visits s told =
     let p = err_from_is_err_and c.from_residual.result c.from_residual.ensures.1 in
     let own = c.in-Some-Some in
     let answers = c.answer-answer.ensures first.place s.rows s.stands in
@@ -28,8 +28,8 @@ returns-in_err-file g c first start visits s told =
       finder = c.new-self.result;
     }) (g.W.Write.contents c.file.new.output) _ (TellsOut-more start _ text (row_line own.row) _ tells))
 
-pub returns-in_err-row : goal.returns-in_err-row
-returns-in_err-row g c first start visits s told =
+pub returns-in_err-row-clause-heard : goal.returns-in_err-row-clause-heard
+returns-in_err-row-clause-heard g c first start visits s told =
     let p = err_from_is_err_and c.from_residual-in_err-row.result c.from_residual-in_err-row.ensures.1 in
     let own = c.in-Some-Some in
     let answers = c.answer-answer.ensures first.place s.rows s.stands in
@@ -40,8 +40,8 @@ returns-in_err-row g c first start visits s told =
       finder = c.new-self.result;
     }) (g.W.Write.contents c.row.new.output) _ tells)
 
-pub returns : goal.returns
-returns g c first start visits s told =
+pub returns-clause-heard : goal.returns-clause-heard
+returns-clause-heard g c first start visits s told =
     let own = c.in-Some-Some in
     let answers = c.answer-answer.ensures first.place s.rows s.stands in
     let text = file_text (strings_of c.args.self.now.strings) own.header own.row.file in

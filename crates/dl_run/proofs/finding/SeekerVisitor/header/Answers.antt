@@ -2,5 +2,5 @@ use Rattle.dl_run.proofs.Names.{of_header, refl}
 use Rattle.dl_run.proofs.SeekerLemmas.{seeks_past}
 use Rattle.dl_run.proofs.finding.SeekerVisitor.header.Goals as goal
 
-pub returns : goal.returns
-returns g c first start visits s = seeks_past s (of_header c.args._offset c.args._header.now) refl
+pub returns-clause-heard : goal.returns-clause-heard
+returns-clause-heard g c first start visits s = seeks_past s (of_header c.args._offset c.args._header.now) refl

@@ -1,8 +1,8 @@
 use Rattle.dl_run.proofs.TellingVisits.{ended}
 use Rattle.dl_run.proofs.in_memory.TellingVisitor.end.Goals as goal
 
-pub returns : goal.returns
-returns g c first start visits s told =
+pub returns-clause-heard : goal.returns-clause-heard
+returns-clause-heard g c first start visits s told =
     ended s c.args.header _ _ c.end.result (record {
       sink = s.passed.sink;
       offset = s.passed.offset;

@@ -3,8 +3,8 @@ use Rattle.dl_run.specs.Section.{of_header}
 use Rattle.dl_run.proofs.TellingVisits.{told_on}
 use Rattle.dl_run.proofs.in_memory.TellingVisitor.header.Goals as goal
 
-pub returns : goal.returns
-returns g c first start visits s =
+pub returns-clause-heard : goal.returns-clause-heard
+returns-clause-heard g c first start visits s =
     told_on s (of_header c.args.offset c.args._header.now) _ _ (record {
       sink = s.passed.sink;
       offset = refl;

@@ -3,8 +3,8 @@ use Rattle.dl_run.proofs.PassingLemmas.{told-push}
 use Rattle.dl_run.proofs.passing_over.OtherVersionsVisitor.foreign.Goals.{in-Some, in-None}
 use Rattle.dl_run.proofs.passing_over.OtherVersionsVisitor.foreign.Goals as goal
 
-pub returns : goal.returns
-returns g c first start visits (kept, spans) =
+pub returns-clause-heard : goal.returns-clause-heard
+returns-clause-heard g c first start visits (kept, spans) =
     let before = versions_told visits in
     let more : Spans (before ++ c.args.version ∷ []) (Some c.match-self.self) = elim c.match-self.branch [
       | in-Some w ↦ rw w.self-is (w.with.ensures before (rw w.in-Some.is at spans))

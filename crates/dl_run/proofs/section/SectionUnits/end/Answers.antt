@@ -18,7 +18,7 @@ returns-in_err-close-clause-heard g c b stands first start visits tells told =
       p.2,
     ) (stops_before g.V.Visitor.story first c.close.new.visitor start (g.W.Write.contents c.close.new.output)
     visits (open_visit (ends_open (unit_rows dialect b))) (of_end (header_of dialect b) ∷ []) _
-    (c.in_err-close.ensures b stands first start visits tells))
+    (c.in_err-close.ensures.heard b stands first start visits tells))
 
 pub returns-clause-heard : goal.returns-clause-heard
 returns-clause-heard g c b stands first start visits tells told =
@@ -31,6 +31,6 @@ returns-clause-heard g c b stands first start visits tells told =
     let heard = subst (λ (h : Option HeaderData). MatchResult c.end.result
     (GoesOn story first c.end.new.self start now ((visits ++ more) ++ of_end h ∷ []))
     (StopsIn story first c.end.new.self start now (visits ++ more) (of_end h ∷ [])))
-    header (c.end.ensures first start (visits ++ more) (c.in_ok-close.ensures b stands first start visits tells)
+    header (c.end.ensures.heard first start (visits ++ more) (c.in_ok-close.ensures.heard b stands first start visits tells)
     same) in
     ends_after story first c.end.new.self start now visits more (of_end (header_of dialect b) ∷ []) c.end.result heard

@@ -17,19 +17,19 @@ events-init g c = record {
   };
 }
 
-pub returns-in_err-fed : goal.returns-in_err-fed
-returns-in_err-fed g c dialect past t units b first start are short tells =
+pub returns-in_err-fed-clause-fed : goal.returns-in_err-fed-clause-fed
+returns-in_err-fed-clause-fed g c dialect past t units b first start are short tells =
     let p = err_from_is_err_and c.from_residual.result c.from_residual.ensures.1 in
     let so = c.events.invariant.fed dialect past t units b first start are short tells in
     rw (p.1, p.2) (stops_at_row so (c.in_err-fed.ensures.told so.b so.are.stands))
 
-pub returns-in-Err : goal.returns-in-Err
-returns-in-Err g c dialect past t units b first start are short tells =
+pub returns-in-Err-clause-fed : goal.returns-in-Err-clause-fed
+returns-in-Err-clause-fed g c dialect past t units b first start are short tells =
     let so = c.events.invariant.fed dialect past t units b first start are short tells in
     damaged so (c.in_ok-fed.ensures.told so.b so.are.stands) c.in-Err.is c.damage.ensures
 
-pub returns-in-More : goal.returns-in-More
-returns-in-More g c dialect past t units b first start are short tells =
+pub returns-in-More-clause-fed : goal.returns-in-More-clause-fed
+returns-in-More-clause-fed g c dialect past t units b first start are short tells =
     let so = c.events.invariant.fed dialect past t units b first start are short tells in
     idle (turn so (c.in_ok-fed.ensures.told so.b so.are.stands) c.in-Ok.is) c.in-More.is c.if-fed-eq0.true
 
@@ -40,13 +40,13 @@ events-preserved-else-fed-eq0 g c = record {
       goes_on_quietly (turn so (c.in_ok-fed.ensures.told so.b so.are.stands) c.in-Ok.is) c.in-More.is;
 }
 
-pub returns-in-NoMemory : goal.returns-in-NoMemory
-returns-in-NoMemory g c dialect past t units b first start are short tells =
+pub returns-in-NoMemory-clause-fed : goal.returns-in-NoMemory-clause-fed
+returns-in-NoMemory-clause-fed g c dialect past t units b first start are short tells =
     let so = c.events.invariant.fed dialect past t units b first start are short tells in
     unmet (turn so (c.in_ok-fed.ensures.told so.b so.are.stands) c.in-Ok.is) c.in-NoMemory.is
 
-pub returns-in_err-end-in-End : goal.returns-in_err-end-in-End
-returns-in_err-end-in-End g c dialect past t units b first start are short tells =
+pub returns-in_err-end-in-End-clause-fed : goal.returns-in_err-end-in-End-clause-fed
+returns-in_err-end-in-End-clause-fed g c dialect past t units b first start are short tells =
     let p = err_from_is_err_and c.from_residual-in_err-end-in-End.result c.from_residual-in_err-end-in-End.ensures.1 in
     let so = c.events.invariant.fed dialect past t units b first start are short tells in
     let t = turn so (c.in_ok-fed.ensures.told so.b so.are.stands) c.in-Ok.is in
@@ -64,8 +64,8 @@ events-preserved-in-On g c = record {
       (end.heard _ t.stands first start t.visits t.tells e.header);
 }
 
-pub returns-in-Stop : goal.returns-in-Stop
-returns-in-Stop g c dialect past t units b first start are short tells =
+pub returns-in-Stop-clause-fed : goal.returns-in-Stop-clause-fed
+returns-in-Stop-clause-fed g c dialect past t units b first start are short tells =
     let so = c.events.invariant.fed dialect past t units b first start are short tells in
     let t = turn so (c.in_ok-fed.ensures.told so.b so.are.stands) c.in-Ok.is in
     let e = ended t c.in-End.is in
@@ -82,10 +82,16 @@ events-preserved g c = record {
       c.tell.ensures.counted;
 }
 
-pub returns-in_err-tell-in_default : goal.returns-in_err-tell-in_default
-returns-in_err-tell-in_default g c dialect past t units b first start are short tells =
+pub returns-in_err-tell-in_default-clause-fed : goal.returns-in_err-tell-in_default-clause-fed
+returns-in_err-tell-in_default-clause-fed g c dialect past t units b first start are short tells =
     let p = err_from_is_err_and c.from_residual-in_err-tell-in_default.result
     c.from_residual-in_err-tell-in_default.ensures.1 in
     let so = c.events.invariant.fed dialect past t units b first start are short tells in
     let t = turn so (c.in_ok-fed.ensures.told so.b so.are.stands) c.in-Ok.is in
     rw (p.1, p.2) (stops_told t _ _ (c.in_err-tell-in_default.ensures.heard _ t.no_row t.stands first start t.visits t.tells))
+
+pub returns-in_err-fed-clause-blames_writer : goal.returns-in_err-fed-clause-blames_writer
+returns-in_err-fed-clause-blames_writer g c dialect past t units b first start are short tells =
+    let p = err_from_is_err_and c.from_residual.result c.from_residual.ensures.1 in
+    let so = c.events.invariant.fed dialect past t units b first start are short tells in
+    rw (p.1, p.2) (c.in_err-fed.ensures.blames_writer so.b so.are.stands)

@@ -14,8 +14,9 @@ returns-in-Err g c first rows told = (
         c.saturating_add-self.result c.saturating_add-self-2.result rows c.args.row.now told.counts
         c.saturating_add-self.ensures (grind (arith, common_steps));
     fails = refl;
-    hears = stops_after g.V.Visitor.story g.W.Write.contents first.visitor.now c.args.self.now.visitor.now
+    hears = stops_after g.V.Visitor.story g.W.Destination.fails g.W.Write.contents first.visitor.now c.args.self.now.visitor.now
         c.row.new.self (g.W.Write.contents first.output.now) (g.W.Write.contents c.args.self.now.output.now)
-        (g.W.Write.contents c.row.new.output) rows c.args.row.now c.in-Err.fault told.hears c.in-Err.ensures;
+        (g.W.Write.contents c.row.new.output) rows c.args.row.now c.in-Err.fault told.hears c.in-Err.ensures.heard;
+    blames = c.in-Err.ensures.blames_writer;
   },
 )

@@ -18,28 +18,26 @@ put_row-requires-clause-within g c =
     let held = ap values_end c.row-held.ensures in
     omega arith
 
-pub returns-in_err-out : goal.returns-in_err-out
-returns-in_err-out g c = record {
-  written = λ start text h.
-      let pairs = c.args.pairs.now in
-      let width = length pairs in
-      let count = length c.args.values.now / width in
-      let all = map (value_held c.args.pool.now) c.args.values.now in
-      let entries = (table_of c.args.encoding.format pairs c.args.values.now c.args.pool.now).entries in
-      let bytes = entry_bytes c.args.encoding.order c.args.encoding.format pairs in
-      let i = c.loop-i.i in
-      let turn : i < length entries = omega (arith, length-rows count width all) in
-      let row = row_at count width c.args.pool.now c.args.values.now i c.row-held.result.now (omega arith)
-      c.row-held.ensures in
-      let split = parts_split bytes entries i [] turn in
-      let p = err_from_is_err_and c.from_residual.result c.from_residual.ensures.1 in
-      let tells = c.in_err-out.ensures.written start _ (c.loop-i.invariant start text h) in
-      rw (p.1, p.2) (TellsOut-piece start _ text (flat_map bytes (take i entries))
-      (bytes (map (value_held c.args.pool.now) c.row-held.result.now)) (flat_map bytes (drop (i + 1) entries))
-      (flat_map bytes entries) _
-      (split ∙ ap (λ vs. flat_map bytes (take i entries) ++ bytes vs ++ flat_map bytes (drop (i + 1) entries)) row)
-      tells);
-}
+pub returns-in_err-out-clause-written : goal.returns-in_err-out-clause-written
+returns-in_err-out-clause-written g c = λ start text h.
+    let pairs = c.args.pairs.now in
+    let width = length pairs in
+    let count = length c.args.values.now / width in
+    let all = map (value_held c.args.pool.now) c.args.values.now in
+    let entries = (table_of c.args.encoding.format pairs c.args.values.now c.args.pool.now).entries in
+    let bytes = entry_bytes c.args.encoding.order c.args.encoding.format pairs in
+    let i = c.loop-i.i in
+    let turn : i < length entries = omega (arith, length-rows count width all) in
+    let row = row_at count width c.args.pool.now c.args.values.now i c.row-held.result.now (omega arith)
+    c.row-held.ensures in
+    let split = parts_split bytes entries i [] turn in
+    let p = err_from_is_err_and c.from_residual.result c.from_residual.ensures.1 in
+    let tells = c.in_err-out.ensures.written start _ (c.loop-i.invariant start text h) in
+    rw (p.1, p.2) (TellsOut-piece start _ text (flat_map bytes (take i entries))
+    (bytes (map (value_held c.args.pool.now) c.row-held.result.now)) (flat_map bytes (drop (i + 1) entries))
+    (flat_map bytes entries) _
+    (split ∙ ap (λ vs. flat_map bytes (take i entries) ++ bytes vs ++ flat_map bytes (drop (i + 1) entries)) row)
+    tells)
 
 pub loop-i-preserved : goal.loop-i-preserved
 loop-i-preserved g c = λ start text h.
@@ -56,16 +54,14 @@ loop-i-preserved g c = λ start text h.
     let more = parts_more bytes entries i [] turn ∙ ap (λ vs. flat_map bytes (take i entries) ++ bytes vs) row in
     IsOut-piece start _ text _ _ _ _ more (c.in_ok-out.ensures.written start _ (c.loop-i.invariant start text h))
 
-pub returns : goal.returns
-returns g c = record {
-  written = λ start text h.
-      let pairs = c.args.pairs.now in
-      let width = length pairs in
-      let count = length c.args.values.now / width in
-      let entries = (table_of c.args.encoding.format pairs c.args.values.now c.args.pool.now).entries in
-      let whole = take_all c.loop-i.i entries
-      (omega (arith, length-rows count width (map (value_held c.args.pool.now) c.args.values.now))) in
-      IsOut-same start _ text _ _ _ (ap (flat_map (entry_bytes c.args.encoding.order c.args.encoding.format pairs))
-      whole)
-      (c.loop-i.invariant start text h);
-}
+pub returns-clause-written : goal.returns-clause-written
+returns-clause-written g c = λ start text h.
+    let pairs = c.args.pairs.now in
+    let width = length pairs in
+    let count = length c.args.values.now / width in
+    let entries = (table_of c.args.encoding.format pairs c.args.values.now c.args.pool.now).entries in
+    let whole = take_all c.loop-i.i entries
+    (omega (arith, length-rows count width (map (value_held c.args.pool.now) c.args.values.now))) in
+    IsOut-same start _ text _ _ _ (ap (flat_map (entry_bytes c.args.encoding.order c.args.encoding.format pairs))
+    whole)
+    (c.loop-i.invariant start text h)

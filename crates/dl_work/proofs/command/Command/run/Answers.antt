@@ -1,6 +1,6 @@
 use Rattle.std.proofs.Common.{◌∙◌, sym}
 use Rattle.dl_run.proofs.BlameLemmas.{blames_where}
-use Rattle.dl_work.proofs.BlameLemmas.{around_read, found_read, whole_read}
+use Rattle.dl_work.proofs.BlameLemmas.{around_read, around_writer, found_read, found_writer, whole_read, whole_writer}
 use Rattle.dl_work.proofs.command.Command.run.Goals as goal
 
 pub returns-in-DumpAround-clause-ran : goal.returns-in-DumpAround-clause-ran
@@ -58,3 +58,40 @@ returns-in-IndexAround-clause-blames g c = blames_where c.write_index_around.ens
 
 pub returns-in-IndexUntilAround-clause-blames : goal.returns-in-IndexUntilAround-clause-blames
 returns-in-IndexUntilAround-clause-blames g c = blames_where c.write_index_until_around.ensures.blames (λ e. e.1)
+
+pub returns-in-Dump-clause-blames_writer : goal.returns-in-Dump-clause-blames_writer
+returns-in-Dump-clause-blames_writer g c none =
+    rw c.all_whole.ensures (whole_writer _ c.dump.result c.dump.ensures.blames_writer)
+
+pub returns-in-Check-clause-blames_writer : goal.returns-in-Check-clause-blames_writer
+returns-in-Check-clause-blames_writer g c none =
+    rw c.all_whole-in-Check.ensures (whole_writer _ c.check.result c.check.ensures.blames_writer)
+
+pub returns-in-Find-clause-blames_writer : goal.returns-in-Find-clause-blames_writer
+returns-in-Find-clause-blames_writer g c none =
+    rw c.all_whole-in-Find.ensures (whole_writer _ c.find.result c.find.ensures.blames_writer)
+
+pub returns-in-Copy-clause-blames_writer : goal.returns-in-Copy-clause-blames_writer
+returns-in-Copy-clause-blames_writer g c none =
+    rw c.all_whole-in-Copy.ensures (whole_writer _ c.copy.result c.copy.ensures.blames_writer)
+
+pub returns-in-CopyTo5-clause-blames_writer : goal.returns-in-CopyTo5-clause-blames_writer
+returns-in-CopyTo5-clause-blames_writer g c none =
+    rw c.all_whole-in-CopyTo5.ensures (whole_writer _ c.copy_to_5.result c.copy_to_5.ensures.blames_writer)
+
+pub returns-in-Index-clause-blames_writer : goal.returns-in-Index-clause-blames_writer
+returns-in-Index-clause-blames_writer g c none =
+    rw c.all_whole-in-Index.ensures (whole_writer _ c.write_index.result c.write_index.ensures.blames_writer)
+
+pub returns-in-IndexUntil-clause-blames_writer : goal.returns-in-IndexUntil-clause-blames_writer
+returns-in-IndexUntil-clause-blames_writer g c none =
+    rw c.all_whole-in-IndexUntil.ensures (whole_writer _ c.write_index_until.result c.write_index_until.ensures.blames_writer)
+
+pub returns-in-Addr-clause-blames_writer : goal.returns-in-Addr-clause-blames_writer
+returns-in-Addr-clause-blames_writer g c none =
+    rw c.all_whole-in-Addr.ensures (whole_writer _ c.answered.result
+    (rw c.answered.ensures (found_writer _ c.addr.result c.addr.ensures.blames_writer)))
+
+pub returns-in-AddrAround-clause-blames_writer : goal.returns-in-AddrAround-clause-blames_writer
+returns-in-AddrAround-clause-blames_writer g c none =
+    rw c.answered_around.ensures (around_writer _ c.addr_around.result c.addr_around.ensures.blames_writer)
