@@ -12,6 +12,7 @@ pub struct NoMemory;
 pub trait Memory {
     ghost use Rattle.std.specs.Prelude.{◌≡◌, ◌≤◌, ◌+◌, ◌++◌, ◌∷◌, [], ℕ, length, vec_len, vec_capacity, IfOk, OnOk, OnErr, Some, None};
     ghost use Rattle.std.specs.BTreeMap.{IsUnchanged, Updates, btree_map_len, get};
+    ghost use Rattle.std.specs.List.Sorted.{IsSortedByKeyClosure, IsStableByKeyClosure};
     ghost use Rattle.std.specs.Ordering.{nat_cmp};
 
     /// For a list or a map of how many items it refuses memory.
@@ -40,6 +41,24 @@ pub trait Memory {
         ensures kept { OnErr result (list.new.items ≡ list.old.items) }
         ensures capacity { vec_capacity list.old ≤ vec_capacity list.new }
         ensures refused { OnErr result (refuses self.now (length list.old.items + length more.now)) };
+
+    /// Puts a value into a place of its own.
+    fn boxed<T: Drop>(&self, value: T) -> Result<Box<T>, NoMemory>
+        ensures value { IfOk result (λ boxed. boxed.value ≡ value) }
+        ensures refused { OnErr result (refuses self.now 1) };
+
+    /// Puts the items of a list in rising order of their keys; those of one key stay in their order. As many items again are
+    /// held meanwhile.
+    fn sort_by_key<T, K: Ord + Drop, F: FnMut(&T) -> K>(
+        &self,
+        list: &mut Vec<T>,
+        key: F,
+    ) -> Result<(), NoMemory>
+        requires { F.IsAlwaysCallable key }
+        ensures sorted { OnOk result (IsSortedByKeyClosure F.FnMut K.cmp key list.new.items) }
+        ensures stable { IsStableByKeyClosure F.FnMut K.cmp key list.old.items list.new.items }
+        ensures kept { OnErr result (list.new.items ≡ list.old.items) }
+        ensures refused { OnErr result (refuses self.now (length list.old.items)) };
 
     /// Puts a value by a key into a map, in place of the one that was by it.
     fn insert<V: Drop>(

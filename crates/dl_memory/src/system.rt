@@ -47,6 +47,24 @@ impl Memory for System {
         }
     }
 
+    fn boxed<T: Drop>(&self, value: T) -> Result<Box<T>, NoMemory> {
+        match Box::new(self.alloc, value) {
+            Ok(boxed) => Ok(boxed),
+            Err(_) => Err(NoMemory),
+        }
+    }
+
+    fn sort_by_key<T, K: Ord + Drop, F: FnMut(&T) -> K>(
+        &self,
+        list: &mut Vec<T>,
+        key: F,
+    ) -> Result<(), NoMemory> {
+        match list.sort_by_key(key) {
+            Ok(()) => Ok(()),
+            Err(_) => Err(NoMemory),
+        }
+    }
+
     fn insert<V: Drop>(
         &self,
         map: &mut BTreeMap<u64, V>,

@@ -31,7 +31,7 @@ impl Destination for Sink {
     ghost fails = { ⊥ };
 
     fn write_next(&mut self, bytes: &[u8]) -> io::Result<usize> {
-        self.write(bytes)
+        Ok(bytes.len())
     }
 }
 
