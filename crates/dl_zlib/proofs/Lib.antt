@@ -8,7 +8,9 @@ pub mod CodeLaws
 pub mod CodeReads
 pub mod CopyLemmas
 pub mod DecodeLemmas
+pub mod EncodedLemmas
 pub mod FeedLemmas
+pub mod FixedLemmas
 pub mod FieldLemmas
 pub mod FieldsLemmas
 pub mod FrontLemmas

@@ -5,6 +5,7 @@ pub mod Deflate
 pub mod Zlib
 pub mod Feeding
 pub mod Laws
+pub mod Encoded
 -- For what a value stands; public contracts name this, and don't rest on how it is said.
 pub mod Buffer
 pub mod Kept
