@@ -7,3 +7,4 @@ mod ForwardLemmas
 pub mod NoteLemmas
 pub mod WorkedFile
 pub mod NumberedLemmas
+pub mod OpenedLemmas

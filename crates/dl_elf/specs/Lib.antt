@@ -16,5 +16,6 @@ pub mod Window
 pub mod Slots
 pub mod SectionsHeld
 -- Of contracts inside the crate, and of proofs; no public contract reaches these.
+pub mod OpenedBySteps
 pub mod SlotsFound
 pub mod NoteParts

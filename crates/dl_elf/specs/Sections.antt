@@ -1,6 +1,6 @@
 -- The sections of an ELF file, and how it is opened. System V ABI, chapter 4. f: the bytes of a file; h: its header.
-use Rattle.std.specs.Prelude.{ℕ, ◌+◌, ◌*◌, Bool, not, ◌||◌, ◌==◌, nat_le, nat_lt, if◌then◌else◌, List, length, Option}
-use Rattle.std.specs.Prelude.{Some, None, Result, Ok, Err}
+use Rattle.std.specs.Prelude.{ℕ, zero, suc, ◌+◌, ◌-◌, ◌*◌, Bool, not, ◌||◌, ◌&&◌, ◌==◌, nat_le, nat_lt, if◌then◌else◌, List}
+use Rattle.std.specs.Prelude.{[], ◌∷◌, ◌++◌, length, Option, Some, None, is_none, Result, Ok, Err}
 use Rattle.dl_elf.specs.declared.header.FileHeader.{FileHeader}
 use Rattle.dl_elf.specs.declared.section.SectionHeader.{SectionHeader}
 use Rattle.dl_elf.specs.declared.file.Range.{Range}
@@ -48,40 +48,57 @@ range_within r f = lies_within r.offset r.size f
 abbrev pub section_bytes : SectionHeader → List ℕ → List ℕ
 section_bytes s f = let range = section_range s in bytes_at range.offset range.size f
 
+-- section headers 1 to n, each where it lies in f
+abbrev pub headers_upto : FileHeader → List ℕ → ℕ → List (Option SectionHeader)
+headers_upto h f zero = []
+headers_upto h f (suc n) = headers_upto h f n ++ section_in h f (suc n) ∷ []
+
+-- those of all sections, in order; section 0 is none
+abbrev pub section_headers : Elf → List ℕ → List (Option SectionHeader)
+section_headers e f = headers_upto e.header f (e.count - 1)
+
 -- ---- opening a file
 
 -- a file with this many sections, none of which has a name
 abbrev pub without_names : FileHeader → ℕ → Elf
 without_names h count = record { header = h; count = count; names = record { offset = 0; size = 0 } }
 
--- a file whose name table is this section, which has to lie in it
-abbrev pub with_names : FileHeader → ℕ → List ℕ → Option SectionHeader → Result Elf ElfFault
-with_names h count f None = Err (fault.Damaged part.NameTable)
-with_names h count f (Some s) = let names = section_range s in
-    if range_within names f then Ok (record { header = h; count = count; names = names })
-    else Err (fault.Damaged part.NameTable)
+-- how many sections there are, and which has the name table, by section header 0; number 0 is none
+abbrev pub count_in : FileHeader → List ℕ → ℕ
+count_in h f = section_count h (section_header h f 0)
 
--- a file with this many sections, whose headers have to lie in it, and the name table of this number; 0 is none
-abbrev pub counted : FileHeader → List ℕ → (count names : ℕ) → Result Elf ElfFault
-counted h f count names =
-    if not (lies_within h.table_offset (count * h.entry_size) f) then Err (fault.Damaged part.SectionHeaders)
-    else (if names == 0 then Ok (without_names h count)
-    else (if nat_le count names then Err (fault.Damaged part.NameTable)
-    else with_names h count f (section_in h f names)))
+abbrev pub names_in : FileHeader → List ℕ → ℕ
+names_in h f = name_table_number h (section_header h f 0)
 
--- a file with this section header 0
-abbrev pub from_first : FileHeader → List ℕ → Option SectionHeader → Result Elf ElfFault
-from_first h f None = Err (fault.Damaged part.SectionHeaders)
-from_first h f (Some s) = counted h f (section_count h s) (name_table_number h s)
+-- the bytes of the name table
+abbrev pub names_range : FileHeader → List ℕ → Range
+names_range h f =
+    if names_in h f == 0 then record { offset = 0; size = 0 } else section_range (section_header h f (names_in h f))
+
+-- what may keep a file with sections from being opened, in order, and the fault that it then is: section headers that are
+-- too short, header 0, all headers, or the name table outside
+abbrev pub reasons : FileHeader → List ℕ → List (Bool × ElfFault)
+reasons h f =
+    (nat_lt h.entry_size (section_header_size h.class), fault.Damaged part.SectionHeaderSize)
+    ∷ (is_none (section_in h f 0), fault.Damaged part.SectionHeaders)
+    ∷ (not (lies_within h.table_offset (count_in h f * h.entry_size) f), fault.Damaged part.SectionHeaders)
+    ∷ (not (names_in h f == 0) && nat_le (count_in h f) (names_in h f), fault.Damaged part.NameTable)
+    ∷ (not (names_in h f == 0) && is_none (section_in h f (names_in h f)), fault.Damaged part.NameTable)
+    ∷ (not (range_within (names_range h f) f), fault.Damaged part.NameTable)
+    ∷ []
+
+-- the fault of the first of them that holds, else the file
+abbrev pub unless : List (Bool × ElfFault) → Elf → Result Elf ElfFault
+unless [] e = Ok e
+unless (reason ∷ more) e = if reason.0 then Err reason.1 else unless more e
 
 -- a file with this header; where e_shoff is 0 there are no sections
-abbrev pub opened_with : List ℕ → Option FileHeader → Result Elf ElfFault
-opened_with f None = Err fault.NotElf
-opened_with f (Some h) =
+abbrev pub opened_by : List ℕ → Option FileHeader → Result Elf ElfFault
+opened_by f None = Err fault.NotElf
+opened_by f (Some h) =
     if h.table_offset == 0 then Ok (without_names h 0)
-    else (if nat_lt h.entry_size (section_header_size h.class) then Err (fault.Damaged part.SectionHeaderSize)
-    else from_first h f (section_in h f 0))
+    else unless (reasons h f) (record { header = h; count = count_in h f; names = names_range h f })
 
 -- what a file with these bytes is opened as, or the first fault
 abbrev pub opened : List ℕ → Result Elf ElfFault
-opened f = opened_with f (file_header f)
+opened f = opened_by f (file_header f)

@@ -2,8 +2,9 @@
 ghost use Rattle.std.specs.Prelude.{◌≡◌, ◌<◌, ◌≤◌, ◌^◌, length, IsTrue, IfOk, IfErr, MatchOption};
 ghost use Rattle.dl_elf.specs.Source.{ForBytes};
 ghost use Rattle.dl_elf.specs.Window.{Shows};
-ghost use Rattle.dl_elf.specs.Sections.{header_place, section_in, section_range, opened, opened_with, section_count};
-ghost use Rattle.dl_elf.specs.Sections.{name_table_number, counted, with_names, without_names};
+ghost use Rattle.dl_elf.specs.Sections.{header_place, section_in, section_range, opened, section_count};
+ghost use Rattle.dl_elf.specs.Sections.{name_table_number, without_names};
+ghost use Rattle.dl_elf.specs.OpenedBySteps.{counted, opened_with, with_names};
 ghost use Rattle.dl_elf.specs.Answers.{AnswersOf, IfRead};
 
 use crate::fault::{ElfFault, Part};

@@ -13,12 +13,14 @@ use Rattle.dl_elf.specs.declared.named.NamedSection.{NamedSection}
 use Rattle.dl_file.specs.declared.content_reader.ContentReader.{ContentReader}
 use Rattle.dl_file.specs.declared.line_reader.LineReader.TheVariants.{File}
 use Rattle.dl_file.specs.LineTable.{Content, Gives, GivesLine, Inflated, IsLine, Plain, content, line_by}
+use Rattle.dl_file.proofs.ListedLemmas.{none_listed}
+use Rattle.dl_file.proofs.RelocationLemmas.{line_alone}
 use Rattle.std.specs.Option.{option_map}
 use Rattle.std.specs.Result.{result_err}
 use Rattle.dl_file.specs.declared.read_fault.ReadFault.TheVariants.{Read}
 use Rattle.dl_file.specs.Faults.{Tells}
 use Rattle.dl_file.specs.ContentReader.{EndsBy}
-use Rattle.dl_file.specs.Relocations.{fault_of, relocations_of}
+use Rattle.dl_file.specs.Relocations.{fault_of, relocation_sections, relocations_of}
 use Rattle.dl_file.specs.Answering.{IsCounted, IsHad, IsMade, OpensLine}
 
 -- a fault that is the answer
@@ -68,9 +70,19 @@ pub opened_line : {S : Type 0} {g : _} (all_bytes : S → Option (List ℕ)) (fa
     → OpensLine all_bytes fails_with fails (IsLine e f line) Memory (Ok (File reader))
 opened_line all_bytes fails_with fails e f line Memory reader none gives = (
   content e f line,
-  sym (ap (line_by e f line (content e f line)) none),
+  sym (line_alone e f line (content e f line) none),
   line_of all_bytes fails_with fails reader (content e f line) gives,
 )
+
+-- it can't be told how many it has
+pub uncounted_opens : {S : Type 0} (g : _) (all_bytes : S → Option (List ℕ)) (fails_with : S → Error → Type 0)
+    (fails : Error → Type 0) (e : Elf) (f : List ℕ) (line : NamedSection) (Memory : Type 0) (why : ElfFault)
+    → IsCounted (relocations_of e f line.number) (Err why)
+    → OpensLine {g = g} all_bytes fails_with fails (IsLine e f line) Memory (Err why)
+uncounted_opens g all_bytes fails_with fails e f line Memory (fault.Read error) is = tt
+uncounted_opens g all_bytes fails_with fails e f line Memory (fault.Damaged part.SectionHeaders) is =
+    sym (ap (line_by e f line (content e f line)) (none_listed (relocation_sections e f line.number) is))
+uncounted_opens g all_bytes fails_with fails e f line Memory other is = absurd is
 
 -- it has some, and its bytes can't be had
 pub unread_opens : {S : Type 0} (g : _) (all_bytes : S → Option (List ℕ)) (fails_with : S → Error → Type 0)

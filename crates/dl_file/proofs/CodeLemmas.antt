@@ -2,7 +2,9 @@
 use Rattle.std.proofs.Common.{◌≡◌, ℕ, suc, ◌+◌, ◌-◌, ◌≤◌, List, [], ◌∷◌, ◌++◌, Option, Some, None, arith, ap, ◌∙◌}
 use Rattle.dl_elf.specs.declared.file.Elf.{Elf}
 use Rattle.dl_file.specs.declared.code.ExecutableRange.{ExecutableRange}
-use Rattle.dl_file.specs.Code.{and_range, executable_range_at, executable_ranges, ranges_upto}
+use Rattle.dl_file.specs.Code.{executable_range_at, executable_ranges}
+use Rattle.dl_file.specs.OneByOne.{and_range, ranges_upto}
+use Rattle.dl_file.proofs.ListedLemmas.{ranges_listed}
 
 ranges_more : (e : Elf) (f : List ℕ) (n : ℕ) (ranges : List ExecutableRange) (range : Option ExecutableRange) → 1 ≤ n
     → ranges ≡ ranges_upto e f (n - 1)
@@ -27,4 +29,4 @@ pub ranges_whole : (e : Elf) (f : List ℕ) (n : ℕ) (ranges : List ExecutableR
     → ranges ≡ ranges_upto e f (n - 1)
     → ranges ≡ executable_ranges e f
 ranges_whole e f n ranges within past is =
-    let end : n - 1 ≡ e.count - 1 = omega (arith, within, past) in is ∙ ap (λ i. ranges_upto e f i) end
+    let end : n - 1 ≡ e.count - 1 = omega (arith, within, past) in is ∙ ap (λ i. ranges_upto e f i) end ∙ ranges_listed e f (e.count - 1)

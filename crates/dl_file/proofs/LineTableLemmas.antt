@@ -1,5 +1,5 @@
 -- The answer of a file whose headers were read.
-use Rattle.std.proofs.Common.{◌≡◌, ℕ, ◌*◌, ◌==◌, not, nat_le, nat_lt, List, Option, None, Some, Result, Ok, Err}
+use Rattle.std.proofs.Common.{◌≡◌, ℕ, ◌==◌, Bool, false, if◌then◌else◌, List, [], ◌∷◌, Option, None, Some, Result, Ok, Err}
 use Rattle.std.proofs.Common.{MatchResult, MatchOption, inl, inr, option_map, refl, sym, subst, true, ◌∙◌}
 use Rattle.std.proofs.lemmas.Bool.{cases_Bool}
 use Rattle.std.specs.declared.io.Error.{Error}
@@ -15,8 +15,8 @@ use Rattle.dl_elf.specs.declared.fault.Part.TheVariants as part
 use Rattle.dl_elf.specs.declared.named.NamedSection.{NamedSection}
 use Rattle.std.specs.Option.{option_and_then}
 use Rattle.dl_elf.specs.Elf.{file_header, section_header_size}
-use Rattle.dl_elf.specs.Sections.{counted, from_first, lies_within, opened, opened_with, range_within, section_count}
-use Rattle.dl_elf.specs.Sections.{name_table_number, section_in, section_range, with_names}
+use Rattle.dl_elf.specs.Sections.{count_in, names_range, opened, opened_by, range_within, reasons, section_range, unless}
+use Rattle.dl_elf.specs.Sections.{without_names}
 use Rattle.dl_elf.specs.declared.build_id.BuildId.{BuildId}
 use Rattle.dl_elf.specs.declared.name.SectionName.TheVariants.{BuildIdNote}
 use Rattle.dl_elf.specs.Notes.{build_id_bytes, build_id_of}
@@ -81,39 +81,29 @@ abbrev pub MemoryIsFree : Result Elf ElfFault → Type 0
 MemoryIsFree (Err fault.NoMemory) = ⊥
 MemoryIsFree other = Unit {0}
 
-names_free : (h : FileHeader) (count : ℕ) (f : List ℕ) (slot : Option SectionHeader)
-    → MemoryIsFree (with_names h count f slot)
-names_free h count f None = tt
-names_free h count f (Some s) = elim (cases_Bool (range_within (section_range s) f)) [
-  | inl within ↦ rw within tt
-  | inr out ↦ rw out tt
-]
+-- a reason is no want of memory, and so none of several
+abbrev Free : List (Bool × ElfFault) → Type 0
+Free [] = Unit {0}
+Free (reason ∷ more) = MemoryIsFree (Err reason.1) × Free more
 
-counted_free : (h : FileHeader) (f : List ℕ) (count names : ℕ) → MemoryIsFree (counted h f count names)
-counted_free h f count names = elim (cases_Bool (not (lies_within h.table_offset (count * h.entry_size) f))) [
-  | inl out ↦ rw out tt
-  | inr within ↦ rw within (elim (cases_Bool (names == 0)) [
-    | inl zero ↦ rw zero tt
-    | inr some ↦ rw some (elim (cases_Bool (nat_le count names)) [
-      | inl past ↦ rw past tt
-      | inr less ↦ rw less (names_free h count f (section_in h f names))
-    ])
-  ])
-]
+unless_free : (reasons : List (Bool × ElfFault)) (e : Elf) → Free reasons → MemoryIsFree (unless reasons e)
+unless_free [] e free = tt
+unless_free (reason ∷ more) e free = by (unless_free more e free.1) reason.0
+  where
+    by : MemoryIsFree (unless more e) → (t : Bool) → MemoryIsFree (if t then Err reason.1 else unless more e)
+    by later true = free.0
+    by later false = later
 
-first_free : (h : FileHeader) (f : List ℕ) (slot : Option SectionHeader) → MemoryIsFree (from_first h f slot)
-first_free h f None = tt
-first_free h f (Some s) = counted_free h f (section_count h s) (name_table_number h s)
-
-pub header_free : (f : List ℕ) (header : Option FileHeader) → MemoryIsFree (opened_with f header)
+pub header_free : (f : List ℕ) (header : Option FileHeader) → MemoryIsFree (opened_by f header)
 header_free f None = tt
-header_free f (Some h) = elim (cases_Bool (h.table_offset == 0)) [
-  | inl none ↦ rw none tt
-  | inr some ↦ rw some (elim (cases_Bool (nat_lt h.entry_size (section_header_size h.class))) [
-    | inl short ↦ rw short tt
-    | inr whole ↦ rw whole (first_free h f (section_in h f 0))
-  ])
-]
+header_free f (Some h) = by (h.table_offset == 0)
+  where
+    file : Elf
+    file = record { header = h; count = count_in h f; names = names_range h f }
+
+    by : (t : Bool) → MemoryIsFree (if t then Ok (without_names h 0) else unless (reasons h f) file)
+    by true = tt
+    by false = unless_free (reasons h f) file (tt, (tt, (tt, (tt, (tt, (tt, tt))))))
 
 -- ---- what open_line_file answers
 

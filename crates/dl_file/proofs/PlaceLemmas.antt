@@ -1,9 +1,9 @@
 -- The places that relocations change, one section header further on, and the answer of a file.
-use Rattle.std.proofs.Common.{◌≡◌, ℕ, zero, suc, ◌+◌, ◌-◌, ◌<◌, ◌≤◌, true, false, nat_le, List, [], Option}
+use Rattle.std.proofs.Common.{◌≡◌, ℕ, zero, suc, ◌+◌, ◌-◌, ◌<◌, ◌≤◌, true, false, nat_lt, List, [], ◌∷◌, length, Option}
 use Rattle.std.proofs.Common.{Some, None, Result, Ok, Err, MatchResult, arith, inl, inr, refl, sym, ap, subst, ◌∙◌}
 use Rattle.std.specs.declared.io.Error.{Error}
 use Rattle.std.specs.Prelude.{IfOk, IfErr}
-use Rattle.std.proofs.lemmas.Bool.{cases_lt, le-leb, lt-leb}
+use Rattle.std.proofs.lemmas.Bool.{cases_lt, le-ltb, lt-ltb}
 use Rattle.std.proofs.lemmas.Option.{none-some}
 use Rattle.dl_elf.specs.declared.file.Elf.{Elf}
 use Rattle.dl_elf.specs.declared.named.NamedSection.{NamedSection}
@@ -17,10 +17,12 @@ use Rattle.dl_elf.specs.Found.{AreFound, Sections}
 use Rattle.dl_elf.specs.Sections.{opened, section_in}
 use Rattle.dl_reloc.specs.declared.placed.Placed.{Placed}
 use Rattle.dl_file.specs.LineTable.{line_section, option_or}
-use Rattle.dl_file.specs.Relocations.{HasRelocations, relocations_at, relocations_in, relocations_of, relocations_upto}
+use Rattle.dl_file.specs.OneByOne.{placed_at, placed_if, placed_upto, relocations_at, relocations_in, relocations_upto}
+use Rattle.dl_file.specs.OneByOne.{wide_at, wide_upto}
+use Rattle.dl_file.specs.Relocations.{HasRelocations, and_then, relocation_sections, relocations_of}
 use Rattle.dl_file.specs.Answering.{IsCounted, StopsListing, StopsReading}
-use Rattle.dl_file.specs.Places.{ArePlaces, StopsPlaces, and_then, line_places, placed_at, placed_if, placed_upto}
-use Rattle.dl_file.specs.Places.{places_of, places_with, wide_at, wide_upto}
+use Rattle.dl_file.specs.Places.{ArePlaces, StopsPlaces, line_places, places_of, places_with}
+use Rattle.dl_file.proofs.ListedLemmas.{listed, none_listed}
 use Rattle.dl_file.proofs.LineTableLemmas.{MemoryIsFree, header_free}
 use Rattle.dl_file.proofs.RelocationLemmas.{no_sum, not_one}
 
@@ -69,12 +71,12 @@ not_listed e f line None b is = absurd (none-some 0 is)
 not_listed e f line (Some s) b is = rw (not_one (relocates line.number s) is) refl
 
 -- sections of which none is of relocations
-pub none_listed : (e : Elf) (f : List ℕ) (line : NamedSection) (n : ℕ)
+pub none_placed : (e : Elf) (f : List ℕ) (line : NamedSection) (n : ℕ)
     → relocations_upto e f line.number n ≡ Some 0 → placed_upto e f line n ≡ Ok []
-none_listed e f line zero is = refl
-none_listed e f line (suc n) is =
+none_placed e f line zero is = refl
+none_placed e f line (suc n) is =
     let p = no_sum (relocations_upto e f line.number n) (relocations_at e f line.number (suc n)) is in
-    ap (and_then (placed_at e f line (suc n))) (none_listed e f line n p.0)
+    ap (and_then (placed_at e f line (suc n))) (none_placed e f line n p.0)
     ∙ not_listed e f line (section_in e.header f (suc n)) [] p.1
 
 -- those of section n, after those before it
@@ -120,29 +122,36 @@ listed_whole e f line n b within past is =
 
 pub places_without : (e : Elf) (f : List ℕ) (line : NamedSection) (n : ℕ)
     → relocations_of e f line.number ≡ Some n → n ≡ 0 → line_places e f line ≡ Ok []
-places_without e f line n told none = ap (places_with e f line) (told ∙ ap Some none)
+places_without e f line n told none =
+    let l = listed e f line n told in
+    ap (places_with e f line) l.are ∙ by l.sections l.many
+  where
+    by : (sections : List SectionHeader) → length sections ≡ n → places_with e f line (Some sections) ≡ Ok []
+    by [] many = refl
+    by (s ∷ more) many = absurd (omega (arith, many, none))
 
 pub places_refused : (e : Elf) (f : List ℕ) (line : NamedSection) (n : ℕ)
     → relocations_of e f line.number ≡ Some n → 16 < n
     → line_places e f line ≡ Err (fault.Damaged (part.Relocations line.name))
-places_refused e f line zero told many = absurd (omega (arith, many))
-places_refused e f line (suc n) told many =
-    let past : nat_le 16 n ≡ true = le-leb 16 n (omega (arith, many)) in
-    ap (places_with e f line) told ∙ rw past refl
+places_refused e f line n told many =
+    let l = listed e f line n told in
+    let past : nat_lt 16 (length l.sections) ≡ true = lt-ltb 16 (length l.sections) (omega (arith, l.many, many)) in
+    ap (places_with e f line) l.are ∙ rw past refl
 
 pub places_listed : (e : Elf) (f : List ℕ) (line : NamedSection) (n : ℕ)
     → relocations_of e f line.number ≡ Some n → ¬ (n ≡ 0) → n ≤ 16
     → line_places e f line ≡ placed_upto e f line (e.count - 1)
-places_listed e f line zero told some few = absurd (some refl)
-places_listed e f line (suc n) told some few =
-    let past : nat_le 16 n ≡ false = lt-leb 16 n (omega (arith, few)) in
-    ap (places_with e f line) told ∙ rw past refl
+places_listed e f line n told some few =
+    let l = listed e f line n told in
+    let past : nat_lt 16 (length l.sections) ≡ false = le-ltb 16 (length l.sections) (omega (arith, l.many, few)) in
+    ap (places_with e f line) l.are ∙ rw past (l.placed some)
 
 -- a section header isn't there
 pub uncounted_listed : (e : Elf) (f : List ℕ) (line : NamedSection) (Memory : Type 0) (why : ElfFault)
     → IsCounted (relocations_of e f line.number) (Err why) → StopsListing (line_places e f line) Memory why
 uncounted_listed e f line Memory (fault.Read error) is = tt
-uncounted_listed e f line Memory (fault.Damaged part.SectionHeaders) is = ap (places_with e f line) is
+uncounted_listed e f line Memory (fault.Damaged part.SectionHeaders) is =
+    ap (places_with e f line) (none_listed (relocation_sections e f line.number) is)
 uncounted_listed e f line Memory other is = absurd is
 
 -- ---- faults

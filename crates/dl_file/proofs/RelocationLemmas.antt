@@ -1,7 +1,7 @@
 -- Sections of relocations, one section header further on.
 use Rattle.std.proofs.Common.{◌≡◌, ℕ, zero, suc, ◌+◌, ◌-◌, ◌<◌, ◌≤◌, true, false}
-use Rattle.std.proofs.Common.{Bool, if◌then◌else◌, List, Option}
-use Rattle.std.proofs.Common.{Some, None, Ok, Err, arith, inl, inr, refl, ap, ◌∙◌}
+use Rattle.std.proofs.Common.{Bool, if◌then◌else◌, List, [], ◌∷◌, length, Option}
+use Rattle.std.proofs.Common.{Some, None, Result, Ok, Err, arith, inl, inr, refl, sym, ap, ◌∙◌}
 use Rattle.std.proofs.lemmas.Bool.{cases_lt, le-ltb, lt-ltb}
 use Rattle.std.proofs.lemmas.Option.{none-some, same_Some}
 use Rattle.dl_elf.specs.declared.file.Elf.{Elf}
@@ -14,9 +14,10 @@ use Rattle.dl_elf.specs.Elf.{is_object, relocates}
 use Rattle.dl_elf.specs.Forward.{IsBackward}
 use Rattle.dl_elf.specs.Sections.{section_in}
 use Rattle.dl_file.specs.LineTable.{Content, held_bytes, line_by, plain_content}
-use Rattle.dl_file.specs.Relocations.{HasRelocations, and_then, relocated_at, relocated_upto}
-use Rattle.dl_file.specs.Relocations.{relocated_if, relocations_at, relocations_in, relocations_of}
-use Rattle.dl_file.specs.Relocations.{relocations_upto, sum_of}
+use Rattle.dl_file.specs.OneByOne.{relocated_at, relocated_if, relocated_upto, relocations_at, relocations_in}
+use Rattle.dl_file.specs.OneByOne.{relocations_upto, sum_of}
+use Rattle.dl_file.specs.Relocations.{HasRelocations, and_then, by_each, relocated_by, relocation_sections, relocations_of}
+use Rattle.dl_file.proofs.ListedLemmas.{listed}
 
 -- ---- how many there are
 
@@ -72,10 +73,6 @@ pub counted_whole : (e : Elf) (f : List ℕ) (number n sections : ℕ) → n - 1
 counted_whole e f number n sections within past is =
     let end : e.count - 1 ≡ n - 1 = omega (arith, within, past) in ap (λ k. relocations_upto e f number k) end ∙ is
 
-pub counted_in_object : (e : Elf) (f : List ℕ) (number : ℕ) → is_object e.header ≡ true
-    → relocations_of e f number ≡ relocations_upto e f number (e.count - 1)
-counted_in_object e f number object = rw object refl
-
 pub some_relocations : (e : Elf) (f : List ℕ) (number n : ℕ) → relocations_of e f number ≡ Some n → ¬ (n ≡ 0)
     → HasRelocations e f number
 some_relocations e f number zero told some = absurd (some refl)
@@ -83,30 +80,69 @@ some_relocations e f number (suc n) told some = (n, told)
 
 -- ---- what they make of the line section
 
+-- with none
+pub line_alone : (e : Elf) (f : List ℕ) (line : NamedSection) (whole : Content)
+    → relocations_of e f line.number ≡ Some 0 → line_by e f line whole (relocation_sections e f line.number) ≡ Ok whole
+line_alone e f line whole told =
+    let l = listed e f line 0 told in
+    ap (line_by e f line whole) l.are ∙ by l.sections l.many
+  where
+    by : (sections : List SectionHeader) → length sections ≡ 0 → line_by e f line whole (Some sections) ≡ Ok whole
+    by [] none = refl
+    by (s ∷ more) none = absurd (omega (arith, none))
+
 -- with more than are taken
-pub line_refused : (e : Elf) (f : List ℕ) (line : NamedSection) (whole : Content) (n : ℕ) → 16 < n
-    → line_by e f line whole (Some n) ≡ Err (fault.Damaged (part.Relocations line.name))
-line_refused e f line whole zero many = absurd (omega (arith, many))
-line_refused e f line whole (suc n) many = rw (lt-ltb 16 (suc n) many) refl
+pub line_refused : (e : Elf) (f : List ℕ) (line : NamedSection) (whole : Content) (n : ℕ)
+    → relocations_of e f line.number ≡ Some n → 16 < n
+    → line_by e f line whole (relocation_sections e f line.number) ≡ Err (fault.Damaged (part.Relocations line.name))
+line_refused e f line whole n told many =
+    let l = listed e f line n told in
+    ap (line_by e f line whole) l.are ∙ by l.sections l.many
+  where
+    by : (sections : List SectionHeader) → length sections ≡ n
+        → line_by e f line whole (Some sections) ≡ Err (fault.Damaged (part.Relocations line.name))
+    by [] so_many = absurd (omega (arith, so_many, many))
+    by (s ∷ more) so_many = rw (lt-ltb 16 (length (s ∷ more)) (omega (arith, so_many, many))) refl
 
 -- with as many as are taken
-line_taken : (e : Elf) (f : List ℕ) (line : NamedSection) (whole : Content) (n : ℕ) → ¬ (n ≡ 0) → n ≤ 16
-    → line_by e f line whole (Some n)
+pub line_taken : (e : Elf) (f : List ℕ) (line : NamedSection) (whole : Content) (n : ℕ)
+    → relocations_of e f line.number ≡ Some n → ¬ (n ≡ 0) → n ≤ 16
+    → line_by e f line whole (relocation_sections e f line.number)
     ≡ plain_content (and_then (λ b. relocated_upto e f line b (e.count - 1)) (held_bytes whole))
-line_taken e f line whole zero some few = absurd (some refl)
-line_taken e f line whole (suc n) some few = rw (le-ltb 16 (suc n) few) refl
+line_taken e f line whole n told some few =
+    let l = listed e f line n told in
+    ap (line_by e f line whole) l.are ∙ by l.sections l.many l.relocated
+  where
+    made : (sections : List SectionHeader) (first : Result (List ℕ) ElfFault)
+        → ((b : List ℕ) → ¬ (n ≡ 0)
+        → by_each (relocated_by e f line.name) sections b ≡ relocated_upto e f line b (e.count - 1))
+        → and_then (by_each (relocated_by e f line.name) sections) first
+        ≡ and_then (λ b. relocated_upto e f line b (e.count - 1)) first
+    made sections (Ok b) relocated = relocated b some
+    made sections (Err first) relocated = refl
 
-pub line_made : (e : Elf) (f : List ℕ) (line : NamedSection) (whole : Content) (n : ℕ) (b : List ℕ) → ¬ (n ≡ 0) → n ≤ 16
-    → held_bytes whole ≡ Ok b
-    → line_by e f line whole (Some n) ≡ plain_content (relocated_upto e f line b (e.count - 1))
-line_made e f line whole n b some few held =
-    line_taken e f line whole n some few
+    by : (sections : List SectionHeader) → length sections ≡ n
+        → ((b : List ℕ) → ¬ (n ≡ 0)
+        → by_each (relocated_by e f line.name) sections b ≡ relocated_upto e f line b (e.count - 1))
+        → line_by e f line whole (Some sections)
+        ≡ plain_content (and_then (λ b. relocated_upto e f line b (e.count - 1)) (held_bytes whole))
+    by [] so_many relocated = absurd (some (sym so_many))
+    by (s ∷ more) so_many relocated =
+        rw (le-ltb 16 (length (s ∷ more)) (omega (arith, so_many, few)))
+        (ap plain_content (made (s ∷ more) (held_bytes whole) relocated))
+
+pub line_made : (e : Elf) (f : List ℕ) (line : NamedSection) (whole : Content) (n : ℕ) (b : List ℕ)
+    → relocations_of e f line.number ≡ Some n → ¬ (n ≡ 0) → n ≤ 16 → held_bytes whole ≡ Ok b
+    → line_by e f line whole (relocation_sections e f line.number) ≡ plain_content (relocated_upto e f line b (e.count - 1))
+line_made e f line whole n b told some few held =
+    line_taken e f line whole n told some few
     ∙ ap (λ r. plain_content (and_then (λ b. relocated_upto e f line b (e.count - 1)) r)) held
 
-pub line_unread : (e : Elf) (f : List ℕ) (line : NamedSection) (whole : Content) (n : ℕ) (why : ElfFault) → ¬ (n ≡ 0)
-    → n ≤ 16 → held_bytes whole ≡ Err why → line_by e f line whole (Some n) ≡ Err why
-line_unread e f line whole n why some few held =
-    line_taken e f line whole n some few
+pub line_unread : (e : Elf) (f : List ℕ) (line : NamedSection) (whole : Content) (n : ℕ) (why : ElfFault)
+    → relocations_of e f line.number ≡ Some n → ¬ (n ≡ 0) → n ≤ 16 → held_bytes whole ≡ Err why
+    → line_by e f line whole (relocation_sections e f line.number) ≡ Err why
+line_unread e f line whole n why told some few held =
+    line_taken e f line whole n told some few
     ∙ ap (λ r. plain_content (and_then (λ b. relocated_upto e f line b (e.count - 1)) r)) held
 
 pub no_sum : (m n : Option ℕ) → sum_of m n ≡ Some 0 → (m ≡ Some 0) × (n ≡ Some 0)

@@ -12,7 +12,8 @@ use Rattle.dl_elf.specs.Sections.{range_within, section_range}
 use Rattle.dl_file.specs.declared.info_file.InfoSections.{InfoSections}
 use Rattle.dl_reloc.specs.declared.placed.Placed.{Placed}
 use Rattle.dl_file.specs.declared.relocating.RelocationSections.{RelocationSections}
-use Rattle.dl_file.specs.Relocations.{relocations_of, relocations_upto}
+use Rattle.dl_file.specs.OneByOne.{relocations_upto}
+use Rattle.dl_file.specs.Relocations.{relocations_of}
 use Rattle.dl_file.specs.declared.read_fault.ReadFault.{ReadFault}
 use Rattle.dl_file.specs.declared.read_fault.ReadFault.TheVariants.{Read, DamagedStream}
 use Rattle.dl_file.specs.declared.line_file.LineFile.{LineFile}

@@ -1,5 +1,6 @@
 -- Where a file has code. f: the bytes of a file; e: the file as it is opened.
-use Rattle.std.specs.Prelude.{◌≡◌, ℕ, zero, suc, ◌-◌, ◌<◌, ◌≤◌, if◌then◌else◌, List, [], ◌∷◌, ◌++◌, Option, Some, None}
+use Rattle.std.specs.Prelude.{◌≡◌, ℕ, ◌<◌, ◌≤◌, if◌then◌else◌, List, Option, Some, None}
+use Rattle.std.specs.List.{filter_map}
 use Rattle.std.specs.Prelude.{option_and_then, Result, Ok, Err}
 use Rattle.std.specs.declared.io.Error.{Error}
 use Rattle.dl_elf.specs.declared.section.SectionHeader.{SectionHeader}
@@ -10,7 +11,7 @@ use Rattle.dl_file.specs.declared.code.Code.{Code}
 use Rattle.dl_file.specs.declared.code.CodeFault.{CodeFault}
 use Rattle.dl_file.specs.declared.code.CodeFault.TheVariants.{Elf as Refused, NoMemory}
 use Rattle.dl_elf.specs.Elf.{is_executable, is_linked}
-use Rattle.dl_elf.specs.Sections.{section_in, opened}
+use Rattle.dl_elf.specs.Sections.{opened, section_headers, section_in}
 
 -- sh_addr and sh_size of a section with code
 abbrev pub executable_range : SectionHeader → Option ExecutableRange
@@ -20,18 +21,9 @@ executable_range s = if is_executable s then Some (record { start = s.address; s
 abbrev pub executable_range_at : Elf → List ℕ → ℕ → Option ExecutableRange
 executable_range_at e f i = option_and_then executable_range (section_in e.header f i)
 
-abbrev pub and_range : List ExecutableRange → Option ExecutableRange → List ExecutableRange
-and_range ranges None = ranges
-and_range ranges (Some range) = ranges ++ range ∷ []
-
--- those of sections 1 to n, in this order
-abbrev pub ranges_upto : Elf → List ℕ → ℕ → List ExecutableRange
-ranges_upto e f zero = []
-ranges_upto e f (suc n) = and_range (ranges_upto e f n) (executable_range_at e f (suc n))
-
--- those of all sections
+-- those of all sections, in order
 abbrev pub executable_ranges : Elf → List ℕ → List ExecutableRange
-executable_ranges e f = ranges_upto e f (e.count - 1)
+executable_ranges e f = filter_map (option_and_then executable_range) (section_headers e f)
 
 -- a section has code
 pub record HasCode (e : Elf) (f : List ℕ) : Type 0 where

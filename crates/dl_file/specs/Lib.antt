@@ -12,4 +12,5 @@ pub mod Code
 pub mod Inflates
 pub mod InStep
 -- Of contracts inside the crate, and of proofs; no public contract reaches these.
+pub mod OneByOne
 pub mod Answering

@@ -1,8 +1,9 @@
 -- What open_line_file answers. f: the bytes of a file; e: the file as it is opened.
-use Rattle.std.specs.Prelude.{◌≡◌, ◌⊎◌, ℕ, zero, suc, Bool, List, Option, Some, None, option_map, option_and_then}
+use Rattle.std.specs.Prelude.{◌≡◌, ◌⊎◌, ℕ, Bool, List, [], ◌∷◌, Option, Some, None, option_map, option_and_then}
 use Rattle.std.specs.Prelude.{Result, Ok, Err, MatchResult, MatchOption, is_some}
 use Rattle.dl_num.specs.declared.fixed.Order.{Order}
 use Rattle.dl_elf.specs.declared.file.Elf.{Elf}
+use Rattle.dl_elf.specs.declared.section.SectionHeader.{SectionHeader}
 use Rattle.dl_elf.specs.declared.header.Class.{Class}
 use Rattle.dl_elf.specs.declared.name.SectionName.{SectionName}
 use Rattle.dl_elf.specs.declared.name.SectionName.TheVariants.{DebugLine, ZdebugLine, DebugLineDwo, DebugLineStr}
@@ -33,7 +34,7 @@ use Rattle.dl_file.specs.Faults.{FailsOnly}
 use Rattle.dl_file.specs.Inflating.{damage, inflated, stream_in}
 use Rattle.dl_file.specs.ContentReader.{ContentFails, content_damage, content_remaining, content_fault, stream_name}
 use Rattle.dl_file.specs.LineReader.{LineReaderFails, line_damage, line_remaining, line_fault, line_stream}
-use Rattle.dl_file.specs.Relocations.{HasRelocations, relocated_line, relocations_of}
+use Rattle.dl_file.specs.Relocations.{HasRelocations, relocated_line, relocation_sections}
 
 -- ---- which sections
 
@@ -124,16 +125,16 @@ held_bytes (Plain bytes) = Ok bytes
 held_bytes (Inflated name bytes None) = Ok bytes
 held_bytes (Inflated name bytes (Some at)) = Err (fault.DamagedStream name at)
 
--- the line section, by what it is without relocations and by the number of its sections of relocations. Where it has some
--- its bytes are held, and they are applied to these, inflated where it is compressed
-abbrev pub line_by : Elf → List ℕ → NamedSection → Content → Option ℕ → Result Content ElfFault
+-- the line section, by what it is without relocations and by its sections of relocations. Where it has some its bytes are
+-- held, and they are applied to these, inflated where it is compressed
+abbrev pub line_by : Elf → List ℕ → NamedSection → Content → Option (List SectionHeader) → Result Content ElfFault
 line_by e f line whole None = Err (fault.Damaged part.SectionHeaders)
-line_by e f line whole (Some zero) = Ok whole
-line_by e f line whole (Some (suc n)) = plain_content (relocated_line e f line (suc n) (held_bytes whole))
+line_by e f line whole (Some []) = Ok whole
+line_by e f line whole (Some (s ∷ more)) = plain_content (relocated_line e f line (s ∷ more) (held_bytes whole))
 
 -- the line section, in an object file with the relocations of all sections applied, or its first fault
 abbrev pub IsLine : Elf → List ℕ → NamedSection → Result Content ElfFault → Type 0
-IsLine e f line result = result ≡ line_by e f line (content e f line) (relocations_of e f line.number)
+IsLine e f line result = result ≡ line_by e f line (content e f line) (relocation_sections e f line.number)
 
 -- ---- the answer
 

@@ -1,7 +1,8 @@
 -- The places of a line section that relocations change, with the sections of their symbols. System V ABI, chapter 4,
 -- "Relocation" and "Symbol Table". f: the bytes of a file; e: the file as it is opened; line: its line section.
-use Rattle.std.specs.Prelude.{◌≡◌, ℕ, zero, suc, ◌-◌, ◌==◌, ◌&&◌, nat_le, Bool, if◌then◌else◌, List, [], ◌++◌, Option}
-use Rattle.std.specs.Prelude.{Some, None, option_and_then, Result, Ok, Err, MatchResult}
+use Rattle.std.specs.Prelude.{◌≡◌, ℕ, ◌==◌, ◌&&◌, nat_le, nat_lt, Bool, if◌then◌else◌, List, [], ◌++◌, length, filter, Option}
+use Rattle.std.specs.Prelude.{Some, None, option_and_then, slice_get, Result, Ok, Err, MatchResult}
+use Rattle.std.specs.List.{filter_map}
 use Rattle.dl_elf.specs.declared.section.SectionHeader.{SectionHeader}
 use Rattle.dl_elf.specs.declared.file.Elf.{Elf}
 use Rattle.dl_elf.specs.declared.name.SectionName.{SectionName}
@@ -9,13 +10,12 @@ use Rattle.dl_elf.specs.declared.named.NamedSection.{NamedSection}
 use Rattle.dl_elf.specs.declared.fault.ElfFault.{ElfFault}
 use Rattle.dl_elf.specs.declared.fault.ElfFault.TheVariants as fault
 use Rattle.dl_elf.specs.declared.fault.Part.TheVariants as part
-use Rattle.dl_elf.specs.Elf.{relocates}
 use Rattle.dl_elf.specs.Found.{AreFound, Sections}
-use Rattle.dl_elf.specs.Sections.{opened, section_in}
+use Rattle.dl_elf.specs.Sections.{opened, section_headers, section_in}
 use Rattle.dl_reloc.specs.declared.placed.Placed.{Placed}
 use Rattle.dl_reloc.specs.Places.{placed, placed_compact}
-use Rattle.dl_file.specs.LineTable.{line_section, option_or}
-use Rattle.dl_file.specs.Relocations.{HasRelocations, bytes_in, form_of, relocations_of, target_of}
+use Rattle.dl_file.specs.LineTable.{line_section}
+use Rattle.dl_file.specs.Relocations.{HasRelocations, by_each, bytes_in, form_of, relocation_sections, target_of}
 
 -- ---- the symbols of a section of relocations
 
@@ -25,27 +25,25 @@ table_in e f number =
     if number == 0 then Some []
     else if nat_le e.count number then None else option_and_then (bytes_in f) (section_in e.header f number)
 
+-- those of these that are there
+abbrev pub there : {A : Type 0} → List (Option A) → List A
+there xs = filter_map (λ x. x) xs
+
 -- s has the numbers of sections that don't fit the symbols of table `number`: SHT_SYMTAB_SHNDX is 18
 abbrev pub is_wide : (number : ℕ) → SectionHeader → Bool
 is_wide number s = (s.section_type == 18) && (s.link == number)
-
--- section i, where it is such a one
-abbrev pub wide_at : Elf → List ℕ → (number i : ℕ) → Option SectionHeader
-wide_at e f number i =
-    option_and_then (λ s. if is_wide number s then Some s else None) (section_in e.header f i)
-
--- the first of sections 1 to n
-abbrev pub wide_upto : Elf → List ℕ → (number n : ℕ) → Option SectionHeader
-wide_upto e f number zero = None
-wide_upto e f number (suc n) = option_or (wide_upto e f number n) (wide_at e f number (suc n))
 
 abbrev pub wide_bytes : List ℕ → Option SectionHeader → Option (List ℕ)
 wide_bytes f None = Some []
 wide_bytes f (Some s) = bytes_in f s
 
--- the bytes of the first of all sections, none where there is none; None where they don't lie in the file
+-- the first such section
+abbrev pub wide_section : Elf → List ℕ → (number : ℕ) → Option SectionHeader
+wide_section e f number = slice_get (filter (is_wide number) (there (section_headers e f))) 0
+
+-- its bytes, none where there is none; None where they don't lie in the file
 abbrev pub wide_in : Elf → List ℕ → (number : ℕ) → Option (List ℕ)
-wide_in e f number = wide_bytes f (wide_upto e f number (e.count - 1))
+wide_in e f number = wide_bytes f (wide_section e f number)
 
 -- ---- one section of relocations
 
@@ -65,39 +63,20 @@ placed_by e name s (Some entries) (Some table) (Some wide) before = Ok (before +
 
 -- ---- all of them, in the order of their sections
 
--- of a section that has no relocations of the line section, the places before it
-abbrev pub placed_if : Elf → List ℕ → NamedSection → Option SectionHeader → (before : List Placed)
-    → Result (List Placed) ElfFault
-placed_if e f line None before = Err (fault.Damaged part.SectionHeaders)
-placed_if e f line (Some s) before =
-    if relocates line.number s
-    then placed_by e line.name s (bytes_in f s) (table_in e f s.link) (wide_in e f s.link) before
-    else Ok before
+-- these places and those of one section of relocations
+abbrev pub placed_of : Elf → List ℕ → SectionName → SectionHeader → (before : List Placed) → Result (List Placed) ElfFault
+placed_of e f name s before = placed_by e name s (bytes_in f s) (table_in e f s.link) (wide_in e f s.link) before
 
-abbrev pub placed_at : Elf → List ℕ → NamedSection → ℕ → (before : List Placed) → Result (List Placed) ElfFault
-placed_at e f line i before = placed_if e f line (section_in e.header f i) before
-
--- the next section after those before it; after a fault nothing follows
-abbrev pub and_then : (List Placed → Result (List Placed) ElfFault) → Result (List Placed) ElfFault
-    → Result (List Placed) ElfFault
-and_then next (Ok places) = next places
-and_then next (Err first) = Err first
-
--- those of sections 1 to n
-abbrev pub placed_upto : Elf → List ℕ → NamedSection → ℕ → Result (List Placed) ElfFault
-placed_upto e f line zero = Ok []
-placed_upto e f line (suc n) = and_then (placed_at e f line (suc n)) (placed_upto e f line n)
-
--- by the number of the sections of relocations of the line section; more than 16 are refused
-abbrev pub places_with : Elf → List ℕ → NamedSection → Option ℕ → Result (List Placed) ElfFault
+-- by the sections of relocations of the line section, of which more than 16 are refused
+abbrev pub places_with : Elf → List ℕ → NamedSection → Option (List SectionHeader) → Result (List Placed) ElfFault
 places_with e f line None = Err (fault.Damaged part.SectionHeaders)
-places_with e f line (Some zero) = Ok []
-places_with e f line (Some (suc n)) =
-    if nat_le 16 n then Err (fault.Damaged (part.Relocations line.name)) else placed_upto e f line (e.count - 1)
+places_with e f line (Some sections) =
+    if nat_lt 16 (length sections) then Err (fault.Damaged (part.Relocations line.name))
+    else by_each (placed_of e f line.name) sections []
 
 -- the places of the line section that relocations of an object file change
 abbrev pub line_places : Elf → List ℕ → NamedSection → Result (List Placed) ElfFault
-line_places e f line = places_with e f line (relocations_of e f line.number)
+line_places e f line = places_with e f line (relocation_sections e f line.number)
 
 -- a file without a line section has none
 abbrev pub places_of : Elf → List ℕ → Option NamedSection → Result (List Placed) ElfFault

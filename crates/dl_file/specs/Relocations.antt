@@ -1,7 +1,7 @@
 -- The bytes of the line section of an object file, with its relocations applied. System V ABI, chapter 4, "Relocation".
 -- f: the bytes of a file; e: the file as it is opened; line: its line section; b: bytes of the line section, where that is
 -- compressed of what it inflates to.
-use Rattle.std.specs.Prelude.{◌≡◌, ℕ, zero, suc, ◌+◌, ◌-◌, ◌==◌, nat_le, nat_lt, if◌then◌else◌, List, [], Option}
+use Rattle.std.specs.Prelude.{◌≡◌, ℕ, suc, ◌==◌, nat_le, nat_lt, if◌then◌else◌, List, [], ◌∷◌, length, filter, Option}
 use Rattle.std.specs.Prelude.{Some, None, option_and_then, option_map, Result, Ok, Err}
 use Rattle.dl_elf.specs.declared.header.Class.{Class}
 use Rattle.dl_elf.specs.declared.header.Class.TheVariants as elf_class
@@ -13,7 +13,7 @@ use Rattle.dl_elf.specs.declared.fault.ElfFault.{ElfFault}
 use Rattle.dl_elf.specs.declared.fault.ElfFault.TheVariants as fault
 use Rattle.dl_elf.specs.declared.fault.Part.TheVariants as part
 use Rattle.dl_elf.specs.Elf.{is_object, relocates}
-use Rattle.dl_elf.specs.Sections.{section_in, section_range, section_bytes, range_within}
+use Rattle.dl_elf.specs.Sections.{range_within, section_bytes, section_headers, section_in, section_range}
 use Rattle.dl_reloc.specs.declared.target.Class.{Class as TargetClass}
 use Rattle.dl_reloc.specs.declared.target.Class.TheVariants as class
 use Rattle.dl_reloc.specs.declared.target.Form.{Form}
@@ -87,58 +87,43 @@ relocated_by e f name s b =
     if s.section_type == 0x40000014 then by_compact e name (bytes_in f s) (symbols_in e f s.link) b
     else by_entries e name (form_of s) (bytes_in f s) (symbols_in e f s.link) b
 
--- ---- all of them, in the order of their sections
+-- ---- all sections of relocations
 
--- of a section that has none for the line section, b itself; a section header that isn't there is damage
-abbrev pub relocated_if : Elf → List ℕ → NamedSection → Option SectionHeader → List ℕ → Result (List ℕ) ElfFault
-relocated_if e f line None b = Err (fault.Damaged part.SectionHeaders)
-relocated_if e f line (Some s) b = if relocates line.number s then relocated_by e f line.name s b else Ok b
+-- all of these, where each is there
+abbrev pub all_there : {A : Type 0} → List (Option A) → Option (List A)
+all_there [] = Some []
+all_there (None ∷ more) = None
+all_there (Some x ∷ more) = option_map (λ xs. x ∷ xs) (all_there more)
 
-abbrev pub relocated_at : Elf → List ℕ → NamedSection → ℕ → List ℕ → Result (List ℕ) ElfFault
-relocated_at e f line i b = relocated_if e f line (section_in e.header f i) b
+-- those that change section `number`, in order; none in a file that isn't an object file (ET_REL). None where a section
+-- header isn't there
+abbrev pub relocation_sections : Elf → List ℕ → (number : ℕ) → Option (List SectionHeader)
+relocation_sections e f number =
+    if is_object e.header then option_map (filter (relocates number)) (all_there (section_headers e f)) else Some []
 
--- the next section after those before it; after a fault nothing follows
-abbrev pub and_then : (List ℕ → Result (List ℕ) ElfFault) → Result (List ℕ) ElfFault → Result (List ℕ) ElfFault
-and_then next (Ok b) = next b
-and_then next (Err first) = Err first
-
--- what sections 1 to n make of bytes b of the line section, one after the other, or the first fault
-abbrev pub relocated_upto : Elf → List ℕ → NamedSection → (b : List ℕ) → ℕ → Result (List ℕ) ElfFault
-relocated_upto e f line b zero = Ok b
-relocated_upto e f line b (suc n) = and_then (relocated_at e f line (suc n)) (relocated_upto e f line b n)
-
--- ---- how many sections have some
-
--- 1 where a section is of relocations that change section `number`, else 0; None where its header isn't there
-abbrev pub relocations_in : (number : ℕ) → Option SectionHeader → Option ℕ
-relocations_in number None = None
-relocations_in number (Some s) = Some (if relocates number s then 1 else 0)
-
-abbrev pub relocations_at : Elf → List ℕ → (number i : ℕ) → Option ℕ
-relocations_at e f number i = relocations_in number (section_in e.header f i)
-
-abbrev pub sum_of : Option ℕ → Option ℕ → Option ℕ
-sum_of (Some m) (Some n) = Some (m + n)
-sum_of (Some m) None = None
-sum_of None other = None
-
--- how many of sections 1 to n are of relocations that change section `number`
-abbrev pub relocations_upto : Elf → List ℕ → (number n : ℕ) → Option ℕ
-relocations_upto e f number zero = Some 0
-relocations_upto e f number (suc n) = sum_of (relocations_upto e f number n) (relocations_at e f number (suc n))
-
--- how many of all sections; none in a file that isn't an object file (ET_REL)
+-- how many there are
 abbrev pub relocations_of : Elf → List ℕ → (number : ℕ) → Option ℕ
-relocations_of e f number = if is_object e.header then relocations_upto e f number (e.count - 1) else Some 0
+relocations_of e f number = option_map length (relocation_sections e f number)
 
 -- there are some
 abbrev pub HasRelocations : Elf → List ℕ → (number : ℕ) → Type 0
 HasRelocations e f number = (n : ℕ) × (relocations_of e f number ≡ Some (suc n))
 
+-- what is made of what was made before; after a fault nothing follows
+abbrev pub and_then : {A : Type 0} → (A → Result A ElfFault) → Result A ElfFault → Result A ElfFault
+and_then next (Ok x) = next x
+and_then next (Err first) = Err first
+
+-- what each of these sections makes of x, one after the other, or the first fault
+abbrev pub by_each : {A : Type 0} → (SectionHeader → A → Result A ElfFault) → List SectionHeader → A → Result A ElfFault
+by_each by [] x = Ok x
+by_each by (s ∷ more) x = and_then (by_each by more) (by s x)
+
 -- ---- the line section's bytes
 
--- with as many sections of relocations, of which more than 16 are refused, and these bytes or why there are none
-abbrev pub relocated_line : Elf → List ℕ → NamedSection → (count : ℕ) → (first : Result (List ℕ) ElfFault)
+-- with these sections of relocations, of which more than 16 are refused, and these bytes or why there are none
+abbrev pub relocated_line : Elf → List ℕ → NamedSection → List SectionHeader → (first : Result (List ℕ) ElfFault)
     → Result (List ℕ) ElfFault
-relocated_line e f line count first = if nat_lt 16 count then Err (fault.Damaged (part.Relocations line.name))
-    else and_then (λ b. relocated_upto e f line b (e.count - 1)) first
+relocated_line e f line sections first =
+    if nat_lt 16 (length sections) then Err (fault.Damaged (part.Relocations line.name))
+    else and_then (by_each (relocated_by e f line.name) sections) first

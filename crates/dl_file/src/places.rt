@@ -6,9 +6,9 @@ ghost use Rattle.dl_elf.specs.Window.{Shows};
 ghost use Rattle.dl_elf.specs.SectionsHeld.{forward_of};
 ghost use Rattle.dl_elf.specs.Forward.{NoneForward};
 ghost use Rattle.dl_file.specs.Answering.{StopsListing, StopsReading};
-ghost use Rattle.dl_file.specs.Relocations.{HasRelocations, bytes_in, relocations_upto};
-ghost use Rattle.dl_file.specs.Places.{ArePlaces, StopsPlaces, line_places, placed_at, placed_by, placed_upto};
-ghost use Rattle.dl_file.specs.Places.{table_in, wide_at, wide_in, wide_upto};
+ghost use Rattle.dl_file.specs.OneByOne.{placed_at, placed_upto, relocations_upto, wide_at};
+ghost use Rattle.dl_file.specs.Relocations.{HasRelocations, bytes_in};
+ghost use Rattle.dl_file.specs.Places.{ArePlaces, StopsPlaces, line_places, placed_by, table_in, wide_in, wide_section};
 
 use crate::line_file::{MOST_RELOCATIONS, line_section};
 use crate::relocating::{CREL, find_relocations, form_of, target_of};
@@ -72,7 +72,7 @@ fn wide_at<S: ReadAt>(
 /// The first of these sections.
 fn find_wide<S: ReadAt>(source: &S, elf: &Elf, number: u64) -> io::Result<Option<SectionHeader>>
     ensures section { ForBytes (S.all_bytes source.now) (λ f.
-        IfOk result (λ section. section ≡ wide_upto elf.now f number (elf.now.count - 1))) }
+        IfOk result (λ section. section ≡ wide_section elf.now f number)) }
     ensures fails { IfErr result (S.fails_with source.now) }
 {
     let mut window = Window::new();

@@ -7,9 +7,9 @@ ghost use Rattle.dl_elf.specs.Window.{Shows};
 ghost use Rattle.dl_elf.specs.SectionsHeld.{forward_of};
 ghost use Rattle.dl_elf.specs.Forward.{NoneForward};
 ghost use Rattle.dl_file.specs.Answering.{AreFound, IsCounted, IsMade};
+ghost use Rattle.dl_file.specs.OneByOne.{relocated_at, relocated_upto, relocations_at, relocations_upto};
 ghost use Rattle.dl_file.specs.Relocations.{by_compact, bytes_in, symbols_in};
-ghost use Rattle.dl_file.specs.Relocations.{by_entries, class_of, fault_of, form_of, relocated_at, relocated_by};
-ghost use Rattle.dl_file.specs.Relocations.{relocated_upto, relocations_at, relocations_upto, target_of};
+ghost use Rattle.dl_file.specs.Relocations.{by_entries, class_of, fault_of, form_of, relocated_by, target_of};
 
 use crate::section_bytes::{PIECE, read_bytes, read_piece, read_symbols};
 use dl_elf::{

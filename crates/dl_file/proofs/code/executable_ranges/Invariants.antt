@@ -1,7 +1,7 @@
 use Rattle.std.specs.Prelude.{◌≡◌, ◌≤◌, ◌-◌}
 use Rattle.dl_elf.specs.Source.{ForBytes}
 use Rattle.dl_elf.specs.Window.{Shows}
-use Rattle.dl_file.specs.Code.{ranges_upto}
+use Rattle.dl_file.specs.OneByOne.{ranges_upto}
 use Rattle.dl_file.proofs.code.executable_ranges.Given as goal
 
 abbrev pub invariant-loop-at : goal.invariant-loop-at

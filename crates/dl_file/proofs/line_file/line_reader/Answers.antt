@@ -2,11 +2,18 @@ use Rattle.std.proofs.Common.{◌≡◌, ◌≤◌, ◌<◌, ◌-◌, Some, Ok, 
 use Rattle.std.proofs.lemmas.List.{with_items_is}
 use Rattle.std.proofs.lemmas.Result.{err_from_is_err_and}
 use Rattle.dl_file.specs.Answering.{IsMade}
-use Rattle.dl_file.specs.LineTable.{IsLine, Plain, content, held_bytes, line_by, plain_content}
-use Rattle.dl_file.specs.Relocations.{relocated_upto}
-use Rattle.dl_file.proofs.AnswerLemmas.{opened_line, unmade_opens, unread_opens}
+use Rattle.dl_file.specs.LineTable.{IsLine, Plain, content, held_bytes, plain_content}
+use Rattle.dl_file.specs.OneByOne.{relocated_upto}
+use Rattle.dl_file.proofs.AnswerLemmas.{opened_line, uncounted_opens, unmade_opens, unread_opens}
 use Rattle.dl_file.proofs.RelocationLemmas.{line_made, line_refused, line_unread, some_relocations}
 use Rattle.dl_file.proofs.line_file.line_reader.Goals as goal
+
+pub returns-in_err-relocations-clause-opens : goal.returns-in_err-relocations-clause-opens
+returns-in_err-relocations-clause-opens g c = λ f is short.
+    let p = err_from_is_err_and c.from_residual.result c.from_residual.ensures.1 in
+    rw (p.1, p.2) (uncounted_opens g.S.ReadAt g.S.ReadAt.all_bytes g.S.ReadAt.fails_with
+    (g.S.ReadAt.fails_with c.args.source.now) c.args.elf.now f c.args.line.now _ c.in_err-relocations.field-0.0
+    (c.in_err-relocations.ensures.found f is short))
 
 pub returns-then-relocations-eq0-clause-opens : goal.returns-then-relocations-eq0-clause-opens
 returns-then-relocations-eq0-clause-opens g c = λ f is short.
@@ -23,7 +30,7 @@ returns-then-relocations-gt-MOST_RELOCATIONS-clause-opens g c = λ f is short.
     let told = (c.in_ok-relocations.ensures.found f is short).0 in
     let sections = c.in_ok-relocations.relocations.count in
     let many : 16 < sections = omega (arith, c.if-relocations-gt-MOST_RELOCATIONS.true) in
-    sym (ap (line_by e f line (content e f line)) told ∙ line_refused e f line (content e f line) sections many)
+    sym (line_refused e f line (content e f line) sections told many)
 
 pub returns-in_err-bytes-clause-opens : goal.returns-in_err-bytes-clause-opens
 returns-in_err-bytes-clause-opens g c = λ f is short.
@@ -36,8 +43,7 @@ returns-in_err-bytes-clause-opens g c = λ f is short.
     let some = some_relocations e f line.number sections told c.if-relocations-eq0.false in
     rw (p.1, p.2) (unread_opens g.S.ReadAt g.S.ReadAt.all_bytes g.S.ReadAt.fails_with
     (g.S.ReadAt.fails_with c.args.source.now) (IsLine e f line) _ (held_bytes (content e f line)) c.in_err-bytes.field-0.0
-    (inl some) (λ first held. sym (ap (line_by e f line (content e f line)) told
-    ∙ line_unread e f line (content e f line) sections first c.if-relocations-eq0.false few held))
+    (inl some) (λ first held. sym (line_unread e f line (content e f line) sections first told c.if-relocations-eq0.false few held))
     (c.in_err-bytes.ensures.bytes f is short))
 
 pub returns-in_err-relocate_line-clause-opens : goal.returns-in_err-relocate_line-clause-opens
@@ -51,12 +57,11 @@ returns-in_err-relocate_line-clause-opens g c = λ f is short.
     let few : sections ≤ 16 = omega (arith, c.if-relocations-gt-MOST_RELOCATIONS.false) in
     let some = some_relocations e f line.number sections told c.if-relocations-eq0.false in
     let held = c.in_ok-bytes.ensures.bytes f is short in
-    let made = line_made e f line (content e f line) sections c.in_ok-bytes.bytes.items c.if-relocations-eq0.false few held in
+    let made = line_made e f line (content e f line) sections c.in_ok-bytes.bytes.items told c.if-relocations-eq0.false few held in
     rw (p.1, p.2) (unmade_opens g.S.ReadAt g.S.ReadAt.all_bytes g.S.ReadAt.fails_with
     (g.S.ReadAt.fails_with c.args.source.now) (IsLine e f line) _
     (relocated_upto e f line c.in_ok-bytes.bytes.items (e.count - 1)) c.relocate_line.new.bytes
-    c.in_err-relocate_line.field-0.0 (inl some) (λ first fault. sym (ap (line_by e f line (content e f line)) told
-    ∙ (made ∙ ap plain_content fault)))
+    c.in_err-relocate_line.field-0.0 (inl some) (λ first fault. sym (made ∙ ap plain_content fault))
     (subst (λ (b : List ℕ). IsMade {A = Unit {0}} (relocated_upto e f line b (e.count - 1)) c.relocate_line.new.bytes
     (Err c.in_err-relocate_line.field-0.0)) c.as_mut_slice.ensures.value (c.in_err-relocate_line.ensures.made f is short)))
 
@@ -69,14 +74,14 @@ returns-clause-opens g c = λ f is short.
     let few : sections ≤ 16 = omega (arith, c.if-relocations-gt-MOST_RELOCATIONS.false) in
     let made = c.relocate_line.new.bytes in
     let held = c.in_ok-bytes.ensures.bytes f is short in
-    let of = line_made e f line (content e f line) sections c.in_ok-bytes.bytes.items c.if-relocations-eq0.false few held in
+    let of = line_made e f line (content e f line) sections c.in_ok-bytes.bytes.items told c.if-relocations-eq0.false few held in
     let relocated : relocated_upto e f line c.in_ok-bytes.bytes.items (e.count - 1) ≡ Ok made =
     subst (λ (b : List ℕ). relocated_upto e f line b (e.count - 1) ≡ Ok made) c.as_mut_slice.ensures.value
     (c.in_ok-relocate_line.ensures.made f is short) in
     let same_len : length made ≡ c.in_ok-bytes.bytes.len =
     c.relocate_line.auto.bytes ∙ (ap (λ b. length b) c.as_mut_slice.ensures.value ∙ sym c.in_ok-bytes.bytes.ok.0) in (
       Plain made,
-      sym (ap (line_by e f line (content e f line)) told ∙ (of ∙ ap plain_content relocated)),
+      sym (of ∙ ap plain_content relocated),
       (
         ap (λ at. Some (drop at c.new.result.inner.items)) c.new.ensures.position
             ∙ (ap (λ v. Some v.items) c.new.ensures.inner

@@ -2,7 +2,7 @@
 use Rattle.std.proofs.Common.{◌≡◌, ◌≤◌, ◌-◌, None}
 use Rattle.dl_elf.specs.Source.{ForBytes}
 use Rattle.dl_elf.specs.Window.{Shows}
-use Rattle.dl_file.specs.Places.{wide_upto}
+use Rattle.dl_file.specs.OneByOne.{wide_upto}
 use Rattle.dl_file.proofs.places.find_wide.Given as goal
 
 abbrev pub invariant-loop-at : goal.invariant-loop-at

@@ -1,7 +1,7 @@
 use Rattle.std.proofs.Common.{arith, ◌-◌, ◌∙◌, ap, sym, Ok}
 use Rattle.std.proofs.lemmas.Result.{err_from_is_err_and}
-use Rattle.dl_file.specs.Places.{placed_at, placed_upto}
-use Rattle.dl_file.proofs.PlaceLemmas.{fault_listed, listed_to_fault, next_listed, none_listed}
+use Rattle.dl_file.specs.OneByOne.{placed_at, placed_upto}
+use Rattle.dl_file.proofs.PlaceLemmas.{fault_listed, listed_to_fault, next_listed, none_placed}
 use Rattle.dl_file.proofs.places.list_places.Goals as goal
 
 pub loop-at-init : goal.loop-at-init
@@ -9,7 +9,7 @@ loop-at-init g c = record {
   from = c.requires.from;
   upto = c.requires.within;
   shows = c.new-window.ensures (g.S.ReadAt.all_bytes c.args.source.now);
-  listed = λ f is short. none_listed c.args.elf.now f c.args.line.now (c.args.first - 1) (c.requires.none f is short)
+  listed = λ f is short. none_placed c.args.elf.now f c.args.line.now (c.args.first - 1) (c.requires.none f is short)
       ∙ ap Ok (sym c.new-places.ensures.items);
 }
 

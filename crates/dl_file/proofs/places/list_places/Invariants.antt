@@ -2,7 +2,7 @@
 use Rattle.std.proofs.Common.{◌≡◌, ◌≤◌, ◌-◌, Ok}
 use Rattle.dl_elf.specs.Source.{ForBytes}
 use Rattle.dl_elf.specs.Window.{Shows}
-use Rattle.dl_file.specs.Places.{placed_upto}
+use Rattle.dl_file.specs.OneByOne.{placed_upto}
 use Rattle.dl_file.proofs.places.list_places.Given as goal
 
 abbrev pub invariant-loop-at : goal.invariant-loop-at

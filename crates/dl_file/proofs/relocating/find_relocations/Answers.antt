@@ -2,9 +2,11 @@ use Rattle.std.proofs.Common.{◌≡◌, ◌-◌, true, Some, arith, ap, sym, �
 use Rattle.std.proofs.lemmas.Result.{err_from_is_err_and}
 use Rattle.dl_elf.specs.Elf.{is_object}
 use Rattle.dl_elf.specs.Source.{ForBytes}
-use Rattle.dl_file.specs.Relocations.{relocations_at, relocations_of, relocations_upto}
+use Rattle.dl_file.specs.OneByOne.{relocations_at, relocations_upto}
+use Rattle.dl_file.specs.Relocations.{relocations_of}
 use Rattle.dl_file.proofs.AnswerLemmas.{fault_counted}
-use Rattle.dl_file.proofs.RelocationLemmas.{counted_in_object, counted_to_end, counted_whole, next_counted, none_before}
+use Rattle.dl_file.proofs.ListedLemmas.{counted_in_object}
+use Rattle.dl_file.proofs.RelocationLemmas.{counted_to_end, counted_whole, next_counted, none_before}
 use Rattle.dl_file.proofs.relocating.find_relocations.Goals as goal
 use Rattle.dl_file.proofs.relocating.find_relocations.Goals.{then-count-eq0, else-count-eq0}
 

@@ -2,7 +2,7 @@
 use Rattle.std.proofs.Common.{◌≡◌, ◌≤◌, ◌-◌, Some}
 use Rattle.dl_elf.specs.Source.{ForBytes}
 use Rattle.dl_elf.specs.Window.{Shows}
-use Rattle.dl_file.specs.Relocations.{relocations_upto}
+use Rattle.dl_file.specs.OneByOne.{relocations_upto}
 use Rattle.dl_file.proofs.relocating.find_relocations.Given as goal
 
 abbrev pub invariant-loop-at : goal.invariant-loop-at

@@ -1,6 +1,6 @@
 use Rattle.std.proofs.Common.{arith, ◌-◌}
 use Rattle.std.proofs.lemmas.Result.{err_from_is_err_and}
-use Rattle.dl_file.specs.Relocations.{relocated_at, relocated_upto}
+use Rattle.dl_file.specs.OneByOne.{relocated_at, relocated_upto}
 use Rattle.dl_file.proofs.AnswerLemmas.{fault_made}
 use Rattle.dl_file.proofs.RelocationLemmas.{next_relocated, none_relocated, relocated_to_fault, relocated_whole}
 use Rattle.dl_file.proofs.relocating.relocate_line.Goals as goal

@@ -2,7 +2,7 @@
 use Rattle.std.proofs.Common.{◌≡◌, ◌≤◌, ◌-◌, Ok}
 use Rattle.dl_elf.specs.Source.{ForBytes}
 use Rattle.dl_elf.specs.Window.{Shows}
-use Rattle.dl_file.specs.Relocations.{relocated_upto}
+use Rattle.dl_file.specs.OneByOne.{relocated_upto}
 use Rattle.dl_file.proofs.relocating.relocate_line.Given as goal
 
 abbrev pub invariant-loop-at : goal.invariant-loop-at
