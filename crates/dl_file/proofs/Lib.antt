@@ -11,3 +11,4 @@ pub mod FollowLemmas
 pub mod PlaceLemmas
 pub mod InfoLemmas
 pub mod WholeLemmas
+pub mod RefusedLemmas

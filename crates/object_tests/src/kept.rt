@@ -1,8 +1,8 @@
 //! Which sequences are left, by the relocations at their addresses.
 
 use dl_head::Dialect;
-use dl_num::Order;
 use dl_memory::{NoMemory, System};
+use dl_num::Order;
 use dl_object::keep_section;
 use dl_reloc::Placed;
 use std::alloc::Global;

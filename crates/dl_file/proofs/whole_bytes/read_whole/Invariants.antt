@@ -1,7 +1,8 @@
 -- What was read so far.
 use Rattle.std.proofs.Common.{◌≡◌, ◌≤◌, ℕ, List, Some, ◌++◌}
 use Rattle.std.specs.declared.io.Error.{Error}
-use Rattle.dl_file.specs.ContentReader.{StreamFails, inflated_damage, inflated_name, inflated_remaining}
+use Rattle.dl_file.specs.ContentReader.{StreamFails, inflated_damage, inflated_left, inflated_name}
+use Rattle.dl_file.specs.ContentReader.{inflated_remaining}
 use Rattle.dl_file.proofs.whole_bytes.read_whole.Given as goal
 
 abbrev pub invariant-loop-n : goal.invariant-loop-n
@@ -15,4 +16,4 @@ invariant-loop-n g l = record {
 }
 
 abbrev pub decreases-loop-n : goal.decreases-loop-n
-decreases-loop-n g l = l.left
+decreases-loop-n g l = inflated_left l.reader
