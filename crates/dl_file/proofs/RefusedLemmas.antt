@@ -1,5 +1,7 @@
 -- Want of memory that is handed on.
-use Rattle.std.proofs.Common.{◌≡◌, ◌⊎◌, ℕ, List, Result, Ok, Err, Some, inl, inr, sym}
+use Rattle.std.proofs.Common.{◌≡◌, ◌⊎◌, ◌+◌, ◌^◌, ◌≤◌, length, ℕ, List, Result, Ok, Err, Some, inl, inr, sym}
+use Rattle.std.proofs.Math.Nat.{le_trans}
+use Rattle.dl_memory.specs.Refusals.{IsRefused}
 use Rattle.dl_elf.specs.Answers.{IfRefused}
 use Rattle.dl_elf.specs.declared.fault.ElfFault.{ElfFault}
 use Rattle.dl_elf.specs.declared.fault.ElfFault.TheVariants as fault
@@ -38,3 +40,13 @@ pub info_too_long : {A : Type 0} (Refusal : Type 0) (f : List ℕ) (e : Elf) (at
 info_too_long Refusal f e at c r is found these =
     refused_in (Refusal ⊎ HoldsTooMuch e f c.info) (Refusal ⊎ InfoTooLong f) r
     (λ why. elim why [ inl refused ↦ inl refused | inr much ↦ inr (e, sym is, at, found, c, sym these, much) ])
+
+-- ---- for how many items
+
+-- for no more than the file has bytes
+pub refused_within : (T : Type 0) (refuses : ℕ → Type 0) (f : List ℕ) (most : ℕ) (why : ElfFault) → most ≤ length f + 2 ^ 32
+    → IfRefused {A = Unit {0}} (IsRefused refuses most) (Err why)
+    → IfRefused {A = Unit {0}} (IsRefused refuses (length f + 2 ^ 32) ⊎ T) (Err why)
+refused_within T refuses f most why few =
+    refused_err (IsRefused refuses most) (IsRefused refuses (length f + 2 ^ 32) ⊎ T) why
+    (λ refused. inl (refused.0, le_trans refused.1 few, refused.2))

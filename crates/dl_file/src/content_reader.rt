@@ -12,7 +12,7 @@ ghost use Rattle.dl_file.specs.Faults.{IsReadOf, Tells};
 ghost use Rattle.dl_file.specs.ContentReader.{ContentFails, EndsBy, content_damage, content_fault, content_remaining};
 ghost use Rattle.dl_file.specs.ContentReader.{ContentFollows, ContentMayFail, stream_name};
 ghost use Rattle.dl_file.specs.LineTable.{HasStream, content};
-ghost use Rattle.dl_memory.specs.Refusals.{WasRefused};
+ghost use Rattle.dl_memory.specs.Refusals.{IsRefused, WasRefused};
 
 use crate::inflated_reader::InflatedReader;
 use crate::read_fault::ReadFault;
@@ -50,6 +50,7 @@ impl<'a, S: ReadAt> ContentReader<'a, S> {
             (content elf.now f section.now) (HasStream elf.now f (Some section.now)) result) }
         ensures read { IfRead (S.fails_with source.entry.now) result }
         ensures refused { IfRefused (WasRefused (M.refuses memory.now)) result }
+        ensures most { IfRefused (IsRefused (M.refuses memory.now) 1) result }
     {
         let range = section_range(&section.header);
         let Some(header) = compression_header(source, elf, section)? else {

@@ -1,4 +1,5 @@
 //! The sections of a file by which the directories of compilations are found.
+ghost use Rattle.std.specs.Prelude.{◌+◌, ◌^◌, length};
 ghost use Rattle.std.specs.Prelude.{◌≡◌, ◌⊎◌, ◌≤◌, ◌-◌, true, Some, option_and_then, IfOk, IfErr};
 ghost use Rattle.dl_elf.specs.Source.{ForBytes};
 ghost use Rattle.dl_elf.specs.Answers.{IfRead, IfRefused};
@@ -11,7 +12,7 @@ ghost use Rattle.dl_file.specs.InfoTable.{IsInfoOf, OpensInfo, OpensInfoOf, Open
 ghost use Rattle.dl_file.specs.InfoTable.{InfoTooLong, info_sections};
 ghost use Rattle.dl_file.specs.InfoTable.{named_section, readable};
 ghost use Rattle.dl_file.specs.LineTable.{HasStream, HoldsTooMuch, IsLine};
-ghost use Rattle.dl_memory.specs.Refusals.{WasRefused};
+ghost use Rattle.dl_memory.specs.Refusals.{IsRefused, WasRefused};
 ghost use Rattle.dl_file.specs.Relocations.{HasRelocations};
 
 use crate::content_reader::ContentReader;
@@ -158,6 +159,8 @@ fn info_reader<'a, S: ReadAt, M: Memory>(
     ensures read { IfRead (S.fails_with source.entry.now) result }
     ensures refused { ForBytes (S.all_bytes source.entry.now)
         (λ f. IfRefused (WasRefused (M.refuses memory.now) ⊎ HoldsTooMuch elf.now f info.now) result) }
+    ensures most { ForBytes (S.all_bytes source.entry.now) (λ f.
+        IfRefused (IsRefused (M.refuses memory.now) (length f + 2 ^ 32) ⊎ HoldsTooMuch elf.now f info.now) result) }
 {
     match line_reader(memory, source, elf, sections, info) {
         Ok(reader) => Ok(Some(reader)),
@@ -184,6 +187,8 @@ fn open_found<'a, S: ReadAt, M: Memory>(
     ensures read { IfRead (S.fails_with source.entry.now) result }
     ensures refused { ForBytes (S.all_bytes source.entry.now)
         (λ f. IfRefused (WasRefused (M.refuses memory.now) ⊎ HoldsTooMuch elf.now f found.now.info) result) }
+    ensures most { ForBytes (S.all_bytes source.entry.now) (λ f.
+        IfRefused (IsRefused (M.refuses memory.now) (length f + 2 ^ 32) ⊎ HoldsTooMuch elf.now f found.now.info) result) }
 {
     let Some(info) = info_reader(memory, source, elf, sections, &found.info)? else {
         return Ok(None);
@@ -211,6 +216,8 @@ pub fn open_info<'a, S: ReadAt, M: Memory>(
     ensures read { IfRead (S.fails_with source.entry.now) result }
     ensures refused { ForBytes (S.all_bytes source.entry.now)
         (λ f. IfRefused (WasRefused (M.refuses memory.now) ⊎ InfoTooLong f) result) }
+    ensures most { ForBytes (S.all_bytes source.entry.now) (λ f.
+        IfRefused (IsRefused (M.refuses memory.now) (length f + 2 ^ 32) ⊎ InfoTooLong f) result) }
 {
     let elf = match open_elf(source) {
         Ok(elf) => elf,

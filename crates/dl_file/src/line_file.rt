@@ -1,4 +1,5 @@
 //! The sections of a file's line table.
+ghost use Rattle.std.specs.Prelude.{◌+◌, ◌^◌, length};
 ghost use Rattle.std.specs.Prelude.{◌≡◌, ◌≤◌, ◌-◌, ◌⊎◌, Some, true, option_map, option_and_then, IfOk, IfErr};
 ghost use Rattle.dl_elf.specs.Source.{ForBytes};
 ghost use Rattle.dl_elf.specs.Answers.{IfRead, IfRefused};
@@ -11,7 +12,7 @@ ghost use Rattle.dl_file.specs.Answering.{LiesIn, OpensLine, OpensOption, OpensT
 ghost use Rattle.dl_file.specs.Relocations.{HasRelocations};
 ghost use Rattle.dl_file.specs.LineTable.{HasStream, IsLine, IsTableOf, Opens, TakesMemoryFor, content, refused};
 ghost use Rattle.dl_file.specs.LineTable.{HoldsTooMuch, LineTooLong};
-ghost use Rattle.dl_memory.specs.Refusals.{WasRefused};
+ghost use Rattle.dl_memory.specs.Refusals.{IsRefused, WasRefused};
 ghost use Rattle.dl_file.specs.LineTable.{first_damage, first_refused, line_section, debug_line_str_section};
 ghost use Rattle.dl_file.specs.LineTable.{debug_str_section};
 
@@ -219,6 +220,7 @@ pub fn optional_reader<'a, S: ReadAt, M: Memory>(
         (option_map (content elf.now f) section) (HasStream elf.now f section) result) }
     ensures read { IfRead (S.fails_with source.entry.now) result }
     ensures refused { IfRefused (WasRefused (M.refuses memory.now)) result }
+    ensures most { IfRefused (IsRefused (M.refuses memory.now) 1) result }
 {
     match section {
         Some(section) => Ok(Some(ContentReader::open(memory, source, elf, &section)?)),
@@ -245,6 +247,8 @@ pub fn line_reader<'a, S: ReadAt, M: Memory>(
     ensures read { IfRead (S.fails_with source.entry.now) result }
     ensures refused { ForBytes (S.all_bytes source.entry.now)
         (λ f. IfRefused (WasRefused (M.refuses memory.now) ⊎ HoldsTooMuch elf.now f line.now) result) }
+    ensures most { ForBytes (S.all_bytes source.entry.now) (λ f.
+        IfRefused (IsRefused (M.refuses memory.now) (length f + 2 ^ 32) ⊎ HoldsTooMuch elf.now f line.now) result) }
 {
     let relocations = find_relocations(source, elf, sections, line.number)?;
     if relocations.count == 0 {
@@ -282,6 +286,8 @@ fn open_chosen<'a, S: ReadAt, M: Memory>(
     ensures read { IfRead (S.fails_with source.entry.now) result }
     ensures refused { ForBytes (S.all_bytes source.entry.now)
         (λ f. IfRefused (WasRefused (M.refuses memory.now) ⊎ HoldsTooMuch elf.now f chosen.now.line) result) }
+    ensures most { ForBytes (S.all_bytes source.entry.now) (λ f.
+        IfRefused (IsRefused (M.refuses memory.now) (length f + 2 ^ 32) ⊎ HoldsTooMuch elf.now f chosen.now.line) result) }
 {
     if let Some(part) = first_damage(source, elf, chosen)? {
         return Err(ElfFault::Damaged(part));
@@ -328,6 +334,8 @@ pub fn open_line_file<'a, S: ReadAt, M: Memory>(
     ensures read { IfRead (S.fails_with source.entry.now) result }
     ensures refused { ForBytes (S.all_bytes source.entry.now)
         (λ f. IfRefused (WasRefused (M.refuses memory.now) ⊎ LineTooLong f wanted) result) }
+    ensures most { ForBytes (S.all_bytes source.entry.now) (λ f.
+        IfRefused (IsRefused (M.refuses memory.now) (length f + 2 ^ 32) ⊎ LineTooLong f wanted) result) }
 {
     let elf = open_elf(source)?;
     let sections = find_sections(source, &elf)?;

@@ -1,6 +1,6 @@
 //! All bytes of a section, held in memory.
 ghost use Rattle.dl_elf.specs.declared.fault.ElfFault.TheVariants.{NoMemory};
-ghost use Rattle.std.specs.Prelude.{◌≡◌, ◌≢◌, ◌<◌, ◌^◌, ◌⊎◌, IfSome, ℕ, List, Option, Some, true, length, drop};
+ghost use Rattle.std.specs.Prelude.{◌≡◌, ◌≢◌, ◌<◌, ◌^◌, ◌⊎◌, ◌+◌, IfSome, ℕ, List, Option, Some, true, length, drop};
 ghost use Rattle.dl_elf.specs.Answers.{IfRead, IfRefused};
 ghost use Rattle.dl_elf.specs.Sections.{range_within, section_range};
 ghost use Rattle.dl_elf.specs.Source.{ForBytes};
@@ -9,7 +9,7 @@ ghost use Rattle.dl_file.specs.ContentReader.{StreamFails, inflated_damage, infl
 ghost use Rattle.dl_file.specs.ContentReader.{inflated_remaining};
 ghost use Rattle.dl_file.specs.Inflating.{damage, inflated};
 ghost use Rattle.dl_file.specs.LineTable.{Inflated, IsTooLong, content, held_bytes};
-ghost use Rattle.dl_memory.specs.Refusals.{WasRefused};
+ghost use Rattle.dl_memory.specs.Refusals.{IsRefused, WasRefused};
 
 use crate::inflated_reader::InflatedReader;
 use crate::read_fault::ReadFault;
@@ -43,11 +43,13 @@ fn read_whole<S: ReadAt, M: Memory>(
     reader: &mut InflatedReader<'_, S>,
     size: u64,
 ) -> Result<Vec<u8>, ElfFault>
+    requires { inflated_left reader.old ≡ size }
     ensures bytes { (bytes : List ℕ) (damage : Option ℕ) → inflated_remaining S.all_bytes reader.old ≡ Some bytes
         → inflated_damage S.all_bytes reader.old ≡ Some damage
         → IsHad (held_bytes (Inflated (inflated_name reader.old) bytes damage)) result }
     ensures read { IfRead (StreamFails S.all_bytes S.fails_with reader.old) result }
     ensures refused { IfRefused (WasRefused (M.refuses memory.now) ⊎ (2 ^ 32 < size)) result }
+    ensures most { IfRefused (IsRefused (M.refuses memory.now) (2 ^ 32) ⊎ (2 ^ 32 < size)) result }
 {
     let mut bytes = Vec::new(memory.alloc());
     let mut buffer = [0; PIECE];
@@ -80,6 +82,7 @@ fn inflate_whole<M: Memory>(
         (damage header.now (length section.now) (drop header.now.stream_offset section.now)))) result }
     ensures read { IfRead (λ error. ⊥) result }
     ensures refused { IfRefused (WasRefused (M.refuses memory.now) ⊎ (2 ^ 32 < header.now.size)) result }
+    ensures most { IfRefused (IsRefused (M.refuses memory.now) (2 ^ 32) ⊎ (2 ^ 32 < header.now.size)) result }
 {
     let source = Cursor::new(section);
     let range = Range {
@@ -105,6 +108,8 @@ pub fn whole_bytes<S: ReadAt, M: Memory>(
     ensures read { IfRead (S.fails_with source.now) result }
     ensures refused { ForBytes (S.all_bytes source.now)
         (λ f. IfRefused (WasRefused (M.refuses memory.now) ⊎ IsTooLong elf.now f section.now) result) }
+    ensures most { ForBytes (S.all_bytes source.now) (λ f.
+        IfRefused (IsRefused (M.refuses memory.now) (length f + 2 ^ 32) ⊎ IsTooLong elf.now f section.now) result) }
 {
     let Some(bytes) = read_bytes(memory, source, &section.header)? else {
         return Err(ElfFault::Damaged(Part::Section(section.name)));
