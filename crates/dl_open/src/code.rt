@@ -63,7 +63,7 @@ pub fn code_of<S: ReadAt>(alloc: Global, file: &S) -> Result<Option<CodeRanges>,
         (λ ranges. (code : file_code.Code) × IsCode f (Ok code) × AreLive ranges code)
         (RefusesCode (S.fails_with file.now) f)) }
 {
-    match find_code(alloc, file) {
+    match find_code(&System::new(alloc), file) {
         Ok(code) => live_ranges(alloc, &code),
         Err(CodeFault::Elf(fault)) => Err(FileFault::Elf(fault)),
         Err(CodeFault::NoMemory) => Err(FileFault::NoMemory),

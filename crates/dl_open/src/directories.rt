@@ -158,7 +158,7 @@ pub fn directories_of<S: ReadAt>(alloc: Global, file: &S) -> Result<Directories,
     ensures { ForBytes (S.all_bytes file.now) (λ f. MatchResult result
         (λ d. AreDirectories f (directory_at d)) (RefusesDirectories (S.fails_with file.now) f)) }
 {
-    let Some(info) = open_info(alloc, file)? else {
+    let Some(info) = open_info(&System::new(alloc), file)? else {
         return Ok(Directories::none(alloc));
     };
     match read_directories(alloc, info) {

@@ -17,6 +17,7 @@ use dl_file::{LineFile, LineReader, Wanted, open_line_file};
 use dl_forms::StringWalk;
 use dl_head::Dialect;
 use dl_input::Source;
+use dl_memory::System;
 use dl_run::{Input, RunFault, SECTION_LIMIT};
 use std::alloc::Global;
 
@@ -105,7 +106,7 @@ fn opened<'p, 'a, S: ReadAt>(
         (λ table. (t : LineTable) × HasLineTable f wanted (Ok t) × GivesTable S.all_bytes S.fails_with (S.fails_with file.entry.now) table t)
         (OpeningStops (S.fails_with file.entry.now) path.entry.now f wanted)) }
 {
-    match open_line_file(alloc, file, wanted) {
+    match open_line_file(&System::new(alloc), file, wanted) {
         Ok(table) => Ok(table),
         Err(fault) => Err(FileStop::File {
             path,

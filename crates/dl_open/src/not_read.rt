@@ -11,6 +11,7 @@ use crate::files::{FileSource, open_file};
 use crate::shown::Shown;
 use dl_elf::ReadAt;
 use dl_file::{LineFile, Wanted, open_line_file};
+use dl_memory::System;
 use dl_run::{Options, PassedOver, RunFault, SECTION_LIMIT, passed_over};
 use std::alloc::Global;
 use std::io::Write;
@@ -123,7 +124,7 @@ fn told(answer: Result<Option<PassedOver>, RunFault>) -> Option<PassedOver>
 fn in_file<S: ReadAt>(alloc: Global, units: FileUnits, file: &S) -> Option<PassedOver>
     ensures { ForBytes (S.all_bytes file.now) (λ f. IsToldOfFile units (S.fails_with file.now) f result) }
 {
-    match open_line_file(alloc, file, Wanted::LineSection) {
+    match open_line_file(&System::new(alloc), file, Wanted::LineSection) {
         Ok(table) => told(in_table(alloc, units, table)),
         Err(_) => None,
     }

@@ -33,7 +33,7 @@ fn places<S: ReadAt>(alloc: Global, file: &S, is_object: bool) -> Result<Vec<Pla
     if !is_object {
         return Ok(Vec::new(alloc));
     }
-    match find_places(alloc, file) {
+    match find_places(&System::new(alloc), file) {
         Ok(places) => Ok(places),
         Err(fault) => Err(FileFault::Elf(fault)),
     }
@@ -112,7 +112,7 @@ pub fn kept_bytes<'p, S: ReadAt>(
         Err(fault) => return Err(FileStop::at(path, stream, fault, line.last_fault())),
     };
     match keep_section(
-        alloc,
+        &System::new(alloc),
         dialect,
         bytes.as_mut_slice(),
         part.places.as_slice(),

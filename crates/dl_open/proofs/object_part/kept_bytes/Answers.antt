@@ -1,4 +1,4 @@
-use Rattle.std.proofs.Common.{◌∙◌, Some, Err, ap, inl, refl, sym}
+use Rattle.std.proofs.Common.{◌∙◌, Some, Err, ap, inl, inr, refl, sym}
 use Rattle.dl_run.specs.declared.options.TheConstants.{SECTION_LIMIT}
 use Rattle.dl_open.specs.Tables.{bytes_of, stream_of}
 use Rattle.dl_open.proofs.ReaderLemmas.{all_read, keeping_refused, reader_known, reader_stream, reader_told, stops_at, stops_known}
@@ -28,4 +28,4 @@ returns g c source content gives =
     (reader_known {S = g.row.S.Denot} g.S.ReadAt.all_bytes g.S.ReadAt.fails_with fails c.args.line.now content _ e.0 gives e.1) e.2.2 in
     keeping_refused fails c.args.path.now c.args.dialect c.args.part.now content _ e.0 _ _ _ whole e.2.0
     c.as_mut_slice.ensures.value c.as_slice.ensures.value
-    c.in-Err-keep_section.ensures.memory (refl, refl)
+    (elim c.in-Err-keep_section.ensures.memory [ inl unordered ↦ inl unordered.0 | inr cell ↦ inr cell ]) (refl, refl)
