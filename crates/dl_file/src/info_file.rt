@@ -207,7 +207,8 @@ fn open_found<'a, S: ReadAt, M: Memory>(
 /// file has none that can be read: what is damaged in them, or compressed otherwise than with zlib, is no fault.
 ///
 /// `Read` where a read failed. Memory is taken only where a section is compressed, and where there are relocations of
-/// `.debug_info`, which is held then.
+/// `.debug_info`, which is held then. Where a growth is refused, or a compressed `.debug_info` with relocations inflates to
+/// more than 2^32 bytes, as it says, the fault is `NoMemory`, and nowhere else.
 pub fn open_info<'a, S: ReadAt, M: Memory>(
     memory: &M,
     source: &'a S,
