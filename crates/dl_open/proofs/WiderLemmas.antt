@@ -37,25 +37,25 @@ naming_wider : (fails wider : Error → Type 0) (path : List ℕ) (dialect : Dia
 naming_wider fails wider path dialect content stop more (f, stops, at) =
     (f, stops, stops_at_wider fails wider path (stream_of content) f stop more at)
 
-pub keeping_wider : (fails wider : Error → Type 0) (path : List ℕ) (dialect : Dialect) (part : Part) (content : Content)
-    (stop : FileStop) → ((e : Error) → fails e → wider e) → KeepingStops fails path dialect part content stop
-    → KeepingStops wider path dialect part content stop
-keeping_wider fails wider path dialect part content stop more (inl (f, stops, at)) =
+pub keeping_wider : (refuses : ℕ → Type 0) (fails wider : Error → Type 0) (path : List ℕ) (dialect : Dialect) (part : Part) (content : Content)
+    (stop : FileStop) → ((e : Error) → fails e → wider e) → KeepingStops refuses fails path dialect part content stop
+    → KeepingStops refuses wider path dialect part content stop
+keeping_wider refuses fails wider path dialect part content stop more (inl (f, stops, at)) =
     inl (f, stops, stops_at_wider fails wider path (stream_of content) f stop more at)
-keeping_wider fails wider path dialect part content stop more (inr refused) = inr refused
+keeping_wider refuses fails wider path dialect part content stop more (inr refused) = inr refused
 
-section_wider : (fails wider : Error → Type 0) (path : List ℕ) (content : Content) (stop : FileStop)
-    → ((e : Error) → fails e → wider e) → SectionStops fails path content stop → SectionStops wider path content stop
-section_wider fails wider path content stop more (f, stops, at) =
+section_wider : (refuses : ℕ → Type 0) (fails wider : Error → Type 0) (path : List ℕ) (content : Content) (stop : FileStop)
+    → ((e : Error) → fails e → wider e) → SectionStops refuses fails path content stop → SectionStops refuses wider path content stop
+section_wider refuses fails wider path content stop more (f, stops, at) =
     (f, stops, stops_at_wider fails wider path (stream_of content) f stop more at)
 
-pub strings_wider : (fails wider : Error → Type 0) (path : List ℕ) (line_str str : Option Content) (stop : FileStop)
-    → ((e : Error) → fails e → wider e) → StringsStop fails path line_str str stop
-    → StringsStop wider path line_str str stop
-strings_wider fails wider path line_str str stop more (inl (content, is, stops)) =
-    inl (content, is, section_wider fails wider path content stop more stops)
-strings_wider fails wider path line_str str stop more (inr (content, is, stops, fits)) =
-    inr (content, is, section_wider fails wider path content stop more stops, fits)
+pub strings_wider : (refuses : ℕ → Type 0) (fails wider : Error → Type 0) (path : List ℕ) (line_str str : Option Content) (stop : FileStop)
+    → ((e : Error) → fails e → wider e) → StringsStop refuses fails path line_str str stop
+    → StringsStop refuses wider path line_str str stop
+strings_wider refuses fails wider path line_str str stop more (inl (content, is, stops)) =
+    inl (content, is, section_wider refuses fails wider path content stop more stops)
+strings_wider refuses fails wider path line_str str stop more (inr (content, is, stops, fits)) =
+    inr (content, is, section_wider refuses fails wider path content stop more stops, fits)
 
 refuses_weaker : (fails wider : Error → Type 0) (f : List ℕ) (wanted : Wanted) (fault : FileFault)
     → ((e : Error) → fails e → wider e) → Refuses fails f wanted fault → Refuses wider f wanted fault

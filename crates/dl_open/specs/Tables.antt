@@ -34,7 +34,7 @@ use Rattle.dl_open.specs.declared.stop.FileStop.{FileStop}
 use Rattle.dl_open.specs.Files.{FileStops}
 use Rattle.dl_open.specs.Stops.{IsAt, StopsAt, Stream}
 
--- ---- string sections of the file. fails: the errors that reading it may give
+-- ---- string sections of the file. fails: the errors that reading it may give; refuses: for how many items memory is refused
 
 -- one that is there has no more than 2^32 bytes
 abbrev pub Fits : Option (List ℕ) → Type 0
@@ -60,15 +60,16 @@ stream_of (Plain bytes) = None
 stream_of (Inflated name bytes damage) = Some (name, damage)
 
 -- a section stops the program: a read or a growth failed, or it is too long
-abbrev pub SectionStops : (fails : Error → Type 0) (path : List ℕ) → Content → FileStop → Type 0
-SectionStops fails path content stop =
-    (f : RunFault) × FileStops (Some (bytes_of content)) STRINGS_LIMIT f × StopsAt fails path (stream_of content) f stop
+abbrev pub SectionStops : (refuses : ℕ → Type 0) (fails : Error → Type 0) (path : List ℕ) → Content → FileStop → Type 0
+SectionStops refuses fails path content stop =
+    (f : RunFault) × FileStops ⊤ refuses (Some (bytes_of content)) STRINGS_LIMIT f × StopsAt fails path (stream_of content) f stop
 
 -- the first does, or the other once the first was read
-abbrev pub StringsStop : (fails : Error → Type 0) (path : List ℕ) (line_str str : Option Content) → FileStop → Type 0
-StringsStop fails path line_str str stop =
-    ((content : Content) × (line_str ≡ Some content) × SectionStops fails path content stop)
-    ⊎ ((content : Content) × (str ≡ Some content) × SectionStops fails path content stop
+abbrev pub StringsStop : (refuses : ℕ → Type 0) (fails : Error → Type 0) (path : List ℕ) (line_str str : Option Content) → FileStop
+    → Type 0
+StringsStop refuses fails path line_str str stop =
+    ((content : Content) × (line_str ≡ Some content) × SectionStops refuses fails path content stop)
+    ⊎ ((content : Content) × (str ≡ Some content) × SectionStops refuses fails path content stop
     × Fits (option_map bytes_of line_str))
 
 -- the size of an address in a file of this class
@@ -96,9 +97,10 @@ abbrev pub IsKept : Dialect → Part → Content → (kept : List ℕ) → Type 
 IsKept dialect part content kept = Keeps dialect part.places.items part.section 0 (bytes_of content) kept
 
 -- they can't be read whole, or memory is refused: for a header, or for places that don't rise
-abbrev pub KeepingStops : (fails : Error → Type 0) (path : List ℕ) → Dialect → Part → Content → FileStop → Type 0
-KeepingStops fails path dialect part content stop =
-    ((f : RunFault) × FileStops (Some (bytes_of content)) SECTION_LIMIT f × StopsAt fails path (stream_of content) f stop)
+abbrev pub KeepingStops : (refuses : ℕ → Type 0) (fails : Error → Type 0) (path : List ℕ) → Dialect → Part → Content → FileStop
+    → Type 0
+KeepingStops refuses fails path dialect part content stop =
+    ((f : RunFault) × FileStops ⊤ refuses (Some (bytes_of content)) SECTION_LIMIT f × StopsAt fails path (stream_of content) f stop)
     ⊎ (((Rises part.places.items → ⊥) ⊎ WantsCell dialect (bytes_of content)) × IsAt path Refused stop)
 
 -- ---- the file. fails: the errors that opening and reading it may give

@@ -4,6 +4,7 @@ ghost use Rattle.dl_elf.specs.Source.{ForBytes};
 ghost use Rattle.dl_file.specs.LineTable.{Content, GivesLine, GivesTable, HasLineTable, LineTable, Plain};
 ghost use Rattle.dl_forms.specs.Names.{Names};
 ghost use Rattle.dl_input.specs.Failing.{Blames};
+ghost use Rattle.dl_open.specs.Blaming.{BlamesFile};
 ghost use Rattle.dl_open.specs.Tables.{HasTable, IsNamed, NamedStops, NamingStops, OpeningStops, StopsNaming};
 ghost use Rattle.dl_open.specs.Tables.{TableStops, file_dialect, with_strings};
 ghost use Rattle.dl_file.specs.declared.line_file.Wanted.TheVariants.{LineAndLineStrings};
@@ -66,8 +67,9 @@ fn is_named<'p, S: ReadAt>(
     dialect: Dialect,
     line: &mut LineReader<'_, S>,
 ) -> Result<bool, FileStop<'p>>
-    ensures { (source : _) (content : Content) → GivesLine S.all_bytes S.fails_with (S.fails_with source) line.old content
+    ensures told { (source : _) (content : Content) → GivesLine S.all_bytes S.fails_with (S.fails_with source) line.old content
         → MatchResult result (IsNamed dialect content) (NamingStops (S.fails_with source) path.entry.now dialect content) }
+    ensures blames { BlamesFile result }
 {
     let stream = line.stream_name();
     match names_str(alloc, dialect, line) {
@@ -84,8 +86,9 @@ fn is_named_in<'p>(
     dialect: Dialect,
     bytes: &[u8],
 ) -> Result<bool, FileStop<'p>>
-    ensures { MatchResult result (λ names. IsTrue names ↔ Names dialect bytes.now)
+    ensures told { MatchResult result (λ names. IsTrue names ↔ Names dialect bytes.now)
         (NamingStops (λ error. ⊥) path.entry.now dialect (Plain bytes.now)) }
+    ensures blames { BlamesFile result }
 {
     let mut input = bytes;
     match names_str(alloc, dialect, &mut input) {
@@ -101,9 +104,10 @@ fn opened<'p, 'a, S: ReadAt>(
     file: &'a S,
     wanted: Wanted,
 ) -> Result<LineFile<'a, S>, FileStop<'p>>
-    ensures { ForBytes (S.all_bytes file.entry.now) (λ f. MatchResult result
+    ensures opens { ForBytes (S.all_bytes file.entry.now) (λ f. MatchResult result
         (λ table. (t : LineTable) × HasLineTable f wanted (Ok t) × GivesTable S.all_bytes S.fails_with (S.fails_with file.entry.now) table t)
         (OpeningStops (S.fails_with file.entry.now) path.entry.now f wanted)) }
+    ensures blames { BlamesFile result }
 {
     match open_line_file(alloc, file, wanted) {
         Ok(table) => Ok(table),
@@ -135,13 +139,14 @@ fn with_named<'p, 'a, S: ReadAt>(
     units: FileUnits,
     table: LineFile<'a, S>,
 ) -> Result<LineFile<'a, S>, FileStop<'p>>
-    ensures { ForBytes (S.all_bytes file.entry.now) (λ f. (t : LineTable)
+    ensures opens { ForBytes (S.all_bytes file.entry.now) (λ f. (t : LineTable)
         → GivesTable S.all_bytes S.fails_with (S.fails_with file.entry.now) table.entry t
         → HasLineTable f LineAndLineStrings (Ok t) → MatchResult result
         (λ opened. (names : Bool) × IsNamed (file_dialect units t) t.line names × ((t2 : LineTable)
         × HasLineTable f (with_strings names) (Ok t2)
         × GivesTable S.all_bytes S.fails_with (S.fails_with file.entry.now) opened t2))
         (NamedStops units (S.fails_with file.entry.now) path.entry.now f t)) }
+    ensures blames { BlamesFile result }
 {
     let mut table = table;
     let dialect = file_dialect(table.order, table.class, units);
@@ -166,9 +171,10 @@ fn with_texts<'p, 'a, S: ReadAt>(
     file: &'a S,
     units: FileUnits,
 ) -> Result<LineFile<'a, S>, FileStop<'p>>
-    ensures { ForBytes (S.all_bytes file.entry.now) (λ f. MatchResult result
+    ensures opens { ForBytes (S.all_bytes file.entry.now) (λ f. MatchResult result
         (λ table. (t : LineTable) × HasTable units LinesAndTexts f t × GivesTable S.all_bytes S.fails_with (S.fails_with file.entry.now) table t)
         (TableStops units (S.fails_with file.entry.now) path.entry.now LinesAndTexts f)) }
+    ensures blames { BlamesFile result }
 {
     let table = match opened(alloc, path, file, Wanted::LineAndLineStrings) {
         Ok(table) => table,
@@ -189,9 +195,10 @@ pub fn open_table<'p, 'a, S: ReadAt>(
     units: FileUnits,
     sections: Sections,
 ) -> Result<LineFile<'a, S>, FileStop<'p>>
-    ensures { ForBytes (S.all_bytes file.entry.now) (λ f. MatchResult result
+    ensures opens { ForBytes (S.all_bytes file.entry.now) (λ f. MatchResult result
         (λ table. (t : LineTable) × HasTable units sections f t × GivesTable S.all_bytes S.fails_with (S.fails_with file.entry.now) table t)
         (TableStops units (S.fails_with file.entry.now) path.entry.now sections f)) }
+    ensures blames { BlamesFile result }
 {
     match sections {
         Sections::Lines => opened(alloc, path, file, Wanted::LineSection),

@@ -2,6 +2,7 @@
 ghost use Rattle.std.specs.Prelude.{◌≡◌, Option, IfErr, IfOk, MatchResult, option_map};
 ghost use Rattle.dl_elf.specs.Source.{ForBytes};
 ghost use Rattle.dl_file.specs.LineTable.{Content, GivesLine};
+ghost use Rattle.dl_open.specs.Blaming.{BlamesFile};
 ghost use Rattle.dl_open.specs.Parts.{HasPlaces, IsPart, IsSection, PartStops, RefusesPlaces, RefusesSection};
 ghost use Rattle.dl_open.specs.Tables.{IsKept, KeepingStops};
 
@@ -10,7 +11,7 @@ use crate::stop::FileStop;
 use dl_elf::{ElfFault, ReadAt, code_section, open_elf, section_number};
 use dl_file::{LineReader, find_places};
 use dl_head::Dialect;
-use dl_memory::System;
+use dl_memory::Memory;
 use dl_object::keep_section;
 use dl_reloc::Placed;
 use dl_run::{SECTION_LIMIT, read_strings};
@@ -69,9 +70,10 @@ pub fn part_of<'p, S: ReadAt>(
     is_object: bool,
     name: Option<&'p str>,
 ) -> Result<Option<Part>, FileStop<'p>>
-    ensures { ForBytes (S.all_bytes file.now) (λ f. MatchResult result
+    ensures part { ForBytes (S.all_bytes file.now) (λ f. MatchResult result
         (IsPart f is_object (option_map (λ s. s.now) name.entry))
         (PartStops (S.fails_with file.now) path.entry.now f is_object (option_map (λ s. s.now) name.entry))) }
+    ensures blames { BlamesFile result }
 {
     let places = match places(alloc, file, is_object) {
         Ok(places) => places,
@@ -95,24 +97,25 @@ pub fn part_of<'p, S: ReadAt>(
 }
 
 /// The bytes of the line section of the object file at this path, of whose sequences those of a part are left.
-pub fn kept_bytes<'p, S: ReadAt>(
-    alloc: Global,
+pub fn kept_bytes<'p, M: Memory, S: ReadAt>(
+    memory: &M,
     path: &'p str,
     dialect: Dialect,
     part: &Part,
     line: &mut LineReader<'_, S>,
 ) -> Result<Vec<u8>, FileStop<'p>>
-    ensures { (source : _) (content : Content) → GivesLine S.all_bytes S.fails_with (S.fails_with source) line.old content
+    ensures kept { (source : _) (content : Content) → GivesLine S.all_bytes S.fails_with (S.fails_with source) line.old content
         → MatchResult result (λ kept. IsKept dialect part.now content kept.items)
-        (KeepingStops (S.fails_with source) path.entry.now dialect part.now content) }
+        (KeepingStops (M.refuses memory.now) (S.fails_with source) path.entry.now dialect part.now content) }
+    ensures blames { BlamesFile result }
 {
     let stream = line.stream_name();
-    let mut bytes = match read_strings(&System::new(alloc), line, SECTION_LIMIT) {
+    let mut bytes = match read_strings(memory, line, SECTION_LIMIT) {
         Ok(bytes) => bytes,
         Err(fault) => return Err(FileStop::at(path, stream, fault, line.last_fault())),
     };
     match keep_section(
-        alloc,
+        memory.alloc(),
         dialect,
         bytes.as_mut_slice(),
         part.places.as_slice(),

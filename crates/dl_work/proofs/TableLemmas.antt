@@ -116,7 +116,7 @@ lines_wider : (refuses : ℕ → Type 0) (units : FileUnits) (fails wider : Erro
 lines_wider refuses units fails wider path command t None start now hears result more runs =
     runs_wider refuses units fails wider path command t start now hears result more runs
 lines_wider refuses units fails wider path command t (Some part) start now hears result more (inl (stop, is, why, written, untold)) =
-    inl (stop, is, keeping_wider fails wider path (file_dialect units t) part t.line stop more why, written, untold)
+    inl (stop, is, keeping_wider refuses fails wider path (file_dialect units t) part t.line stop more why, written, untold)
 lines_wider refuses units fails wider path command t (Some part) start now hears result more (inr (kept, is, runs)) =
     inr (kept, is, runs_wider refuses units fails wider path command (with_bytes t kept) start now hears result more runs)
 
@@ -127,7 +127,7 @@ table_wider : (refuses : ℕ → Type 0) (copies : Bool) (units : FileUnits) (fa
     → OnTableWhere refuses copies units wider path command t part start now hears result
 table_wider refuses true units fails wider path command t part start now hears result more stops = stops
 table_wider refuses false units fails wider path command t part start now hears result more (inl (stop, is, why, written, untold)) =
-    inl (stop, is, strings_wider fails wider path t.line_str t.str stop more why, written, untold)
+    inl (stop, is, strings_wider refuses fails wider path t.line_str t.str stop more why, written, untold)
 table_wider refuses false units fails wider path command t part start now hears result more (inr lines) =
     inr (lines_wider refuses units fails wider path command t part start now hears result more lines)
 

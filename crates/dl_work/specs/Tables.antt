@@ -58,7 +58,7 @@ StopsEarly refuses command Reason start now hears result =
 abbrev pub OnLines : (refuses : ℕ → Type 0) → FileUnits → (fails : Error → Type 0) (path : Text) → Command → LineTable → Option Part → Outcome FileStop
 OnLines refuses units fails path command t None start now hears result = RunsOn refuses units fails path command t start now hears result
 OnLines refuses units fails path command t (Some part) start now hears result =
-    StopsEarly refuses command (KeepingStops fails path (file_dialect units t) part t.line) start now hears result
+    StopsEarly refuses command (KeepingStops refuses fails path (file_dialect units t) part t.line) start now hears result
     ⊎ ((kept : List ℕ) × IsKept (file_dialect units t) part t.line kept
     × RunsOn refuses units fails path command (with_bytes t kept) start now hears result)
 
@@ -68,7 +68,7 @@ abbrev pub OnTableWhere : (refuses : ℕ → Type 0) → (is_object_copy : Bool)
 OnTableWhere refuses true units fails path command t part start now hears result =
     StopsEarly refuses command (IsAt path ObjectCopy) start now hears result
 OnTableWhere refuses false units fails path command t part start now hears result =
-    StopsEarly refuses command (StringsStop fails path t.line_str t.str) start now hears result
+    StopsEarly refuses command (StringsStop refuses fails path t.line_str t.str) start now hears result
     ⊎ OnLines refuses units fails path command t part start now hears result
 
 abbrev pub OnTable : (refuses : ℕ → Type 0) → FileUnits → (fails : Error → Type 0) (path : Text) → Command → LineTable → Option Part → Outcome FileStop

@@ -3,8 +3,8 @@ use Rattle.dl_open.specs.declared.fault.FileFault.TheVariants.{Elf}
 use Rattle.dl_open.proofs.NotReadLemmas.{refuses}
 use Rattle.dl_open.proofs.named.opened.Goals as goal
 
-pub returns-in-Err : goal.returns-in-Err
-returns-in-Err g c f known short =
+pub returns-in-Err-clause-opens : goal.returns-in-Err-clause-opens
+returns-in-Err-clause-opens g c f known short =
     let fault = c.in-Err.fault in
     let opened = c.open_line_file in (
       Elf fault,
