@@ -1,9 +1,9 @@
 -- The same stops, where more errors may come of opening and reading a file.
-use Rattle.std.proofs.Common.{ℕ, Bool, List, Option, inl, inr}
+use Rattle.std.proofs.Common.{ℕ, Bool, List, Option, Some, inl, inr}
 use Rattle.std.specs.declared.io.Error.{Error}
 use Rattle.dl_elf.specs.declared.fault.ElfFault.{ElfFault}
 use Rattle.dl_elf.specs.declared.fault.ElfFault.TheVariants.{Read, NoMemory, DamagedStream}
-use Rattle.dl_file.specs.LineTable.{Content}
+use Rattle.dl_file.specs.LineTable.{Content, Inflated, LineTable, Plain}
 use Rattle.dl_head.specs.declared.dialect.Dialect.{Dialect}
 use Rattle.dl_run.specs.declared.fault.RunFault.{RunFault}
 use Rattle.dl_run.specs.declared.fault.RunFault.TheVariants as fault
@@ -18,16 +18,19 @@ use Rattle.dl_open.specs.declared.named.Sections.{Sections}
 use Rattle.dl_open.specs.declared.named.Sections.TheVariants.{Lines, LinesAndTexts}
 use Rattle.dl_open.specs.declared.stop.FileStop.{FileStop}
 use Rattle.dl_open.specs.Parts.{PartStops, RefusesPlaces, RefusesSection}
-use Rattle.dl_open.specs.Tables.{KeepingStops, NamingStops, OpeningStops, Refuses, SectionStops, StringsStop, TableStops}
+use Rattle.dl_open.specs.Tables.{HasTable, IsNamed, KeepingStops, LooksInto, NamingStops, OpeningStops, Refuses, SectionStops, StringsStop, TableStops}
 use Rattle.dl_open.specs.Tables.{file_dialect, stream_of, with_strings}
+
+read_wider : (fails wider : Error → Type 0) (stream : Option Stream) (f : ElfFault) → ((e : Error) → fails e → wider e)
+    → IsReadFault fails stream f → IsReadFault wider stream f
+read_wider fails wider stream (Read error) more is = more error is
+read_wider fails wider stream (DamagedStream name at) more is = is
+read_wider fails wider stream other more is = absurd is
 
 pub stops_at_wider : (fails wider : Error → Type 0) (path : List ℕ) (stream : Option Stream) (f : RunFault) (stop : FileStop)
     → ((e : Error) → fails e → wider e) → StopsAt fails path stream f stop → StopsAt wider path stream f stop
-stops_at_wider fails wider path stream fault.Read stop more (f, is, at) = (f, read f is, at) where
-  read : (f : ElfFault) → IsReadFault fails stream f → IsReadFault wider stream f
-  read (Read error) is = more error is
-  read (DamagedStream name at) is = is
-  read other is = absurd is
+stops_at_wider fails wider path stream fault.Read stop more (f, is, at) =
+    (f, read_wider fails wider stream f more is, at)
 stops_at_wider fails wider path stream fault.NoMemory stop more at = at
 stops_at_wider fails wider path stream other stop more at = at
 
@@ -94,6 +97,25 @@ opening_stops_weaker : (fails wider : Error → Type 0) (path : List ℕ) (f : L
 opening_stops_weaker fails wider path f wanted stop more (fault, refuses, at) =
     (fault, refuses_weaker fails wider f wanted fault more refuses, at)
 
+named_wider : (fails wider : Error → Type 0) (dialect : Dialect) (content : Content) (names : Bool)
+    → ((e : Error) → fails e → wider e) → IsNamed fails dialect content names → IsNamed wider dialect content names
+named_wider fails wider dialect (Plain bytes) names more named = named
+named_wider fails wider dialect (Inflated name bytes damage) names more (inl named) = inl named
+named_wider fails wider dialect (Inflated name bytes damage) names more (inr (taken, (f, is))) =
+    inr (taken, (f, read_wider fails wider (Some (name, damage)) f more is))
+
+looks_wider : (read : FileUnits) (fails wider : Error → Type 0) (sections : Sections) (f : List ℕ) (wanted : Wanted)
+    → ((e : Error) → fails e → wider e) → LooksInto read fails sections f wanted → LooksInto read wider sections f wanted
+looks_wider read fails wider Lines f wanted more looks = looks
+looks_wider read fails wider LinesAndTexts f wanted more (t, has, inl none) = (t, has, inl none)
+looks_wider read fails wider LinesAndTexts f wanted more (t, has, inr (names, some, named, is)) =
+    (t, has, inr (names, some, named_wider fails wider (file_dialect read t) t.line names more named, is))
+
+pub has_table_wider : (read : FileUnits) (fails wider : Error → Type 0) (sections : Sections) (f : List ℕ) (t : LineTable)
+    → ((e : Error) → fails e → wider e) → HasTable read fails sections f t → HasTable read wider sections f t
+has_table_wider read fails wider sections f t more (wanted, looks, has) =
+    (wanted, looks_wider read fails wider sections f wanted more looks, has)
+
 pub table_stops_weaker : (read : FileUnits) (fails wider : Error → Type 0) (path : List ℕ) (sections : Sections) (f : List ℕ) (stop : FileStop)
     → ((e : Error) → fails e → wider e) → TableStops read fails path sections f stop → TableStops read wider path sections f stop
 table_stops_weaker read fails wider path Lines f stop more first =
@@ -107,5 +129,5 @@ table_stops_weaker read fails wider path LinesAndTexts f stop more (inr (t, has,
       t,
       has,
       some,
-      inr (names, named, opening_stops_weaker fails wider path f (with_strings names) stop more opening),
+      inr (names, named_wider fails wider (file_dialect read t) t.line names more named, opening_stops_weaker fails wider path f (with_strings names) stop more opening),
     )

@@ -5,6 +5,7 @@ use Rattle.std.specs.Prelude.{Option, Some, None, option_map, IfSome, Ok, Err}
 use Rattle.std.specs.declared.io.Error.{Error}
 use Rattle.dl_file.specs.declared.line_file.Wanted.{Wanted}
 use Rattle.dl_file.specs.declared.line_file.Wanted.TheVariants.{LineSection, LineAndLineStrings, LineAndStringSections}
+use Rattle.dl_elf.specs.declared.fault.ElfFault.{ElfFault}
 use Rattle.dl_elf.specs.declared.fault.ElfFault.TheVariants.{Read, NoMemory}
 use Rattle.dl_file.specs.LineTable.{Content, HasLineTable, Inflated, LineTable, Plain, TakesMemory}
 use Rattle.dl_elf.specs.declared.header.Class.{Class}
@@ -32,7 +33,7 @@ use Rattle.dl_open.specs.declared.fault.FileFault.{FileFault}
 use Rattle.dl_open.specs.declared.fault.FileFault.TheVariants.{Open, Elf, NoMemory as Refused}
 use Rattle.dl_open.specs.declared.stop.FileStop.{FileStop}
 use Rattle.dl_open.specs.Files.{FileStops}
-use Rattle.dl_open.specs.Stops.{IsAt, StopsAt, Stream}
+use Rattle.dl_open.specs.Stops.{IsAt, IsReadFault, StopsAt, Stream}
 
 -- ---- string sections of the file. fails: the errors that reading it may give
 
@@ -118,10 +119,11 @@ OpeningStops fails path f wanted stop = (fault : FileFault) × Refuses fails f w
 -- ---- .debug_str, which is looked into only where a table of the line section names it
 
 -- whether a table of a line section of these bytes names it. One that is inflated as it is read is taken to name it where
--- a read of its stream fails
-abbrev pub IsNamed : Dialect → Content → (names : Bool) → Type 0
-IsNamed dialect (Plain bytes) names = IsTrue names ↔ Names dialect bytes
-IsNamed dialect (Inflated name bytes damage) names = Names dialect bytes → IsTrue names
+-- a read of it fails
+abbrev pub IsNamed : (fails : Error → Type 0) → Dialect → Content → (names : Bool) → Type 0
+IsNamed fails dialect (Plain bytes) names = IsTrue names ↔ Names dialect bytes
+IsNamed fails dialect (Inflated name bytes damage) names = (IsTrue names ↔ Names dialect bytes)
+    ⊎ (IsTrue names × ((f : ElfFault) × IsReadFault fails (Some (name, damage)) f))
 
 -- it can't be told: a read failed, or memory was refused for a header, or the section is too long
 abbrev pub StopsNaming : Dialect → (known : Option (List ℕ)) → RunFault → Type 0
@@ -138,21 +140,21 @@ abbrev pub with_strings : (names : Bool) → Wanted
 with_strings names = if names then LineAndStringSections else LineAndLineStrings
 
 -- the sections that are looked into, of a file of which these units are read
-abbrev pub LooksInto : FileUnits → Sections → (f : List ℕ) → Wanted → Type 0
-LooksInto read Lines f wanted = wanted ≡ LineSection
-LooksInto read LinesAndTexts f wanted = (t : LineTable) × HasLineTable f LineAndLineStrings (Ok t)
+abbrev pub LooksInto : FileUnits → (fails : Error → Type 0) → Sections → (f : List ℕ) → Wanted → Type 0
+LooksInto read fails Lines f wanted = wanted ≡ LineSection
+LooksInto read fails LinesAndTexts f wanted = (t : LineTable) × HasLineTable f LineAndLineStrings (Ok t)
     × (((t.has_str ≡ false) × (wanted ≡ LineAndLineStrings))
-    ⊎ ((names : Bool) × (t.has_str ≡ true) × IsNamed (file_dialect read t) t.line names × (wanted ≡ with_strings names)))
+    ⊎ ((names : Bool) × (t.has_str ≡ true) × IsNamed fails (file_dialect read t) t.line names × (wanted ≡ with_strings names)))
 
 -- the file has this line table, with the string sections that are looked into
-abbrev pub HasTable : FileUnits → Sections → (f : List ℕ) → LineTable → Type 0
-HasTable read sections f t = (wanted : Wanted) × LooksInto read sections f wanted × HasLineTable f wanted (Ok t)
+abbrev pub HasTable : FileUnits → (fails : Error → Type 0) → Sections → (f : List ℕ) → LineTable → Type 0
+HasTable read fails sections f t = (wanted : Wanted) × LooksInto read fails sections f wanted × HasLineTable f wanted (Ok t)
 
 -- t, the line section and .debug_line_str, can be had: why no more, for the walk over the tables, or for what they name
 abbrev pub NamedStops : FileUnits → (fails : Error → Type 0) (path : List ℕ) (f : List ℕ) → LineTable → FileStop → Type 0
 NamedStops read fails path f t stop =
     NamingStops fails path (file_dialect read t) t.line stop
-    ⊎ ((names : Bool) × IsNamed (file_dialect read t) t.line names × OpeningStops fails path f (with_strings names) stop)
+    ⊎ ((names : Bool) × IsNamed fails (file_dialect read t) t.line names × OpeningStops fails path f (with_strings names) stop)
 
 -- why it can't be had: for the line section, or with texts for that and .debug_line_str, or where the file has .debug_str
 -- for more

@@ -67,7 +67,7 @@ fn is_named<'p, S: ReadAt>(
     line: &mut LineReader<'_, S>,
 ) -> Result<bool, FileStop<'p>>
     ensures { (source : _) (content : Content) → GivesLine S.all_bytes S.fails_with (S.fails_with source) line.old content
-        → MatchResult result (IsNamed dialect content) (NamingStops (S.fails_with source) path.entry.now dialect content) }
+        → MatchResult result (IsNamed (S.fails_with source) dialect content) (NamingStops (S.fails_with source) path.entry.now dialect content) }
 {
     let stream = line.stream_name();
     match names_str(alloc, dialect, line) {
@@ -138,7 +138,7 @@ fn with_named<'p, 'a, S: ReadAt>(
     ensures { ForBytes (S.all_bytes file.entry.now) (λ f. (t : LineTable)
         → GivesTable S.all_bytes S.fails_with (S.fails_with file.entry.now) table.entry t
         → HasLineTable f LineAndLineStrings (Ok t) → MatchResult result
-        (λ opened. (names : Bool) × IsNamed (file_dialect units t) t.line names × ((t2 : LineTable)
+        (λ opened. (names : Bool) × IsNamed (S.fails_with file.entry.now) (file_dialect units t) t.line names × ((t2 : LineTable)
         × HasLineTable f (with_strings names) (Ok t2)
         × GivesTable S.all_bytes S.fails_with (S.fails_with file.entry.now) opened t2))
         (NamedStops units (S.fails_with file.entry.now) path.entry.now f t)) }
@@ -167,7 +167,7 @@ fn with_texts<'p, 'a, S: ReadAt>(
     units: FileUnits,
 ) -> Result<LineFile<'a, S>, FileStop<'p>>
     ensures { ForBytes (S.all_bytes file.entry.now) (λ f. MatchResult result
-        (λ table. (t : LineTable) × HasTable units LinesAndTexts f t × GivesTable S.all_bytes S.fails_with (S.fails_with file.entry.now) table t)
+        (λ table. (t : LineTable) × HasTable units (S.fails_with file.entry.now) LinesAndTexts f t × GivesTable S.all_bytes S.fails_with (S.fails_with file.entry.now) table t)
         (TableStops units (S.fails_with file.entry.now) path.entry.now LinesAndTexts f)) }
 {
     let table = match opened(alloc, path, file, Wanted::LineAndLineStrings) {
@@ -190,7 +190,7 @@ pub fn open_table<'p, 'a, S: ReadAt>(
     sections: Sections,
 ) -> Result<LineFile<'a, S>, FileStop<'p>>
     ensures { ForBytes (S.all_bytes file.entry.now) (λ f. MatchResult result
-        (λ table. (t : LineTable) × HasTable units sections f t × GivesTable S.all_bytes S.fails_with (S.fails_with file.entry.now) table t)
+        (λ table. (t : LineTable) × HasTable units (S.fails_with file.entry.now) sections f t × GivesTable S.all_bytes S.fails_with (S.fails_with file.entry.now) table t)
         (TableStops units (S.fails_with file.entry.now) path.entry.now sections f)) }
 {
     match sections {

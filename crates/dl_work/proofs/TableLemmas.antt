@@ -17,7 +17,7 @@ use Rattle.dl_open.specs.declared.stop.FileStop.{FileStop}
 use Rattle.dl_open.specs.Parts.{PartStops}
 use Rattle.dl_open.specs.Tables.{IsWhole, bytes_of, file_dialect, stream_of}
 use Rattle.dl_open.specs.Stops.{Stream}
-use Rattle.dl_open.proofs.WiderLemmas.{keeping_wider, part_stops_weaker, stops_at_wider, strings_wider}
+use Rattle.dl_open.proofs.WiderLemmas.{has_table_wider, keeping_wider, part_stops_weaker, stops_at_wider, strings_wider}
 use Rattle.dl_open.proofs.WiderLemmas.{table_stops_weaker}
 use Rattle.dl_work.specs.declared.command.Command.{Command}
 use Rattle.dl_work.specs.Asked.{Does, WithoutTable, is_copy, looks_up, sections_of}
@@ -161,7 +161,7 @@ on_file_weaker refuses units fails wider path name command f start now hears res
 on_file_weaker refuses units fails wider path name command f start now hears result more (inr (t, has, found)) =
     inr (
       t,
-      has,
+      has_table_wider units fails wider (sections_of command) f t more has,
       on_found_weaker refuses (looks_up command) units fails wider path name command f t start now hears result more
           found,
     )

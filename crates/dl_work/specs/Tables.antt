@@ -96,5 +96,5 @@ abbrev pub OnFile : (refuses : ℕ → Type 0) → FileUnits → (fails : Error 
     → Outcome FileStop
 OnFile refuses units fails path name command f start now hears result =
     StopsEarly refuses command (TableStops units fails path (sections_of command) f) start now hears result
-    ⊎ ((t : LineTable) × HasTable units (sections_of command) f t
+    ⊎ ((t : LineTable) × HasTable units fails (sections_of command) f t
     × OnFound refuses units fails path name command f t start now hears result)

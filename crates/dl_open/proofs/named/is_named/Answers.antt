@@ -1,8 +1,21 @@
 use Rattle.std.proofs.Common.{◌∙◌, ℕ, List, Option, Err, ap, subst, sym}
 use Rattle.dl_open.specs.Stops.{StopsAs}
 use Rattle.dl_open.specs.Tables.{StopsNaming, stream_of}
+use Rattle.dl_file.specs.LineReader.{line_fault}
+use Rattle.dl_open.proofs.NamedLemmas.{unread_named}
 use Rattle.dl_open.proofs.ReaderLemmas.{reader_bytes, reader_stream, reader_told, stops_at}
 use Rattle.dl_open.proofs.named.is_named.Goals as goal
+
+pub returns-in-Err-Read : goal.returns-in-Err-Read
+returns-in-Err-Read g c source content gives =
+    let fails = g.S.ReadAt.fails_with source in
+    let line = c.args.line.now in
+    let named = reader_stream {S = g.row.S.Denot} g.S.ReadAt.all_bytes g.S.ReadAt.fails_with fails line content gives
+    ∙ sym c.stream_name-stream.ensures in
+    unread_named fails c.args.dialect content c.stream_name-stream.result (line_fault c.names_str.new.input) named
+    (sym c.is_some.ensures ∙ c.if-is_some.true)
+    (reader_told {S = g.row.S.Denot} g.S.ReadAt.all_bytes g.S.ReadAt.fails_with fails line c.names_str.new.input content gives
+    c.names_str.ensures.blames (c.in-Err-Read.is ∙ ap Err c.in-Err-Read.field-0-is))
 
 pub returns-in-Err : goal.returns-in-Err
 returns-in-Err g c source content gives =

@@ -5,7 +5,7 @@ use Rattle.dl_open.proofs.named.with_texts.Goals as goal
 pub returns-then-not-table : goal.returns-then-not-table
 returns-then-not-table g c f known short =
     let (t, has, given) = c.in-Ok.ensures f known short in
-    (t, without_section _ f t (sym given.has_str ∙ c.if-not-table.true) has, given)
+    (t, without_section _ (g.S.ReadAt.fails_with c.args.file.now) f t (sym given.has_str ∙ c.if-not-table.true) has, given)
 
 pub returns : goal.returns
 returns g c f known short =
