@@ -1,8 +1,8 @@
 //! A file that lies in memory.
 
+use dl_memory::Memory;
 use dl_open::FileSource;
 use dl_run::RunFault;
-use std::alloc::Global;
 use std::io;
 use std::io::Cursor;
 
@@ -25,12 +25,17 @@ impl<'a> FileSource for OneFile<'a> {
         Ok(Cursor::new(self.bytes))
     }
 
-    fn read_file(&self, alloc: Global, _path: &str, limit: u64) -> Result<Vec<u8>, RunFault> {
+    fn read_file<M: Memory>(
+        &self,
+        memory: &M,
+        _path: &str,
+        limit: u64,
+    ) -> Result<Vec<u8>, RunFault> {
         if self.bytes.len() as u64 > limit {
             return Err(RunFault::SectionTooLong);
         }
-        let mut found = Vec::new(alloc);
-        match found.extend_from_slice(self.bytes) {
+        let mut found = Vec::new(memory.alloc());
+        match memory.extend_from_slice(&mut found, self.bytes) {
             Ok(()) => Ok(found),
             Err(_) => Err(RunFault::NoMemory),
         }

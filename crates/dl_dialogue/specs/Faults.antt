@@ -1,4 +1,4 @@
--- Why nothing is told of an address, and when a write is blamed.
+-- Why nothing is told of an address, and when a read or a write is blamed.
 use Rattle.std.specs.Prelude.{⊤, ℕ, ◌+◌, ◌^◌, ◌<◌, List, Option, Result, Ok, Err, IfErr}
 use Rattle.std.specs.declared.io.Error.{Error}
 use Rattle.dl_memory.specs.Refusals.{WasRefused}
@@ -35,3 +35,11 @@ IsBlamed fails other = ⊤
 
 abbrev pub BlamesWriter : {A : Type 0} → (fails : Type 0) → Result A AnswerFault → Type 0
 BlamesWriter fails result = IfErr result (IsBlamed fails)
+
+-- the input wasn't read
+abbrev pub IsNoRead : AnswerFault → Type 0
+IsNoRead answer.Input = ⊥
+IsNoRead other = ⊤
+
+abbrev pub ReadsNothing : {A : Type 0} → Result A AnswerFault → Type 0
+ReadsNothing result = IfErr result IsNoRead

@@ -6,7 +6,7 @@ ghost use Rattle.dl_addr.specs.Locations.{location_seen};
 ghost use Rattle.dl_addr.specs.Commands.{is_answered};
 ghost use Rattle.dl_addr.specs.declared.question.Found.TheVariants as all_found;
 ghost use Rattle.dl_dialogue.specs.Answers.{AnswersAll, Manner, Determines, answer_by};
-ghost use Rattle.dl_dialogue.specs.Faults.{BlamesWriter, TellFails};
+ghost use Rattle.dl_dialogue.specs.Faults.{BlamesWriter, ReadsNothing, TellFails};
 ghost use Rattle.dl_dialogue.specs.Standing.{stopped, written};
 ghost use Rattle.dl_dialogue.specs.Staying.{Stays};
 
@@ -91,7 +91,7 @@ impl<'q> Answers<'q> {
     ghost use Rattle.std.specs.Io.KnownBytes.{Appends};
     ghost use Rattle.dl_dialogue.specs.Answers.{Determines, Manner, StopsBy, lines_by};
     ghost use Rattle.dl_asked.specs.AskedLines.{and_asked};
-    ghost use Rattle.dl_dialogue.specs.Faults.{BlamesWriter, TellFails};
+    ghost use Rattle.dl_dialogue.specs.Faults.{BlamesWriter, ReadsNothing, TellFails};
     ghost use Rattle.dl_dialogue.specs.Standing.{Stands};
     ghost use Rattle.dl_dialogue.specs.Staying.{Stays};
     ghost use Rattle.dl_print.specs.Printed.{Printed};
@@ -134,6 +134,7 @@ impl<'q> Answers<'q> {
             (λ _. Stands m start (W.contents output.new) (before ++ asked ∷ []) printer.new self.new)
             (StopsBy m (TellFails (T.fails_with first) (M.refuses memory.now)) start (W.contents output.new) (before ++ asked ∷ [])) }
         ensures blames_writer { BlamesWriter W.fails result }
+        ensures reads { ReadsNothing result }
     {
         match told(memory, teller, self.base, asked, &mut self.path) {
             Ok(location) => {
@@ -161,6 +162,7 @@ impl<'q> Answers<'q> {
             (λ _. Stands m start (W.contents output.new) (before ++ and_asked asked []) printer.new self.new)
             (StopsBy m (TellFails (T.fails_with first) (M.refuses memory.now)) start (W.contents output.new) (before ++ and_asked asked [])) }
         ensures blames_writer { BlamesWriter W.fails result }
+        ensures reads { ReadsNothing result }
     {
         match asked {
             Some(asked) => self.answer(memory, teller, printer, output, asked),
@@ -186,6 +188,7 @@ impl<'q> Answers<'q> {
             × Appends start (W.contents output.new) (lines_by m (before ++ and_asked asked [])))
             (StopsBy m (TellFails (T.fails_with first) (M.refuses memory.now)) start (W.contents output.new) (before ++ and_asked asked [])) }
         ensures blames_writer { BlamesWriter W.fails result }
+        ensures reads { ReadsNothing result }
     {
         self.answer_if_asked(memory, teller, printer, output, asked)?;
         self.flush(printer, output)
@@ -203,6 +206,7 @@ impl<'q> Answers<'q> {
             × Appends start (W.contents output.new) (lines_by m asked))
             (StopsBy m (λ _. ⊥) start (W.contents output.new) asked) }
         ensures blames_writer { BlamesWriter W.fails result }
+        ensures reads { ReadsNothing result }
     {
         written(printer.flush(output))
     }
@@ -224,6 +228,7 @@ pub fn answer_all<M: Memory, T: Tell, W: Destination>(
         → AnswersAll (record { style = style.entry; base = base; told = f }) (TellFails (T.fails_with teller.old) (M.refuses memory.now)) asked.now
         (W.contents output.old) (W.contents output.new) result }
     ensures blames_writer { BlamesWriter W.fails result }
+    ensures reads { ReadsNothing result }
 {
     let mut printer = Printer::new();
     let mut answers = Answers::new(memory.alloc(), style, base);

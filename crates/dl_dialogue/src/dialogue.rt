@@ -6,7 +6,7 @@ ghost use Rattle.dl_input.specs.Failing.{Blames};
 ghost use Rattle.dl_addr.specs.Location.{Location};
 ghost use Rattle.dl_dialogue.specs.Answers.{Determines};
 ghost use Rattle.dl_dialogue.specs.Dialogues.{AnswersLines, IsLong};
-ghost use Rattle.dl_dialogue.specs.Faults.{BlamesWriter, TellFails};
+ghost use Rattle.dl_dialogue.specs.Faults.{BlamesWriter, ReadsNothing, TellFails};
 
 use crate::answers::Answers;
 use crate::fault::AnswerFault;
@@ -42,7 +42,7 @@ impl<'q> Dialogue<'q> {
     ghost use Rattle.dl_asked.specs.AskedLines.{asked_in};
     ghost use Rattle.dl_dialogue.specs.Answers.{Determines, Manner, StopsBy};
     ghost use Rattle.dl_dialogue.specs.Dialogues.{Talks, StopsIn, Ends};
-    ghost use Rattle.dl_dialogue.specs.Faults.{BlamesWriter, TellFails};
+    ghost use Rattle.dl_dialogue.specs.Faults.{BlamesWriter, ReadsNothing, TellFails};
     ghost use Rattle.dl_dialogue.specs.Standing.{Speaks};
     ghost use Rattle.dl_dialogue.specs.Staying.{Stays};
     ghost use Rattle.dl_print.specs.Printed.{Printed};
@@ -78,6 +78,7 @@ impl<'q> Dialogue<'q> {
             (λ _. Talks m hex start (W.contents output.new) (done ++ piece.now) printer.new self.new)
             (StopsIn m hex (TellFails (T.fails_with first) (M.refuses memory.now)) start (W.contents output.new) (done ++ piece.now)) }
         ensures blames_writer { BlamesWriter W.fails result }
+        ensures reads { ReadsNothing result }
     {
         for byte in piece {
             self.take_byte(memory, teller, printer, output, *byte)?;
@@ -102,6 +103,7 @@ impl<'q> Dialogue<'q> {
             (λ _. Speaks m hex start (W.contents output.new) (done ++ byte ∷ []) printer.new self.new)
             (StopsIn m hex (TellFails (T.fails_with first) (M.refuses memory.now)) start (W.contents output.new) (done ++ byte ∷ [])) }
         ensures blames_writer { BlamesWriter W.fails result }
+        ensures reads { ReadsNothing result }
     {
         let asked = self.line.take(byte);
         self.answers
@@ -123,6 +125,7 @@ impl<'q> Dialogue<'q> {
             → MatchResult result (Ends m hex start (W.contents output.new) done)
             (StopsBy m (TellFails (T.fails_with first) (M.refuses memory.now)) start (W.contents output.new) (asked_in hex done)) }
         ensures blames_writer { BlamesWriter W.fails result }
+        ensures reads { ReadsNothing result }
     {
         let Dialogue { mut answers, line } = self;
         let LastLine { asked, no_address } = line.end();
@@ -157,7 +160,6 @@ pub fn answer_lines<M: Memory, T: Tell, R: Source, W: Destination>(
         → AnswersLines (record { style = style.entry; base = base; told = f }) hex (TellFails (T.fails_with teller.old) (M.refuses memory.now)) bs
         (R.remaining input.new) (W.contents output.old) (W.contents output.new) result) }
     ensures blames { Blames R.follows R.fails input.old input.new ((result ≡ Err AnswerFault.Input)
-        × ((f : ℕ → Option Location) × Determines (T.tells teller.old) f)
         × ¬ IsLong (R.remaining input.old) (R.remaining input.new)) }
     ensures blames_writer { BlamesWriter W.fails result }
 {

@@ -10,6 +10,11 @@ abbrev pub IfRead : {A : Type 0} → (Error → Type 0) → Result A ElfFault �
 IfRead Fails (Err (fault.Read error)) = Fails error
 IfRead Fails result = Unit {0}
 
+-- where memory is wanted, it was refused so
+abbrev pub IfRefused : {A : Type 0} → (Refused : Type 0) → Result A ElfFault → Type 0
+IfRefused Refused (Err fault.NoMemory) = Refused
+IfRefused Refused result = Unit {0}
+
 -- a read failed, or the answer is this one
 abbrev pub Answers : {A : Type 0} → Result A ElfFault → Result A ElfFault → Type 0
 Answers answer (Err (fault.Read error)) = Unit {0}

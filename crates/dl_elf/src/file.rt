@@ -5,7 +5,7 @@ ghost use Rattle.dl_elf.specs.Window.{Shows};
 ghost use Rattle.dl_elf.specs.Sections.{header_place, section_in, section_range, opened, section_count};
 ghost use Rattle.dl_elf.specs.Sections.{name_table_number, without_names};
 ghost use Rattle.dl_elf.specs.OpenedBySteps.{counted, opened_with, with_names};
-ghost use Rattle.dl_elf.specs.Answers.{AnswersOf, IfRead};
+ghost use Rattle.dl_elf.specs.Answers.{AnswersOf, IfRead, IfRefused};
 
 use crate::fault::{ElfFault, Part};
 use crate::header::FileHeader;
@@ -95,6 +95,7 @@ fn with_names<S: ReadAt>(
     ensures answer { AnswersOf (S.all_bytes source.now)
         (λ f. with_names header count f (section_in header f number)) result }
     ensures read { IfRead (S.fails_with source.now) result }
+    ensures refused { IfRefused ⊥ result }
 {
     let section = section_at(source, &mut Window::new(), &header, number)?;
     let Some(section) = section else {
@@ -121,6 +122,7 @@ fn counted<S: ReadAt>(
 ) -> Result<Elf, ElfFault>
     ensures answer { AnswersOf (S.all_bytes source.now) (λ f. counted header f count names) result }
     ensures read { IfRead (S.fails_with source.now) result }
+    ensures refused { IfRefused ⊥ result }
 {
     let Some(size) = count.checked_mul(header.entry_size) else {
         return Err(ElfFault::Damaged(Part::SectionHeaders));
@@ -172,6 +174,7 @@ fn name_table_number(header: &FileHeader, first: &SectionHeader) -> u64
 fn opened_with<S: ReadAt>(source: &S, header: FileHeader) -> Result<Elf, ElfFault>
     ensures answer { AnswersOf (S.all_bytes source.now) (λ f. opened_with f (Some header)) result }
     ensures read { IfRead (S.fails_with source.now) result }
+    ensures refused { IfRefused ⊥ result }
 {
     if header.table_offset == 0 {
         return Ok(without_names(header, 0));
@@ -195,6 +198,7 @@ fn opened_with<S: ReadAt>(source: &S, header: FileHeader) -> Result<Elf, ElfFaul
 pub fn open_elf<S: ReadAt>(source: &S) -> Result<Elf, ElfFault>
     ensures answer { AnswersOf (S.all_bytes source.now) opened result }
     ensures read { IfRead (S.fails_with source.now) result }
+    ensures refused { IfRefused ⊥ result }
 {
     let mut buffer = [0; 64];
     let n = fill(source, 0, &mut buffer)?;

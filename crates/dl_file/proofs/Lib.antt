@@ -12,3 +12,4 @@ pub mod PlaceLemmas
 pub mod InfoLemmas
 pub mod WholeLemmas
 pub mod ListedLemmas
+pub mod RefusedLemmas

@@ -1,10 +1,10 @@
 -- The bytes of a section, piece by piece, and what the entries of relocations in them make.
 use Rattle.std.proofs.Common.{◌≡◌, ℕ, zero, suc, ◌+◌, ◌-◌, ◌*◌, ◌<◌, ◌≤◌, true, List, [], ◌++◌, take, drop}
-use Rattle.std.proofs.Common.{length, min, option_map, Some, Ok, arith, rules, ap, ◌∙◌, refl, sym, inl, inr, length-drop, length-take}
+use Rattle.std.proofs.Common.{length, min, option_map, Some, Ok, arith, rules, ap, ◌∙◌, refl, sym, inl, inr, length-append, length-drop, length-take}
 use Rattle.std.specs.Int.{div_ceil}
 use Rattle.std.proofs.lemmas.Bool.{cases_lt}
 use Rattle.std.proofs.lemmas.List.{drop-drop, drop-take, length-take-le, take-append-le, take_all}
-use Rattle.std.proofs.Math.Nat.{mul_assoc, zero-div}
+use Rattle.std.proofs.Math.Nat.{div-le_self, mul_assoc, zero-div}
 use Rattle.std.proofs.Math.Seq.{take-add, take-take}
 use Rattle.dl_elf.specs.declared.file.Range.{Range}
 use Rattle.dl_elf.specs.declared.section.SectionHeader.{SectionHeader}
@@ -16,7 +16,8 @@ use Rattle.dl_reloc.specs.declared.target.Class.TheVariants.{Bits32, Bits64}
 use Rattle.dl_reloc.specs.declared.target.Form.{Form}
 use Rattle.dl_reloc.specs.declared.target.Form.TheVariants.{Rela, Rel}
 use Rattle.dl_reloc.specs.declared.target.Target.{Target}
-use Rattle.dl_reloc.specs.Entries.{AreWholeSymbols, entry_size, symbol_size, symbol_values, values_upto}
+use Rattle.dl_reloc.proofs.CountLemmas.{values_counted}
+use Rattle.dl_reloc.specs.Entries.{AreWholeSymbols, count, entry_size, symbol_size, symbol_values, values_upto}
 use Rattle.dl_reloc.specs.Relocated.{AreWhole, applied_upto, relocated}
 use Rattle.dl_file.specs.Relocations.{bytes_in, values_in}
 
@@ -145,3 +146,43 @@ values_of_section r s f t i values of within past is =
     let lies : bytes_in f s ≡ Some (section_bytes s f) = rw within refl in
     ap Some (is ∙ ap (symbol_values t.class t.order) (pieces_whole r s f i of within past))
     ∙ sym (ap (option_map (symbol_values t.class t.order)) lies)
+
+-- ---- how many there may be
+
+-- a range that lies in the file has no more bytes than the file
+pub range_most : (r : Range) (f : List ℕ) → range_within r f ≡ true → r.size ≤ length f
+range_most r f within =
+    omega (arith, range_long r.offset r.size f within, length-take r.size (drop r.offset f), length-drop r.offset f)
+
+-- nor have pieces of a section
+pub pieces_most : (s : SectionHeader) (f bytes piece : List ℕ) (m n : ℕ) → bytes ≡ take m (section_bytes s f)
+    → take m (section_bytes s f) ++ piece ≡ take n (section_bytes s f) → length bytes + length piece ≤ length f
+pieces_most s f bytes piece m n are next =
+    let all = section_bytes s f in
+    let range = section_range s in
+    omega (
+      arith,
+      ap length are,
+      ap length next,
+      length-append (take m all) piece,
+      length-take n all,
+      length-take range.size (drop range.offset f),
+      length-drop range.offset f,
+    )
+
+-- nor are there more symbols in them
+pub values_most : (t : Target) (s : SectionHeader) (f values piece : List ℕ) (m n : ℕ)
+    → values ≡ symbol_values t.class t.order (take m (section_bytes s f))
+    → take m (section_bytes s f) ++ piece ≡ take n (section_bytes s f)
+    → length values + count (symbol_size t.class) piece ≤ length f
+values_most t s f values piece m n are next =
+    let before = take m (section_bytes s f) in
+    let size = symbol_size t.class in
+    omega (
+      arith,
+      ap length are,
+      values_counted t.class t.order before (count size before),
+      div-le_self (length before) size,
+      div-le_self (length piece) size,
+      pieces_most s f before piece m n refl next,
+    )

@@ -10,6 +10,7 @@ use Rattle.dl_file.specs.declared.code.ExecutableRange.{ExecutableRange}
 use Rattle.dl_file.specs.declared.code.Code.{Code}
 use Rattle.dl_file.specs.declared.code.CodeFault.{CodeFault}
 use Rattle.dl_file.specs.declared.code.CodeFault.TheVariants.{Elf as Refused, NoMemory}
+use Rattle.dl_memory.specs.Refusals.{IsRefused}
 use Rattle.dl_elf.specs.Elf.{is_executable, is_linked}
 use Rattle.dl_elf.specs.Sections.{opened, section_headers, section_in}
 
@@ -46,6 +47,15 @@ IsCode f (Ok code) =
 IsCode f (Err NoMemory) = (e : Elf) × (opened f ≡ Ok e) × HasCode e f
 IsCode f (Err (Refused (fault.Read error))) = Unit {0}
 IsCode f (Err (Refused other)) = opened f ≡ Err other
+
+-- memory was refused for a list of no more ranges than the file has sections
+abbrev pub RangesRefused : (refuses : ℕ → Type 0) → List ℕ → Type 0
+RangesRefused refuses f = (e : Elf) × (opened f ≡ Ok e) × IsRefused refuses e.count
+
+-- where memory is wanted, it was refused so
+abbrev pub IfCodeRefused : {A : Type 0} → (Refusal : Type 0) → Result A CodeFault → Type 0
+IfCodeRefused Refusal (Err NoMemory) = Refusal
+IfCodeRefused Refusal result = Unit {0}
 
 -- where a read failed, its error is such a one
 abbrev pub IfCodeRead : {A : Type 0} → (Error → Type 0) → Result A CodeFault → Type 0

@@ -27,6 +27,10 @@ stream_fault r = r.fault
 abbrev pub stream_bytes : {S : Type 0} {g : _} → (S → Option (List ℕ)) → InflatedReader S g → Option (List ℕ)
 stream_bytes all_bytes r = known_range (all_bytes r.source.now) r.place.offset r.place.size
 
+-- how many bytes are to come, by what its header tells
+abbrev pub inflated_left : {S : Type 0} {g : _} → InflatedReader S g → ℕ
+inflated_left r = r.at.left
+
 -- what a stream inflates to, but for the bytes that were given; `left` are to come by what the header tells
 abbrev pub left_of : CompressionHeader → (stream : Option (List ℕ)) → (left : ℕ) → Option (List ℕ)
 left_of header stream left = option_map (λ b. drop (header.size - left) (inflated header b)) stream

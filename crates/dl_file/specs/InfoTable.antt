@@ -18,7 +18,7 @@ use Rattle.dl_elf.specs.Sections.{opened}
 use Rattle.dl_file.specs.declared.info_file.InfoFile.{InfoFile}
 use Rattle.dl_file.specs.declared.info_file.InfoSections.{InfoSections}
 use Rattle.dl_file.specs.declared.line_reader.LineReader.{LineReader}
-use Rattle.dl_file.specs.LineTable.{Content, Gives, GivesLine, GivesOption, HasStream, IsLine, content, option_or, refused}
+use Rattle.dl_file.specs.LineTable.{Content, Gives, GivesLine, GivesOption, HasStream, HoldsTooMuch, IsLine, content, option_or, refused}
 use Rattle.dl_file.specs.Relocations.{HasRelocations}
 
 -- ---- which sections
@@ -85,6 +85,12 @@ TakesMemoryForInfo e f c = HasRelocations e f c.info.number ⊎ (HasStream e f (
 abbrev pub TakesInfoMemory : List ℕ → Type 0
 TakesInfoMemory f = (e : Elf) × (opened f ≡ Ok e) × (at : Sections) × AreFound e f at
     × (c : InfoSections) × (info_sections e f at ≡ Some c) × TakesMemoryForInfo e f c
+
+-- .debug_info of a file with these bytes has relocations, and says that it inflates to more than 2^32 bytes, which aren't
+-- held
+abbrev pub InfoTooLong : List ℕ → Type 0
+InfoTooLong f = (e : Elf) × (opened f ≡ Ok e) × (at : Sections) × AreFound e f at
+    × (c : InfoSections) × (info_sections e f at ≡ Some c) × HoldsTooMuch e f c.info
 
 -- ---- readers
 

@@ -1,5 +1,5 @@
 -- What open_line_file answers. f: the bytes of a file; e: the file as it is opened.
-use Rattle.std.specs.Prelude.{◌≡◌, ◌⊎◌, ℕ, Bool, List, [], ◌∷◌, Option, Some, None, option_map, option_and_then}
+use Rattle.std.specs.Prelude.{◌≡◌, ◌⊎◌, ◌<◌, ◌^◌, ℕ, Bool, List, [], ◌∷◌, Option, Some, None, option_map, option_and_then}
 use Rattle.std.specs.Prelude.{Result, Ok, Err, MatchResult, MatchOption, is_some}
 use Rattle.dl_num.specs.declared.fixed.Order.{Order}
 use Rattle.dl_elf.specs.declared.file.Elf.{Elf}
@@ -206,6 +206,21 @@ TakesMemoryFor e f c = HasRelocations e f c.line.number ⊎ (HasStream e f (Some
 abbrev pub TakesMemory : List ℕ → Wanted → Type 0
 TakesMemory f wanted = (e : Elf) × (opened f ≡ Ok e) × (at : Sections) × AreFound e f at
     × (c : Chosen) × (chosen at wanted ≡ Some c) × TakesMemoryFor e f c
+
+-- ---- sections that are too long to be held
+
+-- a section is compressed, and says that it inflates to more than 2^32 bytes
+abbrev pub IsTooLong : Elf → List ℕ → NamedSection → Type 0
+IsTooLong e f s = (header : CompressionHeader) × (compression_header e f s ≡ Some header) × (2 ^ 32 < header.size)
+
+-- and it would be held, as it has relocations
+abbrev pub HoldsTooMuch : Elf → List ℕ → NamedSection → Type 0
+HoldsTooMuch e f s = HasRelocations e f s.number × IsTooLong e f s
+
+-- the line section of a file with these bytes is such a one
+abbrev pub LineTooLong : List ℕ → Wanted → Type 0
+LineTooLong f wanted = (e : Elf) × (opened f ≡ Ok e) × (at : Sections) × AreFound e f at
+    × (c : Chosen) × (chosen at wanted ≡ Some c) × HoldsTooMuch e f c.line
 
 -- ---- readers
 

@@ -2,10 +2,12 @@
 ghost use Rattle.std.specs.Prelude.{◌≡◌, IfOk, IfErr};
 ghost use Rattle.dl_elf.specs.Source.{ForBytes};
 ghost use Rattle.dl_elf.specs.Window.{Shows};
-ghost use Rattle.dl_file.specs.Code.{IsCode, IfCodeRead, StopsRanges, executable_range_at, executable_ranges};
+ghost use Rattle.dl_memory.specs.Refusals.{IsRefused, WasRefused};
+ghost use Rattle.dl_file.specs.Code.{IsCode, IfCodeRead, IfCodeRefused, RangesRefused};
+ghost use Rattle.dl_file.specs.Code.{StopsRanges, executable_range_at, executable_ranges};
 
 use dl_elf::{Elf, ElfFault, ReadAt, Window, open_elf, section_at};
-use std::alloc::Global;
+use dl_memory::{Memory, NoMemory};
 use std::io;
 
 /// The addresses of a section with code.
@@ -47,6 +49,17 @@ impl From<ElfFault> for CodeFault {
     }
 }
 
+impl From<NoMemory> for CodeFault {
+    ghost use Rattle.std.specs.Prelude.{◌≡◌};
+    ghost use Rattle.dl_file.specs.declared.code.CodeFault.TheVariants as code;
+
+    ghost from_gives = { λ refused given. given ≡ code.NoMemory };
+
+    fn from(_refused: NoMemory) -> CodeFault {
+        CodeFault::NoMemory
+    }
+}
+
 impl From<io::Error> for CodeFault {
     ghost use Rattle.std.specs.Prelude.{◌≡◌};
     ghost use Rattle.dl_file.specs.declared.code.CodeFault.TheVariants.{Elf};
@@ -82,8 +95,8 @@ fn executable_range_at<S: ReadAt>(
 }
 
 /// The addresses of all sections with code.
-fn executable_ranges<S: ReadAt>(
-    alloc: Global,
+fn executable_ranges<S: ReadAt, M: Memory>(
+    memory: &M,
     source: &S,
     elf: &Elf,
 ) -> Result<Vec<ExecutableRange>, CodeFault>
@@ -91,14 +104,14 @@ fn executable_ranges<S: ReadAt>(
         IfOk result (λ ranges. ranges.items ≡ executable_ranges elf.now f)) }
     ensures memory { ForBytes (S.all_bytes source.now) (λ f. IfErr result (StopsRanges elf.now f)) }
     ensures read { IfCodeRead (S.fails_with source.now) result }
+    ensures refused { IfCodeRefused (WasRefused (M.refuses memory.now)) result }
+    ensures most { IfCodeRefused (IsRefused (M.refuses memory.now) elf.now.count) result }
 {
     let mut window = Window::new();
-    let mut ranges = Vec::new(alloc);
+    let mut ranges = Vec::new(memory.alloc());
     for at in 1..elf.count {
         if let Some(range) = executable_range_at(source, &mut window, elf, at)? {
-            if ranges.push(range).is_err() {
-                return Err(CodeFault::NoMemory);
-            }
+            memory.push(&mut ranges, range)?;
         }
     }
     Ok(ranges)
@@ -108,12 +121,14 @@ fn executable_ranges<S: ReadAt>(
 ///
 /// `Elf` is the first fault of the file's headers, or `Read` where a read failed. Memory is taken for the ranges
 /// alone, as they are found; where a growth is refused the fault is `NoMemory`.
-pub fn find_code<S: ReadAt>(alloc: Global, source: &S) -> Result<Code, CodeFault>
+pub fn find_code<S: ReadAt, M: Memory>(memory: &M, source: &S) -> Result<Code, CodeFault>
     ensures code { ForBytes (S.all_bytes source.now) (λ f. IsCode f result) }
     ensures read { IfCodeRead (S.fails_with source.now) result }
+    ensures refused { IfCodeRefused (WasRefused (M.refuses memory.now)) result }
+    ensures most { ForBytes (S.all_bytes source.now) (λ f. IfCodeRefused (RangesRefused (M.refuses memory.now) f) result) }
 {
     let elf = open_elf(source)?;
-    let ranges = executable_ranges(alloc, source, &elf)?;
+    let ranges = executable_ranges(memory, source, &elf)?;
     Ok(Code {
         is_linked: elf.header.is_linked(),
         ranges,

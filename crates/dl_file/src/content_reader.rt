@@ -4,7 +4,7 @@ ghost use Rattle.std.specs.Io.{ReadsAtMost};
 ghost use Rattle.std.specs.Io.KnownBytes.{ReadConsumes};
 ghost use Rattle.std.specs.declared.io.Error.{Error};
 ghost use Rattle.dl_elf.specs.Source.{ForBytes};
-ghost use Rattle.dl_elf.specs.Answers.{IfRead};
+ghost use Rattle.dl_elf.specs.Answers.{IfRead, IfRefused};
 ghost use Rattle.dl_elf.specs.Sections.{range_within, section_range};
 ghost use Rattle.dl_elf.specs.Compressed.{compression_header};
 ghost use Rattle.dl_file.specs.Answering.{OpensContent};
@@ -12,6 +12,7 @@ ghost use Rattle.dl_file.specs.Faults.{IsReadOf, Tells};
 ghost use Rattle.dl_file.specs.ContentReader.{ContentFails, EndsBy, content_damage, content_fault, content_remaining};
 ghost use Rattle.dl_file.specs.ContentReader.{ContentFollows, ContentMayFail, stream_name};
 ghost use Rattle.dl_file.specs.LineTable.{HasStream, content};
+ghost use Rattle.dl_memory.specs.Refusals.{IsRefused, WasRefused};
 
 use crate::inflated_reader::InflatedReader;
 use crate::read_fault::ReadFault;
@@ -20,7 +21,7 @@ use dl_elf::{
     section_range,
 };
 use dl_input::Source;
-use std::alloc::Global;
+use dl_memory::Memory;
 use std::io;
 use std::io::Read;
 
@@ -37,8 +38,8 @@ impl<'a, S: ReadAt> ContentReader<'a, S> {
     /// Those of a section that lies in the file, and isn't compressed otherwise than with zlib.
     ///
     /// `NoMemory` where the section is compressed and memory for its stream is refused, `Read` where a read failed.
-    pub(crate) fn open(
-        alloc: Global,
+    pub(crate) fn open<M: Memory>(
+        memory: &M,
         source: &'a S,
         elf: &Elf,
         section: &NamedSection,
@@ -48,16 +49,15 @@ impl<'a, S: ReadAt> ContentReader<'a, S> {
         ensures opens { ForBytes (S.all_bytes source.entry.now) (λ f. OpensContent S.all_bytes S.fails_with (S.fails_with source.entry.now)
             (content elf.now f section.now) (HasStream elf.now f (Some section.now)) result) }
         ensures read { IfRead (S.fails_with source.entry.now) result }
+        ensures refused { IfRefused (WasRefused (M.refuses memory.now)) result }
+        ensures most { IfRefused (IsRefused (M.refuses memory.now) 1) result }
     {
         let range = section_range(&section.header);
         let Some(header) = compression_header(source, elf, section)? else {
             let reader = SectionReader::new(source, range.offset, range.size);
             return Ok(ContentReader::Plain(reader));
         };
-        match Box::new(
-            alloc,
-            InflatedReader::new(source, section.name, range, &header),
-        ) {
+        match memory.boxed(InflatedReader::new(source, section.name, range, &header)) {
             Ok(reader) => Ok(ContentReader::Inflated(reader)),
             Err(_) => Err(ElfFault::NoMemory),
         }

@@ -33,7 +33,8 @@ impl<'a, S: ReadAt> InflatedReader<'a, S> {
     ghost use Rattle.dl_elf.specs.Source.{ForBytes};
     ghost use Rattle.dl_file.specs.Faults.{FailsOnly};
     ghost use Rattle.dl_file.specs.Inflating.{damage, inflated, stream_in};
-    ghost use Rattle.dl_file.specs.ContentReader.{StreamFails, inflated_damage, inflated_name, inflated_remaining};
+    ghost use Rattle.dl_file.specs.ContentReader.{StreamFails, inflated_damage, inflated_left, inflated_name};
+    ghost use Rattle.dl_file.specs.ContentReader.{inflated_remaining};
     ghost use Rattle.dl_file.specs.ContentReader.{stream_fault};
 
     /// The bytes of the section of this name that stands there, and begins with this header.
@@ -49,6 +50,7 @@ impl<'a, S: ReadAt> InflatedReader<'a, S> {
             inflated_damage S.all_bytes result ≡ Some (damage header.now range.size (stream_in header.now range f))) }
         ensures fault { stream_fault result ≡ None }
         ensures name { inflated_name result ≡ name }
+        ensures left { inflated_left result ≡ header.now.size }
         ensures fails { ForBytes (S.all_bytes source.entry.now) (λ f. range_within range f ≡ true
             → FailsOnly (StreamFails S.all_bytes S.fails_with result) (S.fails_with source.entry.now)) }
     {
@@ -87,12 +89,12 @@ impl<'a, S: ReadAt> InflatedReader<'a, S> {
 }
 
 impl<'a, S: ReadAt> Read for InflatedReader<'a, S> {
-    ghost use Rattle.std.specs.Prelude.{◌≡◌, IfSome};
+    ghost use Rattle.std.specs.Prelude.{◌≡◌, ◌+◌, IfOk, IfSome};
     ghost use Rattle.std.specs.Io.{ReadsAtMost};
     ghost use Rattle.std.specs.Io.KnownBytes.{ReadConsumes};
     ghost use Rattle.std.specs.declared.io.Error.{Error};
     ghost use Rattle.dl_file.specs.Faults.{IsReadOf, Tells};
-    ghost use Rattle.dl_file.specs.ContentReader.{EndsBy, StreamFails, inflated_damage, inflated_name};
+    ghost use Rattle.dl_file.specs.ContentReader.{EndsBy, StreamFails, inflated_damage, inflated_left, inflated_name};
     ghost use Rattle.dl_file.specs.ContentReader.{inflated_remaining, stream_fault};
 
     ghost remaining = { inflated_remaining S.all_bytes };
@@ -109,6 +111,7 @@ impl<'a, S: ReadAt> Read for InflatedReader<'a, S> {
             → StreamFails S.all_bytes S.fails_with self.old error }
         ensures fault { Tells (stream_fault self.new) result }
         ensures name { inflated_name self.new ≡ inflated_name self.old }
+        ensures left { IfOk result (λ n. inflated_left self.new + n ≡ inflated_left self.old) }
     {
         match self.at.read_next(&self.told, buffer) {
             Ok(n) => {

@@ -1,23 +1,26 @@
 //! The sections of a file by which the directories of compilations are found.
+ghost use Rattle.std.specs.Prelude.{◌+◌, ◌^◌, length};
 ghost use Rattle.std.specs.Prelude.{◌≡◌, ◌⊎◌, ◌≤◌, ◌-◌, true, Some, option_and_then, IfOk, IfErr};
 ghost use Rattle.dl_elf.specs.Source.{ForBytes};
-ghost use Rattle.dl_elf.specs.Answers.{IfRead};
+ghost use Rattle.dl_elf.specs.Answers.{IfRead, IfRefused};
 ghost use Rattle.dl_elf.specs.Forward.{NoneForward};
 ghost use Rattle.dl_elf.specs.SectionsHeld.{slots, forward_of};
 ghost use Rattle.dl_elf.specs.Slots.{slot_of};
 ghost use Rattle.dl_elf.specs.Sections.{range_within, section_range};
 ghost use Rattle.dl_file.specs.Answering.{InfoLiesIn};
-ghost use Rattle.dl_file.specs.InfoTable.{IsInfoOf, OpensInfo, OpensInfoOf, OpensUnits, TakesMemoryForInfo, info_sections};
+ghost use Rattle.dl_file.specs.InfoTable.{IsInfoOf, OpensInfo, OpensInfoOf, OpensUnits, TakesMemoryForInfo};
+ghost use Rattle.dl_file.specs.InfoTable.{InfoTooLong, info_sections};
 ghost use Rattle.dl_file.specs.InfoTable.{named_section, readable};
-ghost use Rattle.dl_file.specs.LineTable.{HasStream, IsLine};
+ghost use Rattle.dl_file.specs.LineTable.{HasStream, HoldsTooMuch, IsLine};
+ghost use Rattle.dl_memory.specs.Refusals.{IsRefused, WasRefused};
 ghost use Rattle.dl_file.specs.Relocations.{HasRelocations};
 
 use crate::content_reader::ContentReader;
 use crate::line_file::{damage_of, line_reader, optional_reader, refused_compression};
 use crate::line_reader::LineReader;
 use dl_elf::{Elf, ElfFault, NamedSection, ReadAt, SectionName, Sections, find_sections, open_elf};
+use dl_memory::Memory;
 use dl_num::Order;
-use std::alloc::Global;
 use std::io;
 
 /// What a file has of its units of `.debug_info`.
@@ -139,8 +142,8 @@ fn find_info<S: ReadAt>(
 }
 
 /// A reader of `.debug_info`; None where its relocations can't be applied.
-fn info_reader<'a, S: ReadAt>(
-    alloc: Global,
+fn info_reader<'a, S: ReadAt, M: Memory>(
+    memory: &M,
     source: &'a S,
     elf: &Elf,
     sections: &Sections,
@@ -154,8 +157,12 @@ fn info_reader<'a, S: ReadAt>(
     ensures opens { ForBytes (S.all_bytes source.entry.now) (λ f. OpensUnits S.all_bytes S.fails_with (S.fails_with source.entry.now) (IsLine elf.now f info.now)
         (HasRelocations elf.now f info.now.number ⊎ HasStream elf.now f (Some info.now)) result) }
     ensures read { IfRead (S.fails_with source.entry.now) result }
+    ensures refused { ForBytes (S.all_bytes source.entry.now)
+        (λ f. IfRefused (WasRefused (M.refuses memory.now) ⊎ HoldsTooMuch elf.now f info.now) result) }
+    ensures most { ForBytes (S.all_bytes source.entry.now) (λ f.
+        IfRefused (IsRefused (M.refuses memory.now) (length f + 2 ^ 32) ⊎ HoldsTooMuch elf.now f info.now) result) }
 {
-    match line_reader(alloc, source, elf, sections, info) {
+    match line_reader(memory, source, elf, sections, info) {
         Ok(reader) => Ok(Some(reader)),
         Err(ElfFault::Read(error)) => Err(ElfFault::Read(error)),
         Err(ElfFault::NoMemory) => Err(ElfFault::NoMemory),
@@ -164,8 +171,8 @@ fn info_reader<'a, S: ReadAt>(
 }
 
 /// Readers of the bytes of these sections.
-fn open_found<'a, S: ReadAt>(
-    alloc: Global,
+fn open_found<'a, S: ReadAt, M: Memory>(
+    memory: &M,
     source: &'a S,
     elf: &Elf,
     sections: &Sections,
@@ -178,17 +185,21 @@ fn open_found<'a, S: ReadAt>(
     ensures opens { ForBytes (S.all_bytes source.entry.now) (λ f. OpensInfoOf S.all_bytes S.fails_with (S.fails_with source.entry.now)
         (IsInfoOf elf.now f found.now) (TakesMemoryForInfo elf.now f found.now) result) }
     ensures read { IfRead (S.fails_with source.entry.now) result }
+    ensures refused { ForBytes (S.all_bytes source.entry.now)
+        (λ f. IfRefused (WasRefused (M.refuses memory.now) ⊎ HoldsTooMuch elf.now f found.now.info) result) }
+    ensures most { ForBytes (S.all_bytes source.entry.now) (λ f.
+        IfRefused (IsRefused (M.refuses memory.now) (length f + 2 ^ 32) ⊎ HoldsTooMuch elf.now f found.now.info) result) }
 {
-    let Some(info) = info_reader(alloc, source, elf, sections, &found.info)? else {
+    let Some(info) = info_reader(memory, source, elf, sections, &found.info)? else {
         return Ok(None);
     };
     Ok(Some(InfoFile {
         order: elf.header.order,
         info,
-        abbreviations: ContentReader::open(alloc, source, elf, &found.abbreviations)?,
-        str_offsets: optional_reader(alloc, source, elf, found.str_offsets)?,
-        debug_str: optional_reader(alloc, source, elf, found.debug_str)?,
-        debug_line_str: optional_reader(alloc, source, elf, found.debug_line_str)?,
+        abbreviations: ContentReader::open(memory, source, elf, &found.abbreviations)?,
+        str_offsets: optional_reader(memory, source, elf, found.str_offsets)?,
+        debug_str: optional_reader(memory, source, elf, found.debug_str)?,
+        debug_line_str: optional_reader(memory, source, elf, found.debug_line_str)?,
     }))
 }
 
@@ -196,13 +207,18 @@ fn open_found<'a, S: ReadAt>(
 /// file has none that can be read: what is damaged in them, or compressed otherwise than with zlib, is no fault.
 ///
 /// `Read` where a read failed. Memory is taken only where a section is compressed, and where there are relocations of
-/// `.debug_info`, which is held then.
-pub fn open_info<'a, S: ReadAt>(
-    alloc: Global,
+/// `.debug_info`, which is held then. Where a growth is refused, or a compressed `.debug_info` with relocations inflates to
+/// more than 2^32 bytes, as it says, the fault is `NoMemory`, and nowhere else.
+pub fn open_info<'a, S: ReadAt, M: Memory>(
+    memory: &M,
     source: &'a S,
 ) -> Result<Option<InfoFile<'a, S>>, ElfFault>
     ensures opens { ForBytes (S.all_bytes source.entry.now) (λ f. OpensInfo S.all_bytes S.fails_with (S.fails_with source.entry.now) f result) }
     ensures read { IfRead (S.fails_with source.entry.now) result }
+    ensures refused { ForBytes (S.all_bytes source.entry.now)
+        (λ f. IfRefused (WasRefused (M.refuses memory.now) ⊎ InfoTooLong f) result) }
+    ensures most { ForBytes (S.all_bytes source.entry.now) (λ f.
+        IfRefused (IsRefused (M.refuses memory.now) (length f + 2 ^ 32) ⊎ InfoTooLong f) result) }
 {
     let elf = match open_elf(source) {
         Ok(elf) => elf,
@@ -213,5 +229,5 @@ pub fn open_info<'a, S: ReadAt>(
     let Some(found) = find_info(source, &elf, &sections)? else {
         return Ok(None);
     };
-    open_found(alloc, source, &elf, &sections, &found)
+    open_found(memory, source, &elf, &sections, &found)
 }

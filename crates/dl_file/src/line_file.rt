@@ -1,7 +1,8 @@
 //! The sections of a file's line table.
+ghost use Rattle.std.specs.Prelude.{◌+◌, ◌^◌, length};
 ghost use Rattle.std.specs.Prelude.{◌≡◌, ◌≤◌, ◌-◌, ◌⊎◌, Some, true, option_map, option_and_then, IfOk, IfErr};
 ghost use Rattle.dl_elf.specs.Source.{ForBytes};
-ghost use Rattle.dl_elf.specs.Answers.{IfRead};
+ghost use Rattle.dl_elf.specs.Answers.{IfRead, IfRefused};
 ghost use Rattle.dl_elf.specs.Sections.{range_within, section_range};
 ghost use Rattle.dl_elf.specs.Compressed.{section_damage};
 ghost use Rattle.dl_elf.specs.Slots.{slot_of};
@@ -10,6 +11,8 @@ ghost use Rattle.dl_elf.specs.Forward.{NoneForward};
 ghost use Rattle.dl_file.specs.Answering.{LiesIn, OpensLine, OpensOption, OpensTable};
 ghost use Rattle.dl_file.specs.Relocations.{HasRelocations};
 ghost use Rattle.dl_file.specs.LineTable.{HasStream, IsLine, IsTableOf, Opens, TakesMemoryFor, content, refused};
+ghost use Rattle.dl_file.specs.LineTable.{HoldsTooMuch, LineTooLong};
+ghost use Rattle.dl_memory.specs.Refusals.{IsRefused, WasRefused};
 ghost use Rattle.dl_file.specs.LineTable.{first_damage, first_refused, line_section, debug_line_str_section};
 ghost use Rattle.dl_file.specs.LineTable.{debug_str_section};
 
@@ -21,8 +24,8 @@ use dl_elf::{
     Class, Compression, Elf, ElfFault, NamedSection, Part, ReadAt, SectionName, Sections,
     compression_header, find_sections, open_elf, read_build_id, section_damage,
 };
+use dl_memory::Memory;
 use dl_num::Order;
-use std::alloc::Global;
 use std::io;
 use std::io::Cursor;
 
@@ -206,8 +209,8 @@ fn first_refused<S: ReadAt>(
 }
 
 /// A reader of a section's bytes where there is a section.
-pub fn optional_reader<'a, S: ReadAt>(
-    alloc: Global,
+pub fn optional_reader<'a, S: ReadAt, M: Memory>(
+    memory: &M,
     source: &'a S,
     elf: &Elf,
     section: Option<NamedSection>,
@@ -216,17 +219,19 @@ pub fn optional_reader<'a, S: ReadAt>(
     ensures opens { ForBytes (S.all_bytes source.entry.now) (λ f. OpensOption S.all_bytes S.fails_with (S.fails_with source.entry.now)
         (option_map (content elf.now f) section) (HasStream elf.now f section) result) }
     ensures read { IfRead (S.fails_with source.entry.now) result }
+    ensures refused { IfRefused (WasRefused (M.refuses memory.now)) result }
+    ensures most { IfRefused (IsRefused (M.refuses memory.now) 1) result }
 {
     match section {
-        Some(section) => Ok(Some(ContentReader::open(alloc, source, elf, &section)?)),
+        Some(section) => Ok(Some(ContentReader::open(memory, source, elf, &section)?)),
         None => Ok(None),
     }
 }
 
 /// A reader of the line section's bytes. Those of an object file are held in memory where it has
 /// relocations of the section, and these are applied.
-pub fn line_reader<'a, S: ReadAt>(
-    alloc: Global,
+pub fn line_reader<'a, S: ReadAt, M: Memory>(
+    memory: &M,
     source: &'a S,
     elf: &Elf,
     sections: &Sections,
@@ -240,18 +245,22 @@ pub fn line_reader<'a, S: ReadAt>(
     ensures opens { ForBytes (S.all_bytes source.entry.now) (λ f. OpensLine S.all_bytes S.fails_with (S.fails_with source.entry.now) (IsLine elf.now f line.now)
         (HasRelocations elf.now f line.now.number ⊎ HasStream elf.now f (Some line.now)) result) }
     ensures read { IfRead (S.fails_with source.entry.now) result }
+    ensures refused { ForBytes (S.all_bytes source.entry.now)
+        (λ f. IfRefused (WasRefused (M.refuses memory.now) ⊎ HoldsTooMuch elf.now f line.now) result) }
+    ensures most { ForBytes (S.all_bytes source.entry.now) (λ f.
+        IfRefused (IsRefused (M.refuses memory.now) (length f + 2 ^ 32) ⊎ HoldsTooMuch elf.now f line.now) result) }
 {
     let relocations = find_relocations(source, elf, sections, line.number)?;
     if relocations.count == 0 {
-        let reader = ContentReader::open(alloc, source, elf, line)?;
+        let reader = ContentReader::open(memory, source, elf, line)?;
         return Ok(LineReader::File(reader));
     }
     if MOST_RELOCATIONS < relocations.count {
         return Err(ElfFault::Damaged(Part::Relocations(line.name)));
     }
-    let mut bytes = whole_bytes(alloc, source, elf, line)?;
+    let mut bytes = whole_bytes(memory, source, elf, line)?;
     relocate_line(
-        alloc,
+        memory,
         source,
         elf,
         line,
@@ -262,8 +271,8 @@ pub fn line_reader<'a, S: ReadAt>(
 }
 
 /// Readers of the bytes of the wanted sections.
-fn open_chosen<'a, S: ReadAt>(
-    alloc: Global,
+fn open_chosen<'a, S: ReadAt, M: Memory>(
+    memory: &M,
     source: &'a S,
     elf: &Elf,
     sections: &Sections,
@@ -275,6 +284,10 @@ fn open_chosen<'a, S: ReadAt>(
     ensures opens { ForBytes (S.all_bytes source.entry.now) (λ f. OpensTable S.all_bytes S.fails_with (S.fails_with source.entry.now)
         (IsTableOf elf.now f chosen.now) (TakesMemoryFor elf.now f chosen.now) result) }
     ensures read { IfRead (S.fails_with source.entry.now) result }
+    ensures refused { ForBytes (S.all_bytes source.entry.now)
+        (λ f. IfRefused (WasRefused (M.refuses memory.now) ⊎ HoldsTooMuch elf.now f chosen.now.line) result) }
+    ensures most { ForBytes (S.all_bytes source.entry.now) (λ f.
+        IfRefused (IsRefused (M.refuses memory.now) (length f + 2 ^ 32) ⊎ HoldsTooMuch elf.now f chosen.now.line) result) }
 {
     if let Some(part) = first_damage(source, elf, chosen)? {
         return Err(ElfFault::Damaged(part));
@@ -286,9 +299,9 @@ fn open_chosen<'a, S: ReadAt>(
         order: elf.header.order,
         class: elf.header.class,
         is_object: elf.header.is_object(),
-        line: line_reader(alloc, source, elf, sections, &chosen.line)?,
-        debug_line_str: optional_reader(alloc, source, elf, chosen.debug_line_str)?,
-        debug_str: optional_reader(alloc, source, elf, chosen.debug_str)?,
+        line: line_reader(memory, source, elf, sections, &chosen.line)?,
+        debug_line_str: optional_reader(memory, source, elf, chosen.debug_line_str)?,
+        debug_str: optional_reader(memory, source, elf, chosen.debug_str)?,
         has_debug_str: chosen.has_debug_str,
     })
 }
@@ -311,14 +324,18 @@ fn open_chosen<'a, S: ReadAt>(
 /// taken only where a wanted section is compressed, some 128 KiB for each, and where there are relocations
 /// of the line section: for its bytes, and of one section of relocations at a time for the values of the symbols, 8
 /// bytes each, and for its bytes where its type is SHT_CREL. Where a growth is refused, or a compressed line section
-/// with relocations inflates to more than 2^32 bytes, as it says, the fault is `NoMemory`.
-pub fn open_line_file<'a, S: ReadAt>(
-    alloc: Global,
+/// with relocations inflates to more than 2^32 bytes, as it says, the fault is `NoMemory`, and nowhere else.
+pub fn open_line_file<'a, S: ReadAt, M: Memory>(
+    memory: &M,
     source: &'a S,
     wanted: Wanted,
 ) -> Result<LineFile<'a, S>, ElfFault>
     ensures opens { ForBytes (S.all_bytes source.entry.now) (λ f. Opens S.all_bytes S.fails_with (S.fails_with source.entry.now) f wanted result) }
     ensures read { IfRead (S.fails_with source.entry.now) result }
+    ensures refused { ForBytes (S.all_bytes source.entry.now)
+        (λ f. IfRefused (WasRefused (M.refuses memory.now) ⊎ LineTooLong f wanted) result) }
+    ensures most { ForBytes (S.all_bytes source.entry.now) (λ f.
+        IfRefused (IsRefused (M.refuses memory.now) (length f + 2 ^ 32) ⊎ LineTooLong f wanted) result) }
 {
     let elf = open_elf(source)?;
     let sections = find_sections(source, &elf)?;
@@ -326,5 +343,5 @@ pub fn open_line_file<'a, S: ReadAt>(
         let note = sections.get(SectionName::BuildIdNote);
         return Err(ElfFault::NoLineSection(read_build_id(source, &elf, note)?));
     };
-    open_chosen(alloc, source, &elf, &sections, &chosen)
+    open_chosen(memory, source, &elf, &sections, &chosen)
 }

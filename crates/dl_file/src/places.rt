@@ -1,10 +1,11 @@
 //! The places of a line section that relocations change, with the sections of their symbols. System V ABI, chapter 4.
-ghost use Rattle.std.specs.Prelude.{◌≡◌, ◌≤◌, ◌-◌, Ok, Some, OnOk, IfOk, IfErr, option_map};
+ghost use Rattle.std.specs.Prelude.{◌≡◌, ◌≤◌, ◌-◌, length, Ok, Some, OnOk, IfOk, IfErr, option_map};
 ghost use Rattle.dl_elf.specs.Source.{ForBytes};
-ghost use Rattle.dl_elf.specs.Answers.{IfRead};
+ghost use Rattle.dl_elf.specs.Answers.{IfRead, IfRefused};
 ghost use Rattle.dl_elf.specs.Window.{Shows};
 ghost use Rattle.dl_elf.specs.SectionsHeld.{forward_of};
 ghost use Rattle.dl_elf.specs.Forward.{NoneForward};
+ghost use Rattle.dl_memory.specs.Refusals.{IsRefused, WasRefused};
 ghost use Rattle.dl_file.specs.Answering.{StopsListing, StopsReading};
 ghost use Rattle.dl_file.specs.OneByOne.{placed_at, placed_upto, relocations_upto, wide_at};
 ghost use Rattle.dl_file.specs.Relocations.{HasRelocations, bytes_in};
@@ -17,16 +18,16 @@ use dl_elf::{
     Elf, ElfFault, NamedSection, Part, ReadAt, SectionHeader, SectionName, Sections, Window,
     find_sections, open_elf, section_at,
 };
+use dl_memory::Memory;
 use dl_reloc::{Placed, push_compact_places, push_places};
-use std::alloc::Global;
 use std::io;
 
 /// The type of a section with the numbers of sections that don't fit the symbols of a table (SHT_SYMTAB_SHNDX).
 const SYMTAB_SHNDX: u64 = 18;
 
 /// The bytes of the symbol table of this number, none of number 0; None where it doesn't lie in the file.
-fn read_table<S: ReadAt>(
-    alloc: Global,
+fn read_table<S: ReadAt, M: Memory>(
+    memory: &M,
     source: &S,
     elf: &Elf,
     number: u64,
@@ -34,15 +35,17 @@ fn read_table<S: ReadAt>(
     ensures bytes { ForBytes (S.all_bytes source.now) (λ f.
         IfOk result (λ read. option_map (λ v. v.items) read ≡ table_in elf.now f number)) }
     ensures stops { IfErr result (StopsReading (S.fails_with source.now)) }
+    ensures refused { IfRefused (WasRefused (M.refuses memory.now)) result }
+    ensures most { ForBytes (S.all_bytes source.now) (λ f. IfRefused (IsRefused (M.refuses memory.now) (length f)) result) }
 {
     if number == 0 {
-        return Ok(Some(Vec::new(alloc)));
+        return Ok(Some(Vec::new(memory.alloc())));
     }
     if elf.count <= number {
         return Ok(None);
     }
     match section_at(source, &mut Window::new(), &elf.header, number)? {
-        Some(section) => read_bytes(alloc, source, &section),
+        Some(section) => read_bytes(memory, source, &section),
         None => Ok(None),
     }
 }
@@ -85,8 +88,8 @@ fn find_wide<S: ReadAt>(source: &S, elf: &Elf, number: u64) -> io::Result<Option
 }
 
 /// Its bytes, none where there is no such section; None where they don't lie in the file.
-fn read_wide<S: ReadAt>(
-    alloc: Global,
+fn read_wide<S: ReadAt, M: Memory>(
+    memory: &M,
     source: &S,
     elf: &Elf,
     number: u64,
@@ -94,16 +97,18 @@ fn read_wide<S: ReadAt>(
     ensures bytes { ForBytes (S.all_bytes source.now) (λ f.
         IfOk result (λ read. option_map (λ v. v.items) read ≡ wide_in elf.now f number)) }
     ensures stops { IfErr result (StopsReading (S.fails_with source.now)) }
+    ensures refused { IfRefused (WasRefused (M.refuses memory.now)) result }
+    ensures most { ForBytes (S.all_bytes source.now) (λ f. IfRefused (IsRefused (M.refuses memory.now) (length f)) result) }
 {
     match find_wide(source, elf, number)? {
-        Some(section) => read_bytes(alloc, source, &section),
-        None => Ok(Some(Vec::new(alloc))),
+        Some(section) => read_bytes(memory, source, &section),
+        None => Ok(Some(Vec::new(memory.alloc()))),
     }
 }
 
 /// Puts the places of a section of relocations after the others.
-fn push_section<S: ReadAt>(
-    alloc: Global,
+fn push_section<S: ReadAt, M: Memory>(
+    memory: &M,
     source: &S,
     elf: &Elf,
     name: SectionName,
@@ -117,21 +122,30 @@ fn push_section<S: ReadAt>(
         (placed_by elf.now name section.now (bytes_in f section.now) (table_in elf.now f section.now.link)
         (wide_in elf.now f section.now.link) places.old.items) (Unit {0}))) }
     ensures read { IfRead (S.fails_with source.now) result }
+    ensures refused { IfRefused (WasRefused (M.refuses memory.now)) result }
 {
-    let Some(entries) = read_bytes(alloc, source, section)? else {
+    let Some(entries) = read_bytes(memory, source, section)? else {
         return Err(ElfFault::Damaged(Part::Relocations(name)));
     };
-    let Some(table) = read_table(alloc, source, elf, section.link)? else {
+    let Some(table) = read_table(memory, source, elf, section.link)? else {
         return Err(ElfFault::Damaged(Part::Symbols(name)));
     };
-    let Some(wide) = read_wide(alloc, source, elf, section.link)? else {
+    let Some(wide) = read_wide(memory, source, elf, section.link)? else {
         return Err(ElfFault::Damaged(Part::Symbols(name)));
     };
     let target = target_of(elf);
     let pushed = if section.section_type == CREL {
-        push_compact_places(&target, &entries, &table, &wide, places)
+        push_compact_places(memory, &target, &entries, &table, &wide, places)
     } else {
-        push_places(&target, form_of(section), &entries, &table, &wide, places)
+        push_places(
+            memory,
+            &target,
+            form_of(section),
+            &entries,
+            &table,
+            &wide,
+            places,
+        )
     };
     if pushed.is_err() {
         return Err(ElfFault::NoMemory);
@@ -140,8 +154,8 @@ fn push_section<S: ReadAt>(
 }
 
 /// Puts the places of section `at` after the others, where it is of relocations of the line section.
-fn push_at<S: ReadAt>(
-    alloc: Global,
+fn push_at<S: ReadAt, M: Memory>(
+    memory: &M,
     source: &S,
     window: &mut Window,
     elf: &Elf,
@@ -156,6 +170,7 @@ fn push_at<S: ReadAt>(
     ensures stops { ForBytes (S.all_bytes source.now) (λ f. IfErr result
         (StopsListing (placed_at elf.now f line.now at places.old.items) (Unit {0}))) }
     ensures read { IfRead (S.fails_with source.now) result }
+    ensures refused { IfRefused (WasRefused (M.refuses memory.now)) result }
 {
     let Some(section) = section_at(source, window, &elf.header, at)? else {
         return Err(ElfFault::Damaged(Part::SectionHeaders));
@@ -163,12 +178,12 @@ fn push_at<S: ReadAt>(
     if !section.relocates(line.number) {
         return Ok(());
     }
-    push_section(alloc, source, elf, line.name, &section, places)
+    push_section(memory, source, elf, line.name, &section, places)
 }
 
 /// The places of all sections of relocations of the line section, of which none stands before section `first`.
-fn list_places<S: ReadAt>(
-    alloc: Global,
+fn list_places<S: ReadAt, M: Memory>(
+    memory: &M,
     source: &S,
     elf: &Elf,
     line: &NamedSection,
@@ -183,18 +198,19 @@ fn list_places<S: ReadAt>(
     ensures stops { ForBytes (S.all_bytes source.now) (λ f. IfErr result
         (StopsListing (placed_upto elf.now f line.now (elf.now.count - 1)) (Unit {0}))) }
     ensures read { IfRead (S.fails_with source.now) result }
+    ensures refused { IfRefused (WasRefused (M.refuses memory.now)) result }
 {
     let mut window = Window::new();
-    let mut places = Vec::new(alloc);
+    let mut places = Vec::new(memory.alloc());
     for at in first..elf.count {
-        push_at(alloc, source, &mut window, elf, line, at, &mut places)?;
+        push_at(memory, source, &mut window, elf, line, at, &mut places)?;
     }
     Ok(places)
 }
 
 /// The places of a line section.
-fn line_places<S: ReadAt>(
-    alloc: Global,
+fn line_places<S: ReadAt, M: Memory>(
+    memory: &M,
     source: &S,
     elf: &Elf,
     sections: &Sections,
@@ -208,15 +224,16 @@ fn line_places<S: ReadAt>(
     ensures stops { ForBytes (S.all_bytes source.now) (λ f. IfErr result
         (StopsListing (line_places elf.now f line.now) (HasRelocations elf.now f line.now.number))) }
     ensures read { IfRead (S.fails_with source.now) result }
+    ensures refused { IfRefused (WasRefused (M.refuses memory.now)) result }
 {
     let relocations = find_relocations(source, elf, sections, line.number)?;
     if relocations.count == 0 {
-        return Ok(Vec::new(alloc));
+        return Ok(Vec::new(memory.alloc()));
     }
     if MOST_RELOCATIONS < relocations.count {
         return Err(ElfFault::Damaged(Part::Relocations(line.name)));
     }
-    list_places(alloc, source, elf, line, relocations.first)
+    list_places(memory, source, elf, line, relocations.first)
 }
 
 /// The places of a file's line section that its relocations change, in the order of the sections of relocations and of
@@ -228,15 +245,16 @@ fn line_places<S: ReadAt>(
 /// the file, or where more than 16 sections are of relocations of the line section. Memory is taken where there are
 /// relocations: for the bytes of one section of them at a time, for its symbols, and for the places. Where a growth is
 /// refused the fault is `NoMemory`.
-pub fn find_places<S: ReadAt>(alloc: Global, source: &S) -> Result<Vec<Placed>, ElfFault>
+pub fn find_places<S: ReadAt, M: Memory>(memory: &M, source: &S) -> Result<Vec<Placed>, ElfFault>
     ensures places { ForBytes (S.all_bytes source.now) (λ f. IfOk result (λ v. ArePlaces f (Ok v.items))) }
     ensures stops { ForBytes (S.all_bytes source.now) (λ f. IfErr result (StopsPlaces f)) }
     ensures read { IfRead (S.fails_with source.now) result }
+    ensures refused { IfRefused (WasRefused (M.refuses memory.now)) result }
 {
     let elf = open_elf(source)?;
     let sections = find_sections(source, &elf)?;
     match line_section(&sections) {
-        Some(line) => line_places(alloc, source, &elf, &sections, &line),
-        None => Ok(Vec::new(alloc)),
+        Some(line) => line_places(memory, source, &elf, &sections, &line),
+        None => Ok(Vec::new(memory.alloc())),
     }
 }

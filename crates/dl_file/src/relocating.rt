@@ -1,11 +1,12 @@
 //! The relocations of a line section, applied. System V ABI, chapter 4, "Relocation".
-ghost use Rattle.std.specs.Prelude.{◌≡◌, ◌-◌, ◌≤◌, Ok, Some, true, IfOk};
+ghost use Rattle.std.specs.Prelude.{◌≡◌, ◌-◌, ◌≤◌, length, Ok, Some, true, IfOk};
 ghost use Rattle.dl_elf.specs.Source.{ForBytes};
-ghost use Rattle.dl_elf.specs.Answers.{IfRead};
+ghost use Rattle.dl_elf.specs.Answers.{IfRead, IfRefused};
 ghost use Rattle.dl_elf.specs.Sections.{range_within, section_bytes, section_range};
 ghost use Rattle.dl_elf.specs.Window.{Shows};
 ghost use Rattle.dl_elf.specs.SectionsHeld.{forward_of};
 ghost use Rattle.dl_elf.specs.Forward.{NoneForward};
+ghost use Rattle.dl_memory.specs.Refusals.{IsRefused, WasRefused};
 ghost use Rattle.dl_file.specs.Answering.{AreFound, IsCounted, IsMade};
 ghost use Rattle.dl_file.specs.OneByOne.{relocated_at, relocated_upto, relocations_at, relocations_upto};
 ghost use Rattle.dl_file.specs.Relocations.{by_compact, bytes_in, symbols_in};
@@ -16,8 +17,8 @@ use dl_elf::{
     Elf, ElfFault, NamedSection, Part, ReadAt, SectionHeader, SectionName, Sections, Window,
     lies_within, section_at, section_range,
 };
+use dl_memory::Memory;
 use dl_reloc::{Class, Form, RelocationFault, Target, relocate, relocate_compact};
-use std::alloc::Global;
 
 /// The type of a section of relocations with addends (SHT_RELA).
 const RELA: u64 = 4;
@@ -86,6 +87,7 @@ fn relocate_pieces<S: ReadAt>(
     ensures made { ForBytes (S.all_bytes source.now) (λ f. IsMade (by_entries elf.now name (form_of section.now)
         (Some (section_bytes section.now f)) (Some symbols.now) bytes.old) bytes.new result) }
     ensures read { IfRead (S.fails_with source.now) result }
+    ensures refused { IfRefused ⊥ result }
 {
     let range = section_range(section);
     let target = target_of(elf);
@@ -104,8 +106,8 @@ fn relocate_pieces<S: ReadAt>(
 
 /// Applies the entries of a section of compact relocations to the bytes of the section of this name. It is held in
 /// memory, since its entries don't say where in it the next one begins.
-fn relocate_by_compact<S: ReadAt>(
-    alloc: Global,
+fn relocate_by_compact<S: ReadAt, M: Memory>(
+    memory: &M,
     source: &S,
     elf: &Elf,
     name: SectionName,
@@ -115,11 +117,13 @@ fn relocate_by_compact<S: ReadAt>(
     ensures made { ForBytes (S.all_bytes source.now) (λ f. IsMade (by_compact elf.now name
         (bytes_in f section.now) (symbols_in elf.now f section.now.link) bytes.old) bytes.new result) }
     ensures read { IfRead (S.fails_with source.now) result }
+    ensures refused { IfRefused (WasRefused (M.refuses memory.now)) result }
+    ensures most { ForBytes (S.all_bytes source.now) (λ f. IfRefused (IsRefused (M.refuses memory.now) (length f)) result) }
 {
-    let Some(entries) = read_bytes(alloc, source, section)? else {
+    let Some(entries) = read_bytes(memory, source, section)? else {
         return Err(ElfFault::Damaged(Part::Relocations(name)));
     };
-    let Some(symbols) = read_symbols(alloc, source, elf, section.link)? else {
+    let Some(symbols) = read_symbols(memory, source, elf, section.link)? else {
         return Err(ElfFault::Damaged(Part::Symbols(name)));
     };
     let target = target_of(elf);
@@ -130,8 +134,8 @@ fn relocate_by_compact<S: ReadAt>(
 }
 
 /// Applies the entries of a section of relocations to the bytes of the section of this name.
-fn relocate_by<S: ReadAt>(
-    alloc: Global,
+fn relocate_by<S: ReadAt, M: Memory>(
+    memory: &M,
     source: &S,
     elf: &Elf,
     name: SectionName,
@@ -141,23 +145,25 @@ fn relocate_by<S: ReadAt>(
     ensures made { ForBytes (S.all_bytes source.now) (λ f.
         IsMade (relocated_by elf.now f name section.now bytes.old) bytes.new result) }
     ensures read { IfRead (S.fails_with source.now) result }
+    ensures refused { IfRefused (WasRefused (M.refuses memory.now)) result }
+    ensures most { ForBytes (S.all_bytes source.now) (λ f. IfRefused (IsRefused (M.refuses memory.now) (length f)) result) }
 {
     if section.section_type == CREL {
-        return relocate_by_compact(alloc, source, elf, name, section, bytes);
+        return relocate_by_compact(memory, source, elf, name, section, bytes);
     }
     let range = section_range(section);
     if !lies_within(source, range.offset, range.size)? {
         return Err(ElfFault::Damaged(Part::Relocations(name)));
     }
-    let Some(symbols) = read_symbols(alloc, source, elf, section.link)? else {
+    let Some(symbols) = read_symbols(memory, source, elf, section.link)? else {
         return Err(ElfFault::Damaged(Part::Symbols(name)));
     };
     relocate_pieces(source, elf, name, section, symbols.as_slice(), bytes)
 }
 
 /// Applies the entries of section `at`, where it is of relocations of the line section.
-fn relocate_at<S: ReadAt>(
-    alloc: Global,
+fn relocate_at<S: ReadAt, M: Memory>(
+    memory: &M,
     source: &S,
     window: &mut Window,
     elf: &Elf,
@@ -170,12 +176,14 @@ fn relocate_at<S: ReadAt>(
     ensures made { ForBytes (S.all_bytes source.now) (λ f.
         IsMade (relocated_at elf.now f line.now at bytes.old) bytes.new result) }
     ensures read { IfRead (S.fails_with source.now) result }
+    ensures refused { IfRefused (WasRefused (M.refuses memory.now)) result }
+    ensures most { ForBytes (S.all_bytes source.now) (λ f. IfRefused (IsRefused (M.refuses memory.now) (length f)) result) }
 {
     let Some(section) = section_at(source, window, &elf.header, at)? else {
         return Err(ElfFault::Damaged(Part::SectionHeaders));
     };
     if section.relocates(line.number) {
-        relocate_by(alloc, source, elf, line.name, &section, bytes)
+        relocate_by(memory, source, elf, line.name, &section, bytes)
     } else {
         Ok(())
     }
@@ -183,8 +191,8 @@ fn relocate_at<S: ReadAt>(
 
 /// Applies the relocations of the line section to its bytes, in the order of their sections, of which none stands
 /// before section `first`.
-pub fn relocate_line<S: ReadAt>(
-    alloc: Global,
+pub fn relocate_line<S: ReadAt, M: Memory>(
+    memory: &M,
     source: &S,
     elf: &Elf,
     line: &NamedSection,
@@ -198,10 +206,12 @@ pub fn relocate_line<S: ReadAt>(
     ensures made { ForBytes (S.all_bytes source.now)
         (λ f. IsMade (relocated_upto elf.now f line.now bytes.old (elf.now.count - 1)) bytes.new result) }
     ensures read { IfRead (S.fails_with source.now) result }
+    ensures refused { IfRefused (WasRefused (M.refuses memory.now)) result }
+    ensures most { ForBytes (S.all_bytes source.now) (λ f. IfRefused (IsRefused (M.refuses memory.now) (length f)) result) }
 {
     let mut window = Window::new();
     for at in first..elf.count {
-        relocate_at(alloc, source, &mut window, elf, line, at, bytes)?;
+        relocate_at(memory, source, &mut window, elf, line, at, bytes)?;
     }
     Ok(())
 }
@@ -228,6 +238,7 @@ pub fn find_relocations<S: ReadAt>(
     ensures found { ForBytes (S.all_bytes source.now) (λ f. AreFound elf.now f number result) }
     ensures place { IfOk result (λ found. (1 ≤ found.first) × (found.first - 1 ≤ elf.now.count - 1)) }
     ensures read { IfRead (S.fails_with source.now) result }
+    ensures refused { IfRefused ⊥ result }
 {
     if !elf.header.is_object() {
         return Ok(RelocationSections { count: 0, first: 1 });
@@ -257,6 +268,7 @@ fn count_at<S: ReadAt>(
     ensures count { ForBytes (S.all_bytes source.now) (λ f. IsCounted (relocations_at elf.now f number at) result) }
     ensures most { IfOk result (λ n. n ≤ 1) }
     ensures read { IfRead (S.fails_with source.now) result }
+    ensures refused { IfRefused ⊥ result }
 {
     let Some(section) = section_at(source, window, &elf.header, at)? else {
         return Err(ElfFault::Damaged(Part::SectionHeaders));

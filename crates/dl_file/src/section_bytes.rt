@@ -1,19 +1,21 @@
 //! The bytes of a section, read into memory.
-ghost use Rattle.std.specs.Prelude.{◌≡◌, ◌≤◌, ◌<◌, ◌*◌, take, drop, true, IfOk, IfErr, IfSome, MatchOption};
+ghost use Rattle.std.specs.Prelude.{◌≡◌, ◌≤◌, ◌<◌, ◌*◌, take, drop, true, length, IfOk, IfErr, IfSome, MatchOption};
 ghost use Rattle.std.specs.Prelude.{option_map};
+ghost use Rattle.dl_elf.specs.Answers.{IfRefused};
 ghost use Rattle.dl_elf.specs.Elf.{bytes_at};
 ghost use Rattle.dl_elf.specs.Source.{ForBytes};
 ghost use Rattle.dl_elf.specs.Sections.{range_within};
 ghost use Rattle.dl_file.specs.Answering.{StopsReading};
 ghost use Rattle.dl_file.specs.Relocations.{bytes_in, symbols_in, values_in};
+ghost use Rattle.dl_memory.specs.Refusals.{IsRefused, WasRefused};
 
 use crate::relocating::target_of;
 use dl_elf::{
     Elf, ElfFault, Range, ReadAt, SectionHeader, Window, fill_whole, lies_within, section_at,
     section_range,
 };
+use dl_memory::Memory;
 use dl_reloc::{Target, push_symbol_values, symbol_size};
-use std::alloc::Global;
 use std::io;
 
 /// How many bytes of a section are read at a time: whole entries of relocations, in each of their sizes.
@@ -21,20 +23,22 @@ pub const PIECE: usize = 24_576;
 
 /// The bytes of a section; None where they don't lie in the file. Memory is taken for all of them at once, where the
 /// last one stands in the file.
-pub fn read_bytes<S: ReadAt>(
-    alloc: Global,
+pub fn read_bytes<S: ReadAt, M: Memory>(
+    memory: &M,
     source: &S,
     section: &SectionHeader,
 ) -> Result<Option<Vec<u8>>, ElfFault>
     ensures bytes { ForBytes (S.all_bytes source.now) (λ f.
         IfOk result (λ read. option_map (λ v. v.items) read ≡ bytes_in f section.now)) }
     ensures stops { IfErr result (StopsReading (S.fails_with source.now)) }
+    ensures refused { IfRefused (WasRefused (M.refuses memory.now)) result }
+    ensures most { ForBytes (S.all_bytes source.now) (λ f. IfRefused (IsRefused (M.refuses memory.now) (length f)) result) }
 {
     let range = section_range(section);
     if !lies_within(source, range.offset, range.size)? {
         return Ok(None);
     }
-    let Ok(mut bytes) = Vec::with_capacity(alloc, range.size as usize) else {
+    let Ok(mut bytes) = memory.with_capacity(range.size as usize) else {
         return Err(ElfFault::NoMemory);
     };
     let mut buffer = [0; PIECE];
@@ -42,7 +46,7 @@ pub fn read_bytes<S: ReadAt>(
         let Some(len) = read_piece(source, &range, index, &mut buffer)? else {
             return Ok(None);
         };
-        let Ok(()) = bytes.extend_from_slice(&buffer[..len]) else {
+        let Ok(()) = memory.extend_from_slice(&mut bytes, &buffer[..len]) else {
             return Err(ElfFault::NoMemory);
         };
     }
@@ -78,8 +82,8 @@ pub fn read_piece<S: ReadAt>(
 
 /// The values of the symbols that a section has; None where its bytes don't lie in the file. Memory is taken for all
 /// of them at once, where the last byte stands in the file.
-fn read_values<S: ReadAt>(
-    alloc: Global,
+fn read_values<S: ReadAt, M: Memory>(
+    memory: &M,
     source: &S,
     target: &Target,
     section: &SectionHeader,
@@ -87,13 +91,15 @@ fn read_values<S: ReadAt>(
     ensures values { ForBytes (S.all_bytes source.now) (λ f.
         IfOk result (λ read. option_map (λ v. v.items) read ≡ values_in target.now f section.now)) }
     ensures stops { IfErr result (StopsReading (S.fails_with source.now)) }
+    ensures refused { IfRefused (WasRefused (M.refuses memory.now)) result }
+    ensures most { ForBytes (S.all_bytes source.now) (λ f. IfRefused (IsRefused (M.refuses memory.now) (length f)) result) }
 {
     let range = section_range(section);
     if !lies_within(source, range.offset, range.size)? {
         return Ok(None);
     }
     let count = range.size / symbol_size(target.class) as u64;
-    let Ok(mut values) = Vec::with_capacity(alloc, count as usize) else {
+    let Ok(mut values) = memory.with_capacity(count as usize) else {
         return Err(ElfFault::NoMemory);
     };
     let mut buffer = [0; PIECE];
@@ -101,7 +107,7 @@ fn read_values<S: ReadAt>(
         let Some(len) = read_piece(source, &range, index, &mut buffer)? else {
             return Ok(None);
         };
-        let Ok(()) = push_symbol_values(target, &buffer[..len], &mut values) else {
+        let Ok(()) = push_symbol_values(memory, target, &buffer[..len], &mut values) else {
             return Err(ElfFault::NoMemory);
         };
     }
@@ -109,8 +115,8 @@ fn read_values<S: ReadAt>(
 }
 
 /// The values of the symbols in the table of this number, none of number 0; None where it doesn't lie in the file.
-pub fn read_symbols<S: ReadAt>(
-    alloc: Global,
+pub fn read_symbols<S: ReadAt, M: Memory>(
+    memory: &M,
     source: &S,
     elf: &Elf,
     number: u64,
@@ -118,15 +124,17 @@ pub fn read_symbols<S: ReadAt>(
     ensures values { ForBytes (S.all_bytes source.now) (λ f.
         IfOk result (λ read. option_map (λ v. v.items) read ≡ symbols_in elf.now f number)) }
     ensures stops { IfErr result (StopsReading (S.fails_with source.now)) }
+    ensures refused { IfRefused (WasRefused (M.refuses memory.now)) result }
+    ensures most { ForBytes (S.all_bytes source.now) (λ f. IfRefused (IsRefused (M.refuses memory.now) (length f)) result) }
 {
     if number == 0 {
-        return Ok(Some(Vec::new(alloc)));
+        return Ok(Some(Vec::new(memory.alloc())));
     }
     if elf.count <= number {
         return Ok(None);
     }
     match section_at(source, &mut Window::new(), &elf.header, number)? {
-        Some(section) => read_values(alloc, source, &target_of(elf), &section),
+        Some(section) => read_values(memory, source, &target_of(elf), &section),
         None => Ok(None),
     }
 }

@@ -220,6 +220,7 @@ impl<'a, S: ReadAt> StreamReader<'a, S> {
         ensures next { (b : List ℕ) → StandsIn S.all_bytes told.now self.old b
             → StandsIn S.all_bytes told.now self.new b
             × NextIs told.now b self.old.left self.new.left result buffer.new }
+        ensures left { IfOk result (λ n. self.new.left + n ≡ self.old.left) }
         ensures fails { IfErr result (IsReadOf (ReaderFails S.all_bytes S.fails_with self.old.stream)) }
         ensures later { (error : Error) → ReaderFails S.all_bytes S.fails_with self.new.stream error
             → ReaderFails S.all_bytes S.fails_with self.old.stream error }

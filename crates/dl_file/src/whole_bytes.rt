@@ -1,12 +1,15 @@
 //! All bytes of a section, held in memory.
-ghost use Rattle.std.specs.Prelude.{◌≡◌, ◌<◌, ◌^◌, ℕ, List, Option, Some, true, length, drop};
-ghost use Rattle.dl_elf.specs.Answers.{IfRead};
+ghost use Rattle.dl_elf.specs.declared.fault.ElfFault.TheVariants.{NoMemory};
+ghost use Rattle.std.specs.Prelude.{◌≡◌, ◌≢◌, ◌<◌, ◌^◌, ◌⊎◌, ◌+◌, IfSome, ℕ, List, Option, Some, true, length, drop};
+ghost use Rattle.dl_elf.specs.Answers.{IfRead, IfRefused};
 ghost use Rattle.dl_elf.specs.Sections.{range_within, section_range};
 ghost use Rattle.dl_elf.specs.Source.{ForBytes};
 ghost use Rattle.dl_file.specs.Answering.{IsHad, IsToldAs};
-ghost use Rattle.dl_file.specs.ContentReader.{StreamFails, inflated_damage, inflated_name, inflated_remaining};
+ghost use Rattle.dl_file.specs.ContentReader.{StreamFails, inflated_damage, inflated_left, inflated_name};
+ghost use Rattle.dl_file.specs.ContentReader.{inflated_remaining};
 ghost use Rattle.dl_file.specs.Inflating.{damage, inflated};
-ghost use Rattle.dl_file.specs.LineTable.{Inflated, content, held_bytes};
+ghost use Rattle.dl_file.specs.LineTable.{Inflated, IsTooLong, content, held_bytes};
+ghost use Rattle.dl_memory.specs.Refusals.{IsRefused, WasRefused};
 
 use crate::inflated_reader::InflatedReader;
 use crate::read_fault::ReadFault;
@@ -15,7 +18,7 @@ use dl_elf::{
     CompressionHeader, Elf, ElfFault, NamedSection, Part, Range, ReadAt, SectionName,
     compression_header,
 };
-use std::alloc::Global;
+use dl_memory::Memory;
 use std::io::{Cursor, Read};
 
 /// How many bytes a compressed section that is held may inflate to: 2^32.
@@ -23,7 +26,8 @@ const HELD_LIMIT: u64 = 1 << 32;
 
 /// The fault of a section of this name of which a read failed so.
 fn stopped_by(name: SectionName, fault: Option<ReadFault>) -> ElfFault
-    ensures { IsToldAs name fault result }
+    ensures told { IsToldAs name fault result }
+    ensures refused { IfSome fault (λ _. result ≢ NoMemory) }
 {
     match fault {
         Some(ReadFault::DamagedStream(at)) => ElfFault::DamagedStream(name, at),
@@ -34,19 +38,21 @@ fn stopped_by(name: SectionName, fault: Option<ReadFault>) -> ElfFault
 
 /// All bytes that a reader gives, of which there may be `size`. Where these are more than are held they are read without
 /// being kept, so that the damage of their stream is told.
-fn read_whole<S: ReadAt>(
-    alloc: Global,
+fn read_whole<S: ReadAt, M: Memory>(
+    memory: &M,
     reader: &mut InflatedReader<'_, S>,
     size: u64,
 ) -> Result<Vec<u8>, ElfFault>
+    requires { inflated_left reader.old ≡ size }
     ensures bytes { (bytes : List ℕ) (damage : Option ℕ) → inflated_remaining S.all_bytes reader.old ≡ Some bytes
         → inflated_damage S.all_bytes reader.old ≡ Some damage
         → IsHad (held_bytes (Inflated (inflated_name reader.old) bytes damage)) result }
     ensures read { IfRead (StreamFails S.all_bytes S.fails_with reader.old) result }
+    ensures refused { IfRefused (WasRefused (M.refuses memory.now) ⊎ (2 ^ 32 < size)) result }
+    ensures most { IfRefused (IsRefused (M.refuses memory.now) (2 ^ 32) ⊎ (2 ^ 32 < size)) result }
 {
-    let mut bytes = Vec::new(alloc);
+    let mut bytes = Vec::new(memory.alloc());
     let mut buffer = [0; PIECE];
-    let mut left = size;
     loop {
         let Ok(n) = reader.read(&mut buffer) else {
             return Err(stopped_by(reader.name(), reader.last_fault()));
@@ -54,12 +60,11 @@ fn read_whole<S: ReadAt>(
         if n == 0 && size <= HELD_LIMIT {
             return Ok(bytes);
         }
-        if n == 0 || left < n as u64 {
+        if n == 0 {
             return Err(ElfFault::NoMemory);
         }
-        left -= n as u64;
         if size <= HELD_LIMIT {
-            let Ok(()) = bytes.extend_from_slice(&buffer[..n]) else {
+            let Ok(()) = memory.extend_from_slice(&mut bytes, &buffer[..n]) else {
                 return Err(ElfFault::NoMemory);
             };
         }
@@ -67,8 +72,8 @@ fn read_whole<S: ReadAt>(
 }
 
 /// What the stream in the bytes of a compressed section of this name inflates to.
-fn inflate_whole(
-    alloc: Global,
+fn inflate_whole<M: Memory>(
+    memory: &M,
     section: &[u8],
     name: SectionName,
     header: &CompressionHeader,
@@ -76,6 +81,8 @@ fn inflate_whole(
     ensures bytes { length section.now < 2 ^ 64 → IsHad (held_bytes (Inflated name (inflated header.now (drop header.now.stream_offset section.now))
         (damage header.now (length section.now) (drop header.now.stream_offset section.now)))) result }
     ensures read { IfRead (λ error. ⊥) result }
+    ensures refused { IfRefused (WasRefused (M.refuses memory.now) ⊎ (2 ^ 32 < header.now.size)) result }
+    ensures most { IfRefused (IsRefused (M.refuses memory.now) (2 ^ 32) ⊎ (2 ^ 32 < header.now.size)) result }
 {
     let source = Cursor::new(section);
     let range = Range {
@@ -83,14 +90,14 @@ fn inflate_whole(
         size: section.len() as u64,
     };
     let mut reader = InflatedReader::new(&source, name, range, header);
-    read_whole(alloc, &mut reader, header.size)
+    read_whole(memory, &mut reader, header.size)
 }
 
 /// All bytes of a section that lies in the file; of one that is compressed, those that its stream inflates to.
 ///
 /// `NoMemory` also where these are more than 2^32, as the section says.
-pub fn whole_bytes<S: ReadAt>(
-    alloc: Global,
+pub fn whole_bytes<S: ReadAt, M: Memory>(
+    memory: &M,
     source: &S,
     elf: &Elf,
     section: &NamedSection,
@@ -99,12 +106,16 @@ pub fn whole_bytes<S: ReadAt>(
         (λ f. range_within (section_range section.now.header) f ≡ true) }
     ensures bytes { ForBytes (S.all_bytes source.now) (λ f. IsHad (held_bytes (content elf.now f section.now)) result) }
     ensures read { IfRead (S.fails_with source.now) result }
+    ensures refused { ForBytes (S.all_bytes source.now)
+        (λ f. IfRefused (WasRefused (M.refuses memory.now) ⊎ IsTooLong elf.now f section.now) result) }
+    ensures most { ForBytes (S.all_bytes source.now) (λ f.
+        IfRefused (IsRefused (M.refuses memory.now) (length f + 2 ^ 32) ⊎ IsTooLong elf.now f section.now) result) }
 {
-    let Some(bytes) = read_bytes(alloc, source, &section.header)? else {
+    let Some(bytes) = read_bytes(memory, source, &section.header)? else {
         return Err(ElfFault::Damaged(Part::Section(section.name)));
     };
     let Some(header) = compression_header(source, elf, section)? else {
         return Ok(bytes);
     };
-    inflate_whole(alloc, bytes.as_slice(), section.name, &header)
+    inflate_whole(memory, bytes.as_slice(), section.name, &header)
 }

@@ -7,7 +7,7 @@ ghost use Rattle.dl_forms.specs.Names.{AddsCellFrom, has_strp, is_strp, named_in
 ghost use Rattle.dl_forms.specs.Standing.{Begins, IsHead, Onward, StandsAt};
 
 use dl_head::{Dialect, Form, HeadReader, HeadStep, Header, Pair};
-use dl_object::NoMemory;
+use dl_memory::NoMemory;
 use std::alloc::Global;
 
 /// Where a walk is.

@@ -6,7 +6,7 @@ ghost use Rattle.dl_forms.specs.Standing.{StandsFor};
 
 use crate::state::{State, advance};
 use dl_head::{Dialect, HeadReader};
-use dl_object::NoMemory;
+use dl_memory::NoMemory;
 use std::alloc::Global;
 
 /// A walk over the units of a section, which tells whether a table of one of them names `.debug_str`: a pair of the

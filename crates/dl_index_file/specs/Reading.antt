@@ -19,3 +19,7 @@ abbrev pub TextFails : Option (List ℕ) → (Error → Type 0) → (refuses : �
 TextFails known Fails refuses end (Read error) =
     Fails error ⊎ ((error_kind error ≡ UnexpectedEof) × ForBytes known (λ b. length b < end))
 TextFails known Fails refuses end NoMemory = WasRefused refuses
+
+-- not all bytes are read: a read failed with an error of the source, or memory was refused
+abbrev pub ReadIsLost : (Error → Type 0) → (refuses : ℕ → Type 0) → Type 0
+ReadIsLost Fails refuses = ((error : Error) × Fails error) ⊎ WasRefused refuses

@@ -62,10 +62,11 @@ struct StretchNumbers {
 }
 
 impl<'a, S: ReadAt> IndexFile<'a, S> {
-    ghost use Rattle.std.specs.Prelude.{◌≡◌, ◌+◌, ◌-◌, ◌*◌, ◌%◌, ◌<◌, ◌≤◌, ◌==◌, ◌++◌, ℕ, true, length, take, drop, Option, IfOk, IfErr, IfSome};
+    ghost use Rattle.std.specs.Prelude.{◌≡◌, ◌+◌, ◌-◌, ◌*◌, ◌%◌, ◌^◌, ◌<◌, ◌≤◌, ◌==◌, ◌⊎◌, ◌++◌, ℕ, true, length, take, drop, Option};
+    ghost use Rattle.std.specs.Prelude.{IfOk, IfErr, IfSome, MatchOption};
     ghost use Rattle.dl_index.specs.Layout.{flags_in, build_id_in, count_in, file_in, is_stmt_in, part};
     ghost use Rattle.dl_index_file.specs.Opening.{source_of};
-    ghost use Rattle.dl_index_file.specs.Reading.{ReadFails, TextFails};
+    ghost use Rattle.dl_index_file.specs.Reading.{ReadFails, ReadIsLost, TextFails};
     ghost use Rattle.dl_elf.specs.Elf.{bytes_at};
     ghost use Rattle.dl_elf.specs.Sections.{range_within};
     ghost use Rattle.dl_index_file.specs.FindsIn.{FindsIn};
@@ -129,7 +130,9 @@ impl<'a, S: ReadAt> IndexFile<'a, S> {
     /// All bytes of the index, where there are at most 2^24 of them. None where there are more, where memory for them is refused,
     /// or where they can't be read. They are read piece by piece, and memory is taken for what was read.
     pub fn whole<M: Memory>(&self, memory: &M) -> Option<Vec<u8>>
-        ensures { ForBytes (S.all_bytes (source_of self.now)) (λ b. IfSome result (λ bytes. bytes.items ≡ b)) }
+        ensures { ForBytes (S.all_bytes (source_of self.now)) (λ b. MatchOption result
+            ((2 ^ 24 < length b) ⊎ ReadIsLost (S.fails_with (source_of self.now)) (M.refuses memory.now))
+            (λ bytes. bytes.items ≡ b)) }
     {
         let size = self.len();
         if size > WHOLE {

@@ -4,8 +4,8 @@ ghost use Rattle.std.specs.Prelude.{◌≡◌, ℕ, List, MatchOption, IfOk, IfE
 ghost use Rattle.dl_object.specs.Section.{AddsCell, NoneFollows};
 ghost use Rattle.dl_object.specs.Fronts.{HeadIs, HeadWithin};
 
-use crate::section::NoMemory;
 use dl_head::{Dialect, HeadReader, HeadStep, Header};
+use dl_memory::NoMemory;
 use std::alloc::Global;
 
 /// The first bytes of a unit, up to the end of its header, or of its version where units of that aren't read, or to

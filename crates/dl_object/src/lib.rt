@@ -13,4 +13,4 @@ mod program;
 mod section;
 mod sequence;
 
-pub use section::{NoMemory, keep_section};
+pub use section::keep_section;

@@ -1,11 +1,11 @@
 //! The places that relocations change, in order.
 
-ghost use Rattle.std.specs.Prelude.{◌≡◌, ◌↔◌, ℕ, IfOk, IsTrue};
+ghost use Rattle.std.specs.Prelude.{◌≡◌, ◌↔◌, ℕ, length, IfOk, IsTrue, OnErr};
+ghost use Rattle.dl_memory.specs.Refusals.{IsRefused};
 ghost use Rattle.dl_object.specs.Kept.{Rises, section_at};
 
-use crate::section::NoMemory;
+use dl_memory::{Memory, NoMemory};
 use dl_reloc::Placed;
-use std::alloc::Global;
 
 /// Whether the places are in rising order.
 pub fn are_rising(places: &[Placed]) -> bool
@@ -15,17 +15,15 @@ pub fn are_rising(places: &[Placed]) -> bool
 }
 
 /// The places in rising order; of those that are the same the first comes first.
-pub fn sorted(alloc: Global, places: &[Placed]) -> Result<Vec<Placed>, NoMemory>
+pub fn sorted<M: Memory>(memory: &M, places: &[Placed]) -> Result<Vec<Placed>, NoMemory>
     ensures rises { IfOk result (λ sorted. Rises sorted.items) }
     ensures same { IfOk result (λ sorted. (at : ℕ) → section_at sorted.items at ≡ section_at places.now at) }
+    ensures refused { OnErr result (IsRefused (M.refuses memory.now) (length places.now)) }
 {
-    let Ok(mut sorted) = places.to_vec(alloc) else {
-        return Err(NoMemory);
-    };
-    match sorted.sort_by_key(|place| place.offset) {
-        Ok(()) => Ok(sorted),
-        Err(_) => Err(NoMemory),
-    }
+    let mut sorted = Vec::new(memory.alloc());
+    memory.extend_from_slice(&mut sorted, places)?;
+    memory.sort_by_key(&mut sorted, |place| place.offset)?;
+    Ok(sorted)
 }
 
 /// The section at a place.

@@ -1,5 +1,6 @@
 //! The units of a section. Section 6.2.4.
 
+ghost use Rattle.dl_memory.specs.Refusals.{IsRefused};
 ghost use Rattle.std.specs.Prelude.{ℕ, List, ◌≡◌, ◌⊎◌, IfOk, IfErr, length, ◌<◌, ◌≤◌, ◌+◌, ◌^◌};
 ghost use Rattle.dl_object.specs.Section.{Keeps, WantsCell};
 ghost use Rattle.dl_object.specs.Kept.{Rises};
@@ -9,13 +10,10 @@ use crate::head::{UnitHead, head_at_front};
 use crate::places::{are_rising, sorted};
 use crate::program::{Wanted, keep_sequences};
 use dl_head::Dialect;
+use dl_memory::{Memory, NoMemory};
 use dl_num::Order;
 use dl_reloc::Placed;
 use std::alloc::Global;
-
-/// A growth was refused.
-#[derive(Debug, Clone, Copy, PartialEq, Eq)]
-pub struct NoMemory;
 
 /// Makes of each whole sequence of a section of units that isn't of the wanted section of the object file an operation
 /// that is passed over, of as many bytes.
@@ -24,27 +22,28 @@ pub struct NoMemory;
 /// place the first counts. A sequence that sets no address, or whose first one no relocation changed, is of no section.
 /// Of a damaged unit the operations from the first damaged one on stay as they are.
 /// Memory is taken for a header at a time, and for a copy of the places where these aren't in rising order. Where that
-/// is refused, some of the sequences are replaced.
-pub fn keep_section(
-    alloc: Global,
+/// is refused, some of the sequences are replaced, and nothing else stops it.
+pub fn keep_section<M: Memory>(
+    memory: &M,
     dialect: Dialect,
     bytes: &mut [u8],
     places: &[Placed],
     section: u64,
 ) -> Result<(), NoMemory>
     ensures kept { IfOk result (λ done. Keeps dialect places.now section 0 bytes.old bytes.new) }
-    ensures memory { IfErr result (λ error. (Rises places.now → ⊥) ⊎ WantsCell dialect bytes.old) }
+    ensures memory { IfErr result (λ error.
+        ((Rises places.now → ⊥) × IsRefused (M.refuses memory.now) (length places.now)) ⊎ WantsCell dialect bytes.old) }
 {
     if are_rising(places) {
         let wanted = Wanted { places, section };
-        return keep_units(alloc, dialect, bytes, &wanted);
+        return keep_units(memory.alloc(), dialect, bytes, &wanted);
     }
-    let sorted = sorted(alloc, places)?;
+    let sorted = sorted(memory, places)?;
     let wanted = Wanted {
         places: sorted.as_slice(),
         section,
     };
-    keep_units(alloc, dialect, bytes, &wanted)
+    keep_units(memory.alloc(), dialect, bytes, &wanted)
 }
 
 /// The same, of places in rising order.

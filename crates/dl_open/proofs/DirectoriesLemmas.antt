@@ -9,7 +9,7 @@ use Rattle.dl_dirs.specs.declared.places.Places.{Places}
 use Rattle.dl_dirs.specs.Holding.{AreOf}
 use Rattle.dl_dirs.specs.Texts.{TextsData, directory_text, index_text, text_of}
 use Rattle.dl_dirs.specs.Units.{directory, entries, has_index, has_line_str, has_str, saying, Stands}
-use Rattle.dl_file.specs.InfoTable.{GivesInfoOption, HasInfo, InfoTable}
+use Rattle.dl_file.specs.InfoTable.{GivesInfo, GivesInfoOption, HasInfo, InfoTable}
 use Rattle.std.specs.Prelude.{IfErr, MatchResult}
 use Rattle.std.specs.declared.io.Error.{Error}
 use Rattle.dl_file.specs.ContentReader.{ContentFails}
@@ -30,10 +30,10 @@ use Rattle.dl_open.specs.Walked.{AreFound, AreHad, ArePlaces, IsHadWhere}
 -- ---- reads that fail
 
 -- they fail with these errors alone
-pub unread_only : (Fails fails : Error → Type 0) (why : Unread) → FailsOnly Fails fails → IsUnread Fails why
-    → IsUnread fails why
-unread_only Fails fails (Read error) only unread = only error unread
-unread_only Fails fails NoMemory only unread = tt
+pub unread_only : (refuses : ℕ → Type 0) (Fails fails : Error → Type 0) (why : Unread) → FailsOnly Fails fails → IsUnread refuses Fails why
+    → IsUnread refuses fails why
+unread_only refuses Fails fails (Read error) only unread = only error unread
+unread_only refuses Fails fails NoMemory only unread = unread
 
 content_only : {S : Type 0} {g : _} (all_bytes : S → Option (List ℕ)) (fails_with : S → Error → Type 0)
     (fails : Error → Type 0) (reader : ContentReader S g) (c : Content) → Gives all_bytes fails_with fails reader c
@@ -74,18 +74,18 @@ had_where {S = S} {g = g} all_bytes fails_with fails wanted (Some other) reader 
     let same : other ≡ reader = cc is in
     λ wanted. had c (subst (λ (r : ContentReader S g). Gives all_bytes fails_with fails r c) same gives)
 
-pub had_where_read : {S : Type 0} {g : _} (all_bytes : S → Option (List ℕ)) (fails_with : S → Error → Type 0)
+pub had_where_read : {S : Type 0} {g : _} (refuses : ℕ → Type 0) (all_bytes : S → Option (List ℕ)) (fails_with : S → Error → Type 0)
     (fails : Error → Type 0) (wanted : Bool)
     (section : Option (ContentReader S g)) (reader : ContentReader S g) (content : Option Content)
     (result : Result (Option (Vec ℕ Global)) Unread) → section ≡ Some reader → GivesOption all_bytes fails_with fails section content
     → ((c : Content) → Gives all_bytes fails_with fails reader c
     → IfOk result (λ held. option_map (λ v. v.items) held ≡ bytes_had STRINGS_LIMIT c))
-    → IfErr result (IsUnread (ContentFails all_bytes fails_with reader))
-    → MatchResult result (λ held. IsHadWhere (IsTrue wanted) content (option_map (λ v. v.items) held)) (IsUnread fails)
-had_where_read all_bytes fails_with fails wanted section reader content (Err why) is gives had unread =
-    unread_only (ContentFails all_bytes fails_with reader) fails why
+    → IfErr result (IsUnread refuses (ContentFails all_bytes fails_with reader))
+    → MatchResult result (λ held. IsHadWhere (IsTrue wanted) content (option_map (λ v. v.items) held)) (IsUnread refuses fails)
+had_where_read refuses all_bytes fails_with fails wanted section reader content (Err why) is gives had unread =
+    unread_only refuses (ContentFails all_bytes fails_with reader) fails why
     (option_only all_bytes fails_with fails section reader content is gives) unread
-had_where_read all_bytes fails_with fails wanted section reader content (Ok held) is gives had unread =
+had_where_read refuses all_bytes fails_with fails wanted section reader content (Ok held) is gives had unread =
     had_where all_bytes fails_with fails wanted section reader content (option_map (λ v. v.items) held) is gives had
 
 -- one that is wanted where another fact holds
@@ -170,13 +170,13 @@ with_both t order a b own n ordered abbreviations info held =
     (λ (a : List ℕ). directory t.order a (texts_had t) info n) (bytes_had STRINGS_LIMIT t.abbreviations))) info)
 
 -- the places are found by the abbreviations that can be had
-pub through : (order : Order) (held : List ℕ) (a i : Content) (result : Result (Option Places) Unread)
+pub through : (refuses : ℕ → Type 0) (order : Order) (held : List ℕ) (a i : Content) (result : Result (Option Places) Unread)
     (Fails fails : Error → Type 0) → Some held ≡ bytes_had STRINGS_LIMIT a → IfOk result (ArePlaces order held i)
-    → IfErr result (IsUnread Fails) → FailsOnly Fails fails
-    → MatchResult result (AreFound order a i) (IsUnread fails)
-through order held a i (Ok places) Fails fails had are unread only =
+    → IfErr result (IsUnread refuses Fails) → FailsOnly Fails fails
+    → MatchResult result (AreFound order a i) (IsUnread refuses fails)
+through refuses order held a i (Ok places) Fails fails had are unread only =
     subst (λ (o : Option (List ℕ)). MatchOption o (◌≡◌ {A = Option Places} places None) (λ x. ArePlaces order x i places)) had are
-through order held a i (Err why) Fails fails had are unread only = unread_only Fails fails why only unread
+through refuses order held a i (Err why) Fails fails had are unread only = unread_only refuses Fails fails why only unread
 
 pub none_had : (order : Order) (a i : Content) → None ≡ bytes_had STRINGS_LIMIT a → AreFound order a i None
 none_had order a i had =
@@ -220,3 +220,14 @@ pub has_units : {S : Type 0} {g : _} (all_bytes : S → Option (List ℕ)) (fail
 has_units all_bytes fails_with fails bytes None file is given = absurd (cc is)
 has_units all_bytes fails_with fails bytes (Some other) file is (None, has, gives) = absurd gives
 has_units all_bytes fails_with fails bytes (Some other) file is (Some t, has, gives) = (t, has)
+
+-- and gives them
+pub units_given : {S : Type 0} {g : _} (all_bytes : S → Option (List ℕ)) (fails_with : S → Error → Type 0)
+    (fails : Error → Type 0) (bytes : List ℕ) (opened : Option (InfoFile S g))
+    (file : InfoFile S g) → opened ≡ Some file
+    → (t : Option InfoTable) × HasInfo bytes t × GivesInfoOption all_bytes fails_with fails opened t
+    → (t : InfoTable) × GivesInfo all_bytes fails_with fails file t
+units_given all_bytes fails_with fails bytes None file is given = absurd (cc is)
+units_given all_bytes fails_with fails bytes (Some other) file is (None, has, gives) = absurd gives
+units_given {S} {g} all_bytes fails_with fails bytes (Some other) file is (Some t, has, gives) =
+    let same : other ≡ file = cc is in (t, subst (λ (o : InfoFile S g). GivesInfo all_bytes fails_with fails o t) same gives)

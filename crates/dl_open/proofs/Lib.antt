@@ -1,3 +1,5 @@
+pub mod FilesLemmas
+pub mod BlameLemmas
 pub mod NotReadLemmas
 pub mod ReaderLemmas
 pub mod SectionLemmas

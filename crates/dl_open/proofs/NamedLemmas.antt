@@ -4,7 +4,7 @@ use Rattle.std.proofs.Common.{Option, Some, None, Result, Ok, Err}
 use Rattle.std.proofs.Common.{refl, sym, ap, subst, ◌∙◌, arith, append_assoc, append-nil, length-append}
 use Rattle.std.proofs.Common.{◌∷◌}
 use Rattle.std.proofs.lemmas.Bool.{eqb-true}
-use Rattle.std.specs.Prelude.{IfSome, MatchResult}
+use Rattle.std.specs.Prelude.{IfSome, MatchResult, is_some, option_map}
 use Rattle.std.specs.declared.io.Error.{Error}
 use Rattle.dl_file.specs.declared.line_file.LineFile.{LineFile}
 use Rattle.dl_file.specs.declared.line_file.Wanted.TheVariants.{LineAndLineStrings}
@@ -17,6 +17,12 @@ use Rattle.dl_open.specs.declared.named.Sections.TheVariants.{LinesAndTexts}
 use Rattle.dl_open.specs.declared.stop.FileStop.{FileStop}
 use Rattle.dl_open.specs.Tables.{HasTable, IsNamed, NamedStops, NamingStops, OpeningStops, TableStops, file_dialect}
 use Rattle.dl_open.specs.Tables.{stream_of, with_strings}
+use Rattle.dl_elf.specs.declared.fault.ElfFault.TheVariants.{DamagedStream, Read}
+use Rattle.dl_elf.specs.declared.name.SectionName.{SectionName}
+use Rattle.dl_file.specs.declared.read_fault.ReadFault.{ReadFault}
+use Rattle.dl_file.specs.declared.read_fault.ReadFault.TheVariants.{Read as ReadOf, DamagedStream as DamageOf}
+use Rattle.dl_open.specs.Stops.{Stream}
+use Rattle.dl_open.proofs.ReaderLemmas.{IsToldOf}
 use Rattle.dl_open.proofs.WiderLemmas.{stops_at_wider}
 use Rattle.std.specs.Io.KnownBytes.{Consumes, IsAtEnd}
 use Rattle.dl_head.specs.declared.dialect.Dialect.{Dialect}
@@ -111,6 +117,18 @@ held_plain all_bytes fails_with fails (Held cursor) (Plain own) bytes is gives =
     let same : Some bytes ≡ Some own = is ∙ gives.0 in
     let e : bytes ≡ own = cc same in ap Plain (sym e)
 
+-- a read of one that is inflated as it is read failed
+pub unread_named : (fails : Error → Type 0) (dialect : Dialect) (content : Content) (stream : Option SectionName)
+    (read : Option ReadFault) → option_map (λ (s : Stream). s.0) (stream_of content) ≡ stream → is_some stream ≡ true
+    → IsToldOf fails (stream_of content) read → IsNamed fails dialect content true
+unread_named fails dialect (Plain bytes) stream read named some told =
+    let none : false ≡ true = ap (λ (o : Option SectionName). is_some o) named ∙ some in absurd (cc none)
+unread_named fails dialect (Inflated name bytes damage) stream None named some told = absurd told
+unread_named fails dialect (Inflated name bytes damage) stream (Some (ReadOf error)) named some told =
+    inr (refl, (Read error, told))
+unread_named fails dialect (Inflated name bytes damage) stream (Some (DamageOf at)) named some (own, told) =
+    inr (refl, (DamagedStream own at, told))
+
 -- ---- the sections that a command looks into
 
 -- what stops the naming in bytes that are held does so of any file
@@ -127,7 +145,7 @@ told_any fails path dialect content names (Err stop) told = naming_any fails pat
 
 -- it is told whether its tables name .debug_str, or why it can't be
 abbrev pub IsTold : FileUnits → (fails : Error → Type 0) → (path : List ℕ) → LineTable → Result Bool FileStop → Type 0
-IsTold read fails path t answer = MatchResult answer (IsNamed (file_dialect read t) t.line) (NamingStops fails path (file_dialect read t) t.line)
+IsTold read fails path t answer = MatchResult answer (IsNamed fails (file_dialect read t) t.line) (NamingStops fails path (file_dialect read t) t.line)
 
 -- it is told of bytes that are held
 pub held_answer : (read : FileUnits) {S : Type 0} {g : _} (all_bytes : S → Option (List ℕ)) (fails_with : S → Error → Type 0)
@@ -137,75 +155,75 @@ pub held_answer : (read : FileUnits) {S : Type 0} {g : _} (all_bytes : S → Opt
     → MatchResult answer (λ names. IsTrue names ↔ Names dialect bytes) (NamingStops (λ error. ⊥) path dialect (Plain bytes))
     → IsTold read fails path t answer
 held_answer read all_bytes fails_with fails reader t dialect path bytes answer is gives same told =
-    subst (λ (c : Content). MatchResult answer (IsNamed (file_dialect read t) c) (NamingStops fails path (file_dialect read t) c))
+    subst (λ (c : Content). MatchResult answer (IsNamed fails (file_dialect read t) c) (NamingStops fails path (file_dialect read t) c))
     (sym (held_plain all_bytes fails_with fails reader t.line bytes is gives))
-    (subst (λ (d : Dialect). MatchResult answer (IsNamed d (Plain bytes)) (NamingStops fails path d (Plain bytes))) same
-    (told_any fails path dialect (Plain bytes) (IsNamed dialect (Plain bytes)) answer told))
+    (subst (λ (d : Dialect). MatchResult answer (IsNamed fails d (Plain bytes)) (NamingStops fails path d (Plain bytes))) same
+    (told_any fails path dialect (Plain bytes) (IsNamed fails dialect (Plain bytes)) answer told))
 
 -- the line table of a file, with .debug_str where its tables name it
-abbrev pub IsOpened : FileUnits → {S : Type 0} {g : _} (all_bytes : S → Option (List ℕ)) (fails_with : S → Error → Type 0)
+abbrev pub IsOpened : (refuses : ℕ → Type 0) → FileUnits → {S : Type 0} {g : _} (all_bytes : S → Option (List ℕ)) (fails_with : S → Error → Type 0)
     (fails : Error → Type 0) (path : List ℕ)
     (f : List ℕ) (t : LineTable) (result : Result (LineFile S g) FileStop) → Type 0
-IsOpened read all_bytes fails_with fails path f t result = MatchResult result
-    (λ table. (names : Bool) × IsNamed (file_dialect read t) t.line names
+IsOpened refuses read all_bytes fails_with fails path f t result = MatchResult result
+    (λ table. (names : Bool) × IsNamed fails (file_dialect read t) t.line names
     × ((t2 : LineTable) × HasLineTable f (with_strings names) (Ok t2) × GivesTable all_bytes fails_with fails table t2))
-    (NamedStops read fails path f t)
+    (NamedStops refuses read fails path f t)
 
 pub answered : (answer : Result Bool FileStop) (names value : Bool) → answer ≡ Ok names → names ≡ value → answer ≡ Ok value
 answered answer names value is same = subst (λ (b : Bool). answer ≡ Ok b) same is
 
 -- the file is opened anew
-pub anew : (read : FileUnits) {S : Type 0} {g : _} (all_bytes : S → Option (List ℕ)) (fails_with : S → Error → Type 0)
+pub anew : (refuses : ℕ → Type 0) (read : FileUnits) {S : Type 0} {g : _} (all_bytes : S → Option (List ℕ)) (fails_with : S → Error → Type 0)
     (fails : Error → Type 0) (path : List ℕ) (f : List ℕ)
     (t : LineTable) (names : Bool) (answer : Result Bool FileStop) (result own : Result (LineFile S g) FileStop)
     → answer ≡ Ok names → IsTold read fails path t answer → result ≡ own
     → MatchResult own (λ table. (t2 : LineTable) × HasLineTable f (with_strings names) (Ok t2)
-    × GivesTable all_bytes fails_with fails table t2) (OpeningStops fails path f (with_strings names))
-    → IsOpened read all_bytes fails_with fails path f t result
-anew read {S = S} {g = g} all_bytes fails_with fails path f t names answer result own said told is opens =
-    subst (λ (r : Result (LineFile S g) FileStop). IsOpened read all_bytes fails_with fails path f t r) (sym is) (by_own own opens)
+    × GivesTable all_bytes fails_with fails table t2) (OpeningStops refuses fails path f (with_strings names))
+    → IsOpened refuses read all_bytes fails_with fails path f t result
+anew refuses read {S = S} {g = g} all_bytes fails_with fails path f t names answer result own said told is opens =
+    subst (λ (r : Result (LineFile S g) FileStop). IsOpened refuses read all_bytes fails_with fails path f t r) (sym is) (by_own own opens)
   where
     by_own : (own : Result (LineFile S g) FileStop) → MatchResult own (λ table. (t2 : LineTable)
         × HasLineTable f (with_strings names) (Ok t2) × GivesTable all_bytes fails_with fails table t2)
-        (OpeningStops fails path f (with_strings names)) → IsOpened read all_bytes fails_with fails path f t own
+        (OpeningStops refuses fails path f (with_strings names)) → IsOpened refuses read all_bytes fails_with fails path f t own
     by_own (Ok table) opens = (names, subst (IsTold read fails path t) said told, opens)
     by_own (Err stop) stops = inr (names, subst (IsTold read fails path t) said told, stops)
 
 -- the file stays as it was opened
-pub as_opened : (read : FileUnits) {S : Type 0} {g : _} (all_bytes : S → Option (List ℕ)) (fails_with : S → Error → Type 0)
+pub as_opened : (refuses : ℕ → Type 0) (read : FileUnits) {S : Type 0} {g : _} (all_bytes : S → Option (List ℕ)) (fails_with : S → Error → Type 0)
     (fails : Error → Type 0) (path : List ℕ)
     (f : List ℕ) (t : LineTable) (answer : Result Bool FileStop) (result : Result (LineFile S g) FileStop)
     (table : LineFile S g) → answer ≡ Ok false
     → IsTold read fails path t answer → result ≡ Ok table
     → HasLineTable f LineAndLineStrings (Ok t) → GivesTable all_bytes fails_with fails table t
-    → IsOpened read all_bytes fails_with fails path f t result
-as_opened read {S = S} {g = g} all_bytes fails_with fails path f t answer result table said told is has given =
+    → IsOpened refuses read all_bytes fails_with fails path f t result
+as_opened refuses read {S = S} {g = g} all_bytes fails_with fails path f t answer result table said told is has given =
     let named = subst (IsTold read fails path t) said told in
-    subst (λ (r : Result (LineFile S g) FileStop). IsOpened read all_bytes fails_with fails path f t r) (sym is)
+    subst (λ (r : Result (LineFile S g) FileStop). IsOpened refuses read all_bytes fails_with fails path f t r) (sym is)
     (false, named, (t, has, given))
 
 -- it can't be told what they name
-pub not_told : (read : FileUnits) {S : Type 0} {g : _} (all_bytes : S → Option (List ℕ)) (fails_with : S → Error → Type 0)
+pub not_told : (refuses : ℕ → Type 0) (read : FileUnits) {S : Type 0} {g : _} (all_bytes : S → Option (List ℕ)) (fails_with : S → Error → Type 0)
     (fails : Error → Type 0) (path : List ℕ)
     (f : List ℕ) (t : LineTable) (answer : Result Bool FileStop) (result : Result (LineFile S g) FileStop) (stop : FileStop)
     → answer ≡ Err stop → IsTold read fails path t answer
-    → result ≡ Err stop → IsOpened read all_bytes fails_with fails path f t result
-not_told read {S = S} {g = g} all_bytes fails_with fails path f t answer result stop said told is =
+    → result ≡ Err stop → IsOpened refuses read all_bytes fails_with fails path f t result
+not_told refuses read {S = S} {g = g} all_bytes fails_with fails path f t answer result stop said told is =
     let stops = subst (IsTold read fails path t) said told in
-    subst (λ (r : Result (LineFile S g) FileStop). IsOpened read all_bytes fails_with fails path f t r) (sym is) (inl stops)
+    subst (λ (r : Result (LineFile S g) FileStop). IsOpened refuses read all_bytes fails_with fails path f t r) (sym is) (inl stops)
 
 -- texts are printed, and the file has no such section
-pub without_section : (read : FileUnits) (f : List ℕ) (t : LineTable) → t.has_str ≡ false → HasLineTable f LineAndLineStrings (Ok t)
-    → HasTable read LinesAndTexts f t
-without_section read f t none has = (LineAndLineStrings, (t, has, inl (none, refl)), has)
+pub without_section : (read : FileUnits) (fails : Error → Type 0) (f : List ℕ) (t : LineTable) → t.has_str ≡ false → HasLineTable f LineAndLineStrings (Ok t)
+    → HasTable read fails LinesAndTexts f t
+without_section read fails f t none has = (LineAndLineStrings, (t, has, inl (none, refl)), has)
 
 -- it has one, and it is told whether its tables name it
-pub with_section : (read : FileUnits) {S : Type 0} {g : _} (all_bytes : S → Option (List ℕ)) (fails_with : S → Error → Type 0)
+pub with_section : (refuses : ℕ → Type 0) (read : FileUnits) {S : Type 0} {g : _} (all_bytes : S → Option (List ℕ)) (fails_with : S → Error → Type 0)
     (fails : Error → Type 0) (path : List ℕ)
     (f : List ℕ) (t : LineTable) (result : Result (LineFile S g) FileStop) → t.has_str ≡ true
-    → HasLineTable f LineAndLineStrings (Ok t) → IsOpened read all_bytes fails_with fails path f t result
-    → MatchResult result (λ table. (t : LineTable) × HasTable read LinesAndTexts f t × GivesTable all_bytes fails_with fails table t)
-    (TableStops read fails path LinesAndTexts f)
-with_section read all_bytes fails_with fails path f t (Ok table) some has (names, named, (t2, has2, given)) =
+    → HasLineTable f LineAndLineStrings (Ok t) → IsOpened refuses read all_bytes fails_with fails path f t result
+    → MatchResult result (λ table. (t : LineTable) × HasTable read fails LinesAndTexts f t × GivesTable all_bytes fails_with fails table t)
+    (TableStops refuses read fails path LinesAndTexts f)
+with_section refuses read all_bytes fails_with fails path f t (Ok table) some has (names, named, (t2, has2, given)) =
     (t2, (with_strings names, (t, has, inr (names, some, named, refl)), has2), given)
-with_section read all_bytes fails_with fails path f t (Err stop) some has stops = inr (t, has, some, stops)
+with_section refuses read all_bytes fails_with fails path f t (Err stop) some has stops = inr (t, has, some, stops)

@@ -20,6 +20,7 @@ use Rattle.dl_file.specs.declared.read_fault.ReadFault.{ReadFault}
 use Rattle.dl_file.specs.declared.read_fault.ReadFault.TheVariants.{Read as ReadOf, DamagedStream as DamageOf}
 use Rattle.dl_file.specs.declared.line_reader.LineReader.{LineReader}
 use Rattle.dl_head.specs.declared.dialect.Dialect.{Dialect}
+use Rattle.dl_memory.specs.Refusals.{IsRefused}
 use Rattle.dl_object.specs.Kept.{Rises}
 use Rattle.dl_object.specs.Section.{WantsCell}
 use Rattle.dl_reloc.specs.declared.placed.Placed.{Placed}
@@ -177,30 +178,30 @@ content_told all_bytes fails_with fails old new (Inflated name bytes damage) giv
 -- ---- a string section
 
 -- what stops the reading of bytes stops that of a section of which they are the first
-pub stops_known : (limit : ℕ) (known left : Option (List ℕ)) (bs : List ℕ) (f : RunFault) → Consumes known left bs
-    → StopsReading (λ n. Unit {0}) limit bs f → FileStops known limit f
-stops_known limit known left bs fault.Read consumes stops = tt
-stops_known limit known left bs fault.NoMemory consumes stops = tt
-stops_known limit None left bs fault.SectionTooLong consumes stops = tt
-stops_known limit (Some xs) None bs fault.SectionTooLong consumes stops = absurd consumes
-stops_known limit (Some xs) (Some ys) bs fault.SectionTooLong consumes stops =
+pub stops_known : (refuses : ℕ → Type 0) (limit : ℕ) (known left : Option (List ℕ)) (bs : List ℕ) (f : RunFault)
+    → Consumes known left bs → StopsReading refuses limit bs f → FileStops (Unit {0}) refuses known limit f
+stops_known refuses limit known left bs fault.Read consumes stops = tt
+stops_known refuses limit known left bs fault.NoMemory consumes stops = (length bs, stops.1)
+stops_known refuses limit None left bs fault.SectionTooLong consumes stops = tt
+stops_known refuses limit (Some xs) None bs fault.SectionTooLong consumes stops = absurd consumes
+stops_known refuses limit (Some xs) (Some ys) bs fault.SectionTooLong consumes stops =
     let size : length xs ≡ length bs + length ys = ap (λ l. length l) consumes ∙ length-append bs ys in
     omega (arith, size, stops)
-stops_known limit known left bs other consumes stops = absurd stops
+stops_known refuses limit known left bs other consumes stops = absurd stops
 
 -- the reading of a section stops
-pub section_stops : {S : Type 0} {g : _} (all_bytes : S → Option (List ℕ)) (fails_with : S → Error → Type 0)
+pub section_stops : {S : Type 0} {g : _} (refuses : ℕ → Type 0) (all_bytes : S → Option (List ℕ)) (fails_with : S → Error → Type 0)
     (fails : Error → Type 0) (path : List ℕ) (section : Option (ContentReader S g)) (reader new : ContentReader S g) (content : Option Content)
     (stream : Option SectionName)
     (result : Result (Vec ℕ Global) RunFault) (f : RunFault) (stop : FileStop) → section ≡ Some reader
     → GivesOption all_bytes fails_with fails section content → stream ≡ stream_name reader
     → (bs : List ℕ) × Consumes (content_remaining all_bytes reader) (content_remaining all_bytes new) bs
-    × StopsReading (λ n. Unit {0}) STRINGS_LIMIT bs f
+    × StopsReading refuses STRINGS_LIMIT bs f
     → Blames (ContentFollows all_bytes fails_with) (ContentMayFail all_bytes fails_with) reader new
     (result ≡ Err fault.Read) → result ≡ Err f
     → StopsAs path stream (content_fault new) f stop
-    → (c : Content) × (content ≡ Some c) × SectionStops fails path c stop
-section_stops {S} {g} all_bytes fails_with fails path section reader new content stream result f stop is gives named read blames said at =
+    → (c : Content) × (content ≡ Some c) × SectionStops refuses fails path c stop
+section_stops {S} {g} refuses all_bytes fails_with fails path section reader new content stream result f stop is gives named read blames said at =
     by content (subst (λ (o : Option (ContentReader S g)). GivesOption all_bytes fails_with fails o content) is gives)
   where
     told : (c : Content) → Gives all_bytes fails_with fails reader c → f ≡ fault.Read
@@ -208,23 +209,23 @@ section_stops {S} {g} all_bytes fails_with fails path section reader new content
     told c gives is = content_told all_bytes fails_with fails reader new c gives blames
         (said ∙ ap (λ (x : RunFault). Err x) is)
 
-    of : (c : Content) → Gives all_bytes fails_with fails reader c → SectionStops fails path c stop
+    of : (c : Content) → Gives all_bytes fails_with fails reader c → SectionStops refuses fails path c stop
     of (Plain bytes) gives = (
       f,
-      stops_known STRINGS_LIMIT (Some bytes) _ read.0 f
+      stops_known refuses STRINGS_LIMIT (Some bytes) _ read.0 f
           (subst (λ (r : Option (List ℕ)). Consumes r (content_remaining all_bytes new) read.0) gives.0 read.1) read.2,
       stops_at fails path None stream (content_fault new) f stop (sym (named ∙ gives.2)) (told (Plain bytes) gives) at,
     )
     of (Inflated name bytes damage) gives = (
       f,
-      stops_known STRINGS_LIMIT (Some bytes) _ read.0 f
+      stops_known refuses STRINGS_LIMIT (Some bytes) _ read.0 f
           (subst (λ (r : Option (List ℕ)). Consumes r (content_remaining all_bytes new) read.0) gives.0 read.1) read.2,
       stops_at fails path (Some (name, damage)) stream (content_fault new) f stop (sym (named ∙ gives.3))
           (told (Inflated name bytes damage) gives) at,
     )
 
     by : (content : Option Content) → GivesOption all_bytes fails_with fails (Some reader) content
-        → (c : Content) × (content ≡ Some c) × SectionStops fails path c stop
+        → (c : Content) × (content ≡ Some c) × SectionStops refuses fails path c stop
     by None gives = absurd gives
     by (Some c) gives = (c, refl, of c gives)
 
@@ -238,13 +239,14 @@ all_read whole (Some rest) bs consumes at_end =
     sym (consumes ∙ (ap (λ (l : List ℕ). bs ++ l) at_end ∙ append-nil bs))
 
 -- memory is refused for what is left of them
-pub keeping_refused : (fails : Error → Type 0) (path : List ℕ) (dialect : Dialect) (part : Part) (content : Content) (items bs slice : List ℕ)
+pub keeping_refused : (refuses : ℕ → Type 0) (fails : Error → Type 0) (path : List ℕ) (dialect : Dialect) (part : Part) (content : Content) (items bs slice : List ℕ)
     (places : List Placed) (stop : FileStop) → bs ≡ bytes_of content → items ≡ bs
-    → slice ≡ items → places ≡ part.places.items → (Rises places → ⊥) ⊎ WantsCell dialect slice → IsAt path Refused stop
-    → KeepingStops fails path dialect part content stop
-keeping_refused fails path dialect part content items bs slice places stop whole read viewed placed why at =
-    let own = subst (λ (p : List Placed). (Rises p → ⊥) ⊎ WantsCell dialect slice) placed why in
+    → slice ≡ items → places ≡ part.places.items
+    → ((Rises places → ⊥) × IsRefused refuses (length places)) ⊎ WantsCell dialect slice → IsAt path Refused stop
+    → KeepingStops refuses fails path dialect part content stop
+keeping_refused refuses fails path dialect part content items bs slice places stop whole read viewed placed why at =
+    let own = subst (λ (p : List Placed). ((Rises p → ⊥) × IsRefused refuses (length p)) ⊎ WantsCell dialect slice) placed why in
     inr (
-      subst (λ (b : List ℕ). (Rises part.places.items → ⊥) ⊎ WantsCell dialect b) (viewed ∙ (read ∙ whole)) own,
+      subst (λ (b : List ℕ). ((Rises part.places.items → ⊥) × IsRefused refuses (length part.places.items)) ⊎ WantsCell dialect b) (viewed ∙ (read ∙ whole)) own,
       at,
     )

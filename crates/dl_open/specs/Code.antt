@@ -6,6 +6,7 @@ use Rattle.std.specs.List.{list_any}
 use Rattle.std.specs.Option.{option_map_or}
 use Rattle.std.specs.declared.io.Error.{Error}
 use Rattle.dl_elf.specs.declared.fault.ElfFault.TheVariants.{Read}
+use Rattle.dl_memory.specs.Refusals.{WasRefused}
 use Rattle.dl_file.specs.Code.{IsCode}
 use Rattle.dl_file.specs.declared.code.Code.{Code}
 use Rattle.dl_file.specs.declared.code.CodeFault.TheVariants as code_fault
@@ -31,11 +32,12 @@ live_by all code a =
 abbrev pub AreLive : Option CodeRanges → Code → Type 0
 AreLive ranges code = (a : ℕ) → option_map_or (λ (r : CodeRanges). has_code r a) ranges true ≡ live_by false code a
 
--- why it can't be told where the file has code
-abbrev pub RefusesCode : (fails : Error → Type 0) (f : List ℕ) → FileFault → Type 0
-RefusesCode fails f (Open error) = fails error
-RefusesCode fails f (Elf (Read error)) = fails error
-RefusesCode fails f (Elf other) = IsCode f (Err (code_fault.Elf other))
-RefusesCode fails f NoMemory =
-    IsCode f (Err code_fault.NoMemory) ⊎ ((code : Code) × IsCode f (Ok code) × (code.ranges.items ≢ []))
-RefusesCode fails f other = ⊥
+-- why it can't be told where the file has code. refuses: for how many items memory is refused
+abbrev pub RefusesCode : (refuses : ℕ → Type 0) (fails : Error → Type 0) (f : List ℕ) → FileFault → Type 0
+RefusesCode refuses fails f (Open error) = fails error
+RefusesCode refuses fails f (Elf (Read error)) = fails error
+RefusesCode refuses fails f (Elf other) = IsCode f (Err (code_fault.Elf other))
+RefusesCode refuses fails f NoMemory =
+    WasRefused refuses
+    × (IsCode f (Err code_fault.NoMemory) ⊎ ((code : Code) × IsCode f (Ok code) × (code.ranges.items ≢ [])))
+RefusesCode refuses fails f other = ⊥

@@ -4,9 +4,10 @@ use Rattle.std.specs.Prelude.{◌≡◌, ◌⊎◌, ℕ, if◌then◌else◌, na
 use Rattle.std.specs.declared.io.Error.{Error}
 use Rattle.dl_elf.specs.declared.fault.ElfFault.{ElfFault}
 use Rattle.dl_elf.specs.declared.fault.ElfFault.TheVariants.{Read, NoMemory}
+use Rattle.dl_memory.specs.Refusals.{WasRefused}
 use Rattle.dl_dirs.specs.Texts.{TextsData}
 use Rattle.dl_dirs.specs.Units.{directory}
-use Rattle.dl_file.specs.InfoTable.{HasInfo, InfoTable, TakesInfoMemory}
+use Rattle.dl_file.specs.InfoTable.{HasInfo, InfoTable, InfoTooLong, TakesInfoMemory}
 use Rattle.dl_file.specs.LineTable.{Content, Inflated, Plain}
 use Rattle.dl_run.specs.declared.options.TheConstants.{SECTION_LIMIT}
 use Rattle.dl_open.specs.declared.strings.TheConstants.{STRINGS_LIMIT}
@@ -41,14 +42,14 @@ said_in t offset = option_and_then (λ info. option_and_then (λ abbreviations.
 abbrev pub AreDirectories : List ℕ → (ℕ → Option (List ℕ)) → Type 0
 AreDirectories f g = (t : Option InfoTable) × HasInfo f t × ((n : ℕ) → g n ≡ option_and_then (λ t. said_in t n) t)
 
--- ---- why they aren't known. fails: the errors that reading the file may give
+-- ---- why they aren't known. fails: the errors that reading the file may give; refuses: for how many items memory is refused
 
 -- the file has such units
 abbrev pub HasUnits : List ℕ → Type 0
 HasUnits f = (t : InfoTable) × HasInfo f (Some t)
 
 -- a read failed, or memory was refused: for a stream or for relocations, or for what is kept of the units
-abbrev pub RefusesDirectories : (fails : Error → Type 0) (f : List ℕ) → ElfFault → Type 0
-RefusesDirectories fails f (Read error) = fails error
-RefusesDirectories fails f NoMemory = TakesInfoMemory f ⊎ HasUnits f
-RefusesDirectories fails f other = ⊥
+abbrev pub RefusesDirectories : (refuses : ℕ → Type 0) (fails : Error → Type 0) (f : List ℕ) → ElfFault → Type 0
+RefusesDirectories refuses fails f (Read error) = fails error
+RefusesDirectories refuses fails f NoMemory = (WasRefused refuses ⊎ InfoTooLong f) × (TakesInfoMemory f ⊎ HasUnits f)
+RefusesDirectories refuses fails f other = ⊥

@@ -2,6 +2,7 @@
 pub mod Shown
 pub mod DebugFile
 pub mod Stops
+pub mod Blaming
 pub mod Files
 pub mod Parts
 pub mod Tables

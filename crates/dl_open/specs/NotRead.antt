@@ -45,8 +45,8 @@ PassesOverTable read t answer =
 
 -- what is told of a file with these bytes: nothing where its line section can't be had. fails: the errors that opening
 -- and reading it may give
-abbrev pub IsToldOfFile : (read : FileUnits) (fails : Error → Type 0) (f : List ℕ) → Option PassedOver → Type 0
-IsToldOfFile read fails f units =
-    ((fault : FileFault) × Refuses fails f LineSection fault × (units ≡ None))
+abbrev pub IsToldOfFile : (refuses : ℕ → Type 0) (read : FileUnits) (fails : Error → Type 0) (f : List ℕ) → Option PassedOver → Type 0
+IsToldOfFile refuses read fails f units =
+    ((fault : FileFault) × Refuses refuses fails f LineSection fault × (units ≡ None))
     ⊎ ((t : LineTable) × (answer : Result (Option PassedOver) RunFault) × HasLineTable f LineSection (Ok t)
     × PassesOverTable read t answer × (units ≡ told_of answer))

@@ -7,6 +7,7 @@ use Rattle.dl_elf.specs.declared.file.Elf.{Elf}
 use Rattle.dl_elf.specs.declared.fault.ElfFault.TheVariants.{Read, NoMemory}
 use Rattle.dl_elf.specs.Sections.{opened}
 use Rattle.dl_elf.specs.Numbered.{code_section, section_number}
+use Rattle.dl_memory.specs.Refusals.{WasRefused}
 use Rattle.dl_file.specs.Places.{ArePlaces, TakesPlaces}
 use Rattle.dl_reloc.specs.declared.placed.Placed.{Placed}
 use Rattle.dl_open.specs.declared.object_part.Part.{Part}
@@ -36,13 +37,13 @@ IsPart f is_object name (Some part) =
     HasPlaces f is_object part.places.items × (part.places.items ≢ []) × IsSection f name (Some part.section)
 IsPart f is_object name None = (name ≡ None) × (HasPlaces f is_object [] ⊎ IsSection f None None)
 
--- ---- why that can't be told. fails: the errors that reading the file may give
+-- ---- why that can't be told. fails: the errors that reading the file may give; refuses: for how many items memory is refused
 
-abbrev pub RefusesPlaces : (fails : Error → Type 0) (f : List ℕ) (is_object : Bool) → FileFault → Type 0
-RefusesPlaces fails f is_object (ElfOf (Read error)) = fails error
-RefusesPlaces fails f is_object (ElfOf NoMemory) = (is_object ≡ true) × TakesPlaces f
-RefusesPlaces fails f is_object (ElfOf fault) = (is_object ≡ true) × ArePlaces f (Err fault)
-RefusesPlaces fails f is_object other = ⊥
+abbrev pub RefusesPlaces : (refuses : ℕ → Type 0) (fails : Error → Type 0) (f : List ℕ) (is_object : Bool) → FileFault → Type 0
+RefusesPlaces refuses fails f is_object (ElfOf (Read error)) = fails error
+RefusesPlaces refuses fails f is_object (ElfOf NoMemory) = (is_object ≡ true) × TakesPlaces f × WasRefused refuses
+RefusesPlaces refuses fails f is_object (ElfOf fault) = (is_object ≡ true) × ArePlaces f (Err fault)
+RefusesPlaces refuses fails f is_object other = ⊥
 
 abbrev pub RefusesSection : (fails : Error → Type 0) (f : List ℕ) → FileFault → Type 0
 RefusesSection fails f (ElfOf (Read error)) = fails error
@@ -59,8 +60,8 @@ abbrev pub LacksSection : (path : List ℕ) (f : List ℕ) (name : Option (List 
 LacksSection path f name (NoSection p n) = (p.now ≡ path) × (name ≡ Some n.now) × IsSection f name None
 LacksSection path f name other = ⊥
 
-abbrev pub PartStops : (fails : Error → Type 0) (path : List ℕ) (f : List ℕ) (is_object : Bool) (name : Option (List ℕ)) → FileStop
+abbrev pub PartStops : (refuses : ℕ → Type 0) (fails : Error → Type 0) (path : List ℕ) (f : List ℕ) (is_object : Bool) (name : Option (List ℕ)) → FileStop
     → Type 0
-PartStops fails path f is_object name stop = LacksSection path f name stop
-    ⊎ ((fault : FileFault) × (RefusesPlaces fails f is_object fault ⊎ (RefusesSection fails f fault
+PartStops refuses fails path f is_object name stop = LacksSection path f name stop
+    ⊎ ((fault : FileFault) × (RefusesPlaces refuses fails f is_object fault ⊎ (RefusesSection fails f fault
     ⊎ RefusesName f is_object name fault)) × IsAt path fault stop)

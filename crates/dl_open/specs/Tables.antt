@@ -5,8 +5,9 @@ use Rattle.std.specs.Prelude.{Option, Some, None, option_map, IfSome, Ok, Err}
 use Rattle.std.specs.declared.io.Error.{Error}
 use Rattle.dl_file.specs.declared.line_file.Wanted.{Wanted}
 use Rattle.dl_file.specs.declared.line_file.Wanted.TheVariants.{LineSection, LineAndLineStrings, LineAndStringSections}
+use Rattle.dl_elf.specs.declared.fault.ElfFault.{ElfFault}
 use Rattle.dl_elf.specs.declared.fault.ElfFault.TheVariants.{Read, NoMemory}
-use Rattle.dl_file.specs.LineTable.{Content, HasLineTable, Inflated, LineTable, Plain, TakesMemory}
+use Rattle.dl_file.specs.LineTable.{Content, HasLineTable, Inflated, LineTable, LineTooLong, Plain, TakesMemory}
 use Rattle.dl_elf.specs.declared.header.Class.{Class}
 use Rattle.dl_elf.specs.declared.header.Class.TheVariants as class
 use Rattle.dl_num.specs.declared.fixed.Order.{Order}
@@ -16,6 +17,7 @@ use Rattle.dl_head.specs.declared.dialect.Dialect.{Dialect}
 use Rattle.dl_head.specs.declared.dialect.Older.{Older}
 use Rattle.dl_head.specs.declared.dialect.Older.TheVariants as older
 use Rattle.dl_forms.specs.Names.{AddsCellFrom, Names}
+use Rattle.dl_memory.specs.Refusals.{IsRefused, WasRefused}
 use Rattle.dl_object.specs.Kept.{Rises}
 use Rattle.dl_object.specs.Section.{Keeps, WantsCell}
 use Rattle.dl_run.specs.declared.options.TheConstants.{SECTION_LIMIT}
@@ -32,9 +34,9 @@ use Rattle.dl_open.specs.declared.fault.FileFault.{FileFault}
 use Rattle.dl_open.specs.declared.fault.FileFault.TheVariants.{Open, Elf, NoMemory as Refused}
 use Rattle.dl_open.specs.declared.stop.FileStop.{FileStop}
 use Rattle.dl_open.specs.Files.{FileStops}
-use Rattle.dl_open.specs.Stops.{IsAt, StopsAt, Stream}
+use Rattle.dl_open.specs.Stops.{IsAt, IsReadFault, StopsAt, Stream}
 
--- ---- string sections of the file. fails: the errors that reading it may give
+-- ---- string sections of the file. fails: the errors that reading it may give; refuses: for how many items memory is refused
 
 -- one that is there has no more than 2^32 bytes
 abbrev pub Fits : Option (List ℕ) → Type 0
@@ -60,15 +62,16 @@ stream_of (Plain bytes) = None
 stream_of (Inflated name bytes damage) = Some (name, damage)
 
 -- a section stops the program: a read or a growth failed, or it is too long
-abbrev pub SectionStops : (fails : Error → Type 0) (path : List ℕ) → Content → FileStop → Type 0
-SectionStops fails path content stop =
-    (f : RunFault) × FileStops (Some (bytes_of content)) STRINGS_LIMIT f × StopsAt fails path (stream_of content) f stop
+abbrev pub SectionStops : (refuses : ℕ → Type 0) (fails : Error → Type 0) (path : List ℕ) → Content → FileStop → Type 0
+SectionStops refuses fails path content stop =
+    (f : RunFault) × FileStops ⊤ refuses (Some (bytes_of content)) STRINGS_LIMIT f × StopsAt fails path (stream_of content) f stop
 
 -- the first does, or the other once the first was read
-abbrev pub StringsStop : (fails : Error → Type 0) (path : List ℕ) (line_str str : Option Content) → FileStop → Type 0
-StringsStop fails path line_str str stop =
-    ((content : Content) × (line_str ≡ Some content) × SectionStops fails path content stop)
-    ⊎ ((content : Content) × (str ≡ Some content) × SectionStops fails path content stop
+abbrev pub StringsStop : (refuses : ℕ → Type 0) (fails : Error → Type 0) (path : List ℕ) (line_str str : Option Content) → FileStop
+    → Type 0
+StringsStop refuses fails path line_str str stop =
+    ((content : Content) × (line_str ≡ Some content) × SectionStops refuses fails path content stop)
+    ⊎ ((content : Content) × (str ≡ Some content) × SectionStops refuses fails path content stop
     × Fits (option_map bytes_of line_str))
 
 -- the size of an address in a file of this class
@@ -95,33 +98,36 @@ file_dialect units t = class_dialect units t.order t.class
 abbrev pub IsKept : Dialect → Part → Content → (kept : List ℕ) → Type 0
 IsKept dialect part content kept = Keeps dialect part.places.items part.section 0 (bytes_of content) kept
 
--- they can't be read whole, or memory is refused: for a header, or for places that don't rise
-abbrev pub KeepingStops : (fails : Error → Type 0) (path : List ℕ) → Dialect → Part → Content → FileStop → Type 0
-KeepingStops fails path dialect part content stop =
-    ((f : RunFault) × FileStops (Some (bytes_of content)) SECTION_LIMIT f × StopsAt fails path (stream_of content) f stop)
-    ⊎ (((Rises part.places.items → ⊥) ⊎ WantsCell dialect (bytes_of content)) × IsAt path Refused stop)
+-- they can't be read whole, or memory is refused: for a header, or for no more places than these, which don't rise
+abbrev pub KeepingStops : (refuses : ℕ → Type 0) (fails : Error → Type 0) (path : List ℕ) → Dialect → Part → Content → FileStop
+    → Type 0
+KeepingStops refuses fails path dialect part content stop =
+    ((f : RunFault) × FileStops ⊤ refuses (Some (bytes_of content)) SECTION_LIMIT f × StopsAt fails path (stream_of content) f stop)
+    ⊎ ((((Rises part.places.items → ⊥) × IsRefused refuses (length part.places.items)) ⊎ WantsCell dialect (bytes_of content))
+    × IsAt path Refused stop)
 
--- ---- the file. fails: the errors that opening and reading it may give
+-- ---- the file. fails: the errors that opening and reading it may give; refuses: for how many items memory is refused
 
 -- why its line table can't be had; memory is refused only for a line section with relocations, and for streams
-abbrev pub Refuses : (fails : Error → Type 0) (f : List ℕ) → Wanted → FileFault → Type 0
-Refuses fails f wanted (Open error) = fails error
-Refuses fails f wanted (Elf (Read error)) = fails error
-Refuses fails f wanted (Elf NoMemory) = TakesMemory f wanted
-Refuses fails f wanted (Elf fault) = HasLineTable f wanted (Err fault)
-Refuses fails f wanted other = ⊥
+abbrev pub Refuses : (refuses : ℕ → Type 0) (fails : Error → Type 0) (f : List ℕ) → Wanted → FileFault → Type 0
+Refuses refuses fails f wanted (Open error) = fails error
+Refuses refuses fails f wanted (Elf (Read error)) = fails error
+Refuses refuses fails f wanted (Elf NoMemory) = TakesMemory f wanted × (WasRefused refuses ⊎ LineTooLong f wanted)
+Refuses refuses fails f wanted (Elf fault) = HasLineTable f wanted (Err fault)
+Refuses refuses fails f wanted other = ⊥
 
 -- opening it for these sections does
-abbrev pub OpeningStops : (fails : Error → Type 0) (path : List ℕ) (f : List ℕ) → Wanted → FileStop → Type 0
-OpeningStops fails path f wanted stop = (fault : FileFault) × Refuses fails f wanted fault × IsAt path fault stop
+abbrev pub OpeningStops : (refuses : ℕ → Type 0) (fails : Error → Type 0) (path : List ℕ) (f : List ℕ) → Wanted → FileStop → Type 0
+OpeningStops refuses fails path f wanted stop = (fault : FileFault) × Refuses refuses fails f wanted fault × IsAt path fault stop
 
 -- ---- .debug_str, which is looked into only where a table of the line section names it
 
 -- whether a table of a line section of these bytes names it. One that is inflated as it is read is taken to name it where
--- a read of its stream fails
-abbrev pub IsNamed : Dialect → Content → (names : Bool) → Type 0
-IsNamed dialect (Plain bytes) names = IsTrue names ↔ Names dialect bytes
-IsNamed dialect (Inflated name bytes damage) names = Names dialect bytes → IsTrue names
+-- a read of it fails
+abbrev pub IsNamed : (fails : Error → Type 0) → Dialect → Content → (names : Bool) → Type 0
+IsNamed fails dialect (Plain bytes) names = IsTrue names ↔ Names dialect bytes
+IsNamed fails dialect (Inflated name bytes damage) names = (IsTrue names ↔ Names dialect bytes)
+    ⊎ (IsTrue names × ((f : ElfFault) × IsReadFault fails (Some (name, damage)) f))
 
 -- it can't be told: a read failed, or memory was refused for a header, or the section is too long
 abbrev pub StopsNaming : Dialect → (known : Option (List ℕ)) → RunFault → Type 0
@@ -138,26 +144,26 @@ abbrev pub with_strings : (names : Bool) → Wanted
 with_strings names = if names then LineAndStringSections else LineAndLineStrings
 
 -- the sections that are looked into, of a file of which these units are read
-abbrev pub LooksInto : FileUnits → Sections → (f : List ℕ) → Wanted → Type 0
-LooksInto read Lines f wanted = wanted ≡ LineSection
-LooksInto read LinesAndTexts f wanted = (t : LineTable) × HasLineTable f LineAndLineStrings (Ok t)
+abbrev pub LooksInto : FileUnits → (fails : Error → Type 0) → Sections → (f : List ℕ) → Wanted → Type 0
+LooksInto read fails Lines f wanted = wanted ≡ LineSection
+LooksInto read fails LinesAndTexts f wanted = (t : LineTable) × HasLineTable f LineAndLineStrings (Ok t)
     × (((t.has_str ≡ false) × (wanted ≡ LineAndLineStrings))
-    ⊎ ((names : Bool) × (t.has_str ≡ true) × IsNamed (file_dialect read t) t.line names × (wanted ≡ with_strings names)))
+    ⊎ ((names : Bool) × (t.has_str ≡ true) × IsNamed fails (file_dialect read t) t.line names × (wanted ≡ with_strings names)))
 
 -- the file has this line table, with the string sections that are looked into
-abbrev pub HasTable : FileUnits → Sections → (f : List ℕ) → LineTable → Type 0
-HasTable read sections f t = (wanted : Wanted) × LooksInto read sections f wanted × HasLineTable f wanted (Ok t)
+abbrev pub HasTable : FileUnits → (fails : Error → Type 0) → Sections → (f : List ℕ) → LineTable → Type 0
+HasTable read fails sections f t = (wanted : Wanted) × LooksInto read fails sections f wanted × HasLineTable f wanted (Ok t)
 
 -- t, the line section and .debug_line_str, can be had: why no more, for the walk over the tables, or for what they name
-abbrev pub NamedStops : FileUnits → (fails : Error → Type 0) (path : List ℕ) (f : List ℕ) → LineTable → FileStop → Type 0
-NamedStops read fails path f t stop =
+abbrev pub NamedStops : (refuses : ℕ → Type 0) → FileUnits → (fails : Error → Type 0) (path : List ℕ) (f : List ℕ) → LineTable → FileStop → Type 0
+NamedStops refuses read fails path f t stop =
     NamingStops fails path (file_dialect read t) t.line stop
-    ⊎ ((names : Bool) × IsNamed (file_dialect read t) t.line names × OpeningStops fails path f (with_strings names) stop)
+    ⊎ ((names : Bool) × IsNamed fails (file_dialect read t) t.line names × OpeningStops refuses fails path f (with_strings names) stop)
 
 -- why it can't be had: for the line section, or with texts for that and .debug_line_str, or where the file has .debug_str
 -- for more
-abbrev pub TableStops : FileUnits → (fails : Error → Type 0) (path : List ℕ) → Sections → (f : List ℕ) → FileStop → Type 0
-TableStops read fails path Lines f stop = OpeningStops fails path f LineSection stop
-TableStops read fails path LinesAndTexts f stop =
-    OpeningStops fails path f LineAndLineStrings stop
-    ⊎ ((t : LineTable) × HasLineTable f LineAndLineStrings (Ok t) × (t.has_str ≡ true) × NamedStops read fails path f t stop)
+abbrev pub TableStops : (refuses : ℕ → Type 0) → FileUnits → (fails : Error → Type 0) (path : List ℕ) → Sections → (f : List ℕ) → FileStop → Type 0
+TableStops refuses read fails path Lines f stop = OpeningStops refuses fails path f LineSection stop
+TableStops refuses read fails path LinesAndTexts f stop =
+    OpeningStops refuses fails path f LineAndLineStrings stop
+    ⊎ ((t : LineTable) × HasLineTable f LineAndLineStrings (Ok t) × (t.has_str ≡ true) × NamedStops refuses read fails path f t stop)

@@ -4,6 +4,7 @@ ghost use Rattle.std.specs.List.{list_any};
 ghost use Rattle.dl_file.specs.Code.{IsCode};
 ghost use Rattle.dl_elf.specs.Source.{ForBytes};
 ghost use Rattle.dl_file.specs.declared.code.Code as file_code;
+ghost use Rattle.dl_memory.specs.Refusals.{WasRefused};
 ghost use Rattle.dl_look.specs.CodeRanges.{has_code};
 ghost use Rattle.dl_look.specs.Ranges.{is_in};
 ghost use Rattle.dl_open.specs.declared.fault.FileFault.TheVariants.{NoMemory};
@@ -13,21 +14,23 @@ use crate::fault::FileFault;
 use dl_elf::ReadAt;
 use dl_file::{Code, CodeFault, ExecutableRange, find_code};
 use dl_look::{AddressRange, CodeRanges};
-use dl_memory::System;
-use std::alloc::Global;
+use dl_memory::Memory;
 
 /// The ranges as the look-up takes them.
-fn address_ranges(alloc: Global, ranges: &[ExecutableRange]) -> Result<Vec<AddressRange>, FileFault>
+fn address_ranges<M: Memory>(
+    memory: &M,
+    ranges: &[ExecutableRange],
+) -> Result<Vec<AddressRange>, FileFault>
     ensures ranges { IfOk result (λ addresses. addresses.items ≡ map address_range ranges.now) }
-    ensures memory { IfErr result (λ fault. fault ≡ NoMemory) }
+    ensures memory { IfErr result (λ fault. (fault ≡ NoMemory) × WasRefused (M.refuses memory.now)) }
 {
-    let mut addresses = Vec::new(alloc);
+    let mut addresses = Vec::new(memory.alloc());
     for range in ranges {
         let address = AddressRange {
             start: range.start,
             size: range.size,
         };
-        if addresses.push(address).is_err() {
+        if memory.push(&mut addresses, address).is_err() {
             return Err(FileFault::NoMemory);
         }
     }
@@ -35,36 +38,36 @@ fn address_ranges(alloc: Global, ranges: &[ExecutableRange]) -> Result<Vec<Addre
 }
 
 /// Where these ranges are, for the look-up.
-fn ranges_of(alloc: Global, ranges: &[ExecutableRange]) -> Result<CodeRanges, FileFault>
+fn ranges_of<M: Memory>(memory: &M, ranges: &[ExecutableRange]) -> Result<CodeRanges, FileFault>
     ensures has { IfOk result (λ code. (a : ℕ) → has_code code a ≡ list_any (is_in a) (map address_range ranges.now)) }
-    ensures memory { IfErr result (λ fault. fault ≡ NoMemory) }
+    ensures memory { IfErr result (λ fault. (fault ≡ NoMemory) × WasRefused (M.refuses memory.now)) }
 {
-    let addresses = address_ranges(alloc, ranges)?;
-    match CodeRanges::build(&System::new(alloc), addresses.as_slice()) {
+    let addresses = address_ranges(memory, ranges)?;
+    match CodeRanges::build(memory, addresses.as_slice()) {
         Ok(code) => Ok(code),
         Err(_) => Err(FileFault::NoMemory),
     }
 }
 
 /// The ranges in which sequences are live: those of the code, where the file is linked and has any.
-fn live_ranges(alloc: Global, code: &Code) -> Result<Option<CodeRanges>, FileFault>
+fn live_ranges<M: Memory>(memory: &M, code: &Code) -> Result<Option<CodeRanges>, FileFault>
     ensures live { IfOk result (λ ranges. AreLive ranges code.now) }
-    ensures memory { IfErr result (λ fault. (fault ≡ NoMemory) × (code.now.ranges.items ≢ [])) }
+    ensures memory { IfErr result (λ fault. (fault ≡ NoMemory) × (code.now.ranges.items ≢ []) × WasRefused (M.refuses memory.now)) }
 {
     if !code.is_linked || code.ranges.is_empty() {
         return Ok(None);
     }
-    Ok(Some(ranges_of(alloc, code.ranges.as_slice())?))
+    Ok(Some(ranges_of(memory, code.ranges.as_slice())?))
 }
 
 /// Where an open file has code, if it is linked and has any.
-pub fn code_of<S: ReadAt>(alloc: Global, file: &S) -> Result<Option<CodeRanges>, FileFault>
+pub fn code_of<M: Memory, S: ReadAt>(memory: &M, file: &S) -> Result<Option<CodeRanges>, FileFault>
     ensures { ForBytes (S.all_bytes file.now) (λ f. MatchResult result
         (λ ranges. (code : file_code.Code) × IsCode f (Ok code) × AreLive ranges code)
-        (RefusesCode (S.fails_with file.now) f)) }
+        (RefusesCode (M.refuses memory.now) (S.fails_with file.now) f)) }
 {
-    match find_code(alloc, file) {
-        Ok(code) => live_ranges(alloc, &code),
+    match find_code(memory, file) {
+        Ok(code) => live_ranges(memory, &code),
         Err(CodeFault::Elf(fault)) => Err(FileFault::Elf(fault)),
         Err(CodeFault::NoMemory) => Err(FileFault::NoMemory),
     }

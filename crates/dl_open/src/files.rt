@@ -1,13 +1,13 @@
 //! Where the program's files come from.
 ghost use Rattle.std.specs.Prelude.{◌≡◌, ℕ, List, Option, IfErr, IfOk, MatchResult};
 ghost use Rattle.std.specs.declared.io.Error.{Error};
-ghost use Rattle.dl_open.specs.Files.{FileHolds, FileStops};
+ghost use Rattle.dl_open.specs.Files.{FileHolds, FileStops, MayFail};
 ghost use Rattle.dl_open.specs.declared.fault.FileFault.TheVariants.{Open};
 
 use crate::fault::FileFault;
 use dl_elf::ReadAt;
+use dl_memory::Memory;
 use dl_run::RunFault;
-use std::alloc::Global;
 use std::io;
 
 /// Files, by their paths.
@@ -31,10 +31,10 @@ pub trait FileSource {
     /// All bytes of the file at a path, of which there may be `limit`.
     ///
     /// `Read` where it can't be opened or read, `SectionTooLong` where it has more bytes, `NoMemory`
-    /// where a growth is refused.
-    fn read_file(&self, alloc: Global, path: &str, limit: u64) -> Result<Vec<u8>, RunFault>
+    /// where memory was refused.
+    fn read_file<M: Memory>(&self, memory: &M, path: &str, limit: u64) -> Result<Vec<u8>, RunFault>
         ensures { MatchResult result (λ found. FileHolds (held self.now path.now) limit found.items)
-            (FileStops (held self.now path.now) limit) };
+            (FileStops (MayFail (fails_with self.now path.now)) (M.refuses memory.now) (held self.now path.now) limit) };
 }
 
 /// The file at a path, open to be read, or why it can't be.

@@ -4,6 +4,7 @@ ghost use Rattle.dl_elf.specs.Source.{ForBytes};
 ghost use Rattle.dl_file.specs.LineTable.{Content, GivesLine, GivesTable, HasLineTable, LineTable, Plain};
 ghost use Rattle.dl_forms.specs.Names.{Names};
 ghost use Rattle.dl_input.specs.Failing.{Blames};
+ghost use Rattle.dl_open.specs.Blaming.{BlamesFile};
 ghost use Rattle.dl_open.specs.Tables.{HasTable, IsNamed, NamedStops, NamingStops, OpeningStops, StopsNaming};
 ghost use Rattle.dl_open.specs.Tables.{TableStops, file_dialect, with_strings};
 ghost use Rattle.dl_file.specs.declared.line_file.Wanted.TheVariants.{LineAndLineStrings};
@@ -17,6 +18,7 @@ use dl_file::{LineFile, LineReader, Wanted, open_line_file};
 use dl_forms::StringWalk;
 use dl_head::Dialect;
 use dl_input::Source;
+use dl_memory::Memory;
 use dl_run::{Input, RunFault, SECTION_LIMIT};
 use std::alloc::Global;
 
@@ -66,8 +68,9 @@ fn is_named<'p, S: ReadAt>(
     dialect: Dialect,
     line: &mut LineReader<'_, S>,
 ) -> Result<bool, FileStop<'p>>
-    ensures { (source : _) (content : Content) → GivesLine S.all_bytes S.fails_with (S.fails_with source) line.old content
-        → MatchResult result (IsNamed dialect content) (NamingStops (S.fails_with source) path.entry.now dialect content) }
+    ensures told { (source : _) (content : Content) → GivesLine S.all_bytes S.fails_with (S.fails_with source) line.old content
+        → MatchResult result (IsNamed (S.fails_with source) dialect content) (NamingStops (S.fails_with source) path.entry.now dialect content) }
+    ensures blames { BlamesFile result }
 {
     let stream = line.stream_name();
     match names_str(alloc, dialect, line) {
@@ -84,8 +87,9 @@ fn is_named_in<'p>(
     dialect: Dialect,
     bytes: &[u8],
 ) -> Result<bool, FileStop<'p>>
-    ensures { MatchResult result (λ names. IsTrue names ↔ Names dialect bytes.now)
+    ensures told { MatchResult result (λ names. IsTrue names ↔ Names dialect bytes.now)
         (NamingStops (λ error. ⊥) path.entry.now dialect (Plain bytes.now)) }
+    ensures blames { BlamesFile result }
 {
     let mut input = bytes;
     match names_str(alloc, dialect, &mut input) {
@@ -95,17 +99,18 @@ fn is_named_in<'p>(
 }
 
 /// The wanted sections of the file at this path.
-fn opened<'p, 'a, S: ReadAt>(
-    alloc: Global,
+fn opened<'p, 'a, M: Memory, S: ReadAt>(
+    memory: &M,
     path: &'p str,
     file: &'a S,
     wanted: Wanted,
 ) -> Result<LineFile<'a, S>, FileStop<'p>>
-    ensures { ForBytes (S.all_bytes file.entry.now) (λ f. MatchResult result
+    ensures opens { ForBytes (S.all_bytes file.entry.now) (λ f. MatchResult result
         (λ table. (t : LineTable) × HasLineTable f wanted (Ok t) × GivesTable S.all_bytes S.fails_with (S.fails_with file.entry.now) table t)
-        (OpeningStops (S.fails_with file.entry.now) path.entry.now f wanted)) }
+        (OpeningStops (M.refuses memory.now) (S.fails_with file.entry.now) path.entry.now f wanted)) }
+    ensures blames { BlamesFile result }
 {
-    match open_line_file(alloc, file, wanted) {
+    match open_line_file(memory, file, wanted) {
         Ok(table) => Ok(table),
         Err(fault) => Err(FileStop::File {
             path,
@@ -128,73 +133,76 @@ fn with_strings(names: bool) -> Wanted
 /// The line table of the file at this path, whose line section and `.debug_line_str` are opened, with `.debug_str` where
 /// a table names it. The walk over the tables uses up the reader of the line section, unless this is held: then the file
 /// is opened anew.
-fn with_named<'p, 'a, S: ReadAt>(
-    alloc: Global,
+fn with_named<'p, 'a, M: Memory, S: ReadAt>(
+    memory: &M,
     path: &'p str,
     file: &'a S,
     units: FileUnits,
     table: LineFile<'a, S>,
 ) -> Result<LineFile<'a, S>, FileStop<'p>>
-    ensures { ForBytes (S.all_bytes file.entry.now) (λ f. (t : LineTable)
+    ensures opens { ForBytes (S.all_bytes file.entry.now) (λ f. (t : LineTable)
         → GivesTable S.all_bytes S.fails_with (S.fails_with file.entry.now) table.entry t
         → HasLineTable f LineAndLineStrings (Ok t) → MatchResult result
-        (λ opened. (names : Bool) × IsNamed (file_dialect units t) t.line names × ((t2 : LineTable)
+        (λ opened. (names : Bool) × IsNamed (S.fails_with file.entry.now) (file_dialect units t) t.line names × ((t2 : LineTable)
         × HasLineTable f (with_strings names) (Ok t2)
         × GivesTable S.all_bytes S.fails_with (S.fails_with file.entry.now) opened t2))
-        (NamedStops units (S.fails_with file.entry.now) path.entry.now f t)) }
+        (NamedStops (M.refuses memory.now) units (S.fails_with file.entry.now) path.entry.now f t)) }
+    ensures blames { BlamesFile result }
 {
     let mut table = table;
     let dialect = file_dialect(table.order, table.class, units);
     if let Some(bytes) = table.line.held() {
-        return match is_named_in(alloc, path, dialect, bytes) {
-            Ok(true) => opened(alloc, path, file, Wanted::LineAndStringSections),
+        return match is_named_in(memory.alloc(), path, dialect, bytes) {
+            Ok(true) => opened(memory, path, file, Wanted::LineAndStringSections),
             Ok(false) => Ok(table),
             Err(stop) => Err(stop),
         };
     }
-    match is_named(alloc, path, dialect, &mut table.line) {
-        Ok(names) => opened(alloc, path, file, with_strings(names)),
+    match is_named(memory.alloc(), path, dialect, &mut table.line) {
+        Ok(names) => opened(memory, path, file, with_strings(names)),
         Err(stop) => Err(stop),
     }
 }
 
 /// The sections of the file at this path, of which texts are printed: `.debug_str` is one of them only where a table of
 /// the line section names it.
-fn with_texts<'p, 'a, S: ReadAt>(
-    alloc: Global,
+fn with_texts<'p, 'a, M: Memory, S: ReadAt>(
+    memory: &M,
     path: &'p str,
     file: &'a S,
     units: FileUnits,
 ) -> Result<LineFile<'a, S>, FileStop<'p>>
-    ensures { ForBytes (S.all_bytes file.entry.now) (λ f. MatchResult result
-        (λ table. (t : LineTable) × HasTable units LinesAndTexts f t × GivesTable S.all_bytes S.fails_with (S.fails_with file.entry.now) table t)
-        (TableStops units (S.fails_with file.entry.now) path.entry.now LinesAndTexts f)) }
+    ensures opens { ForBytes (S.all_bytes file.entry.now) (λ f. MatchResult result
+        (λ table. (t : LineTable) × HasTable units (S.fails_with file.entry.now) LinesAndTexts f t × GivesTable S.all_bytes S.fails_with (S.fails_with file.entry.now) table t)
+        (TableStops (M.refuses memory.now) units (S.fails_with file.entry.now) path.entry.now LinesAndTexts f)) }
+    ensures blames { BlamesFile result }
 {
-    let table = match opened(alloc, path, file, Wanted::LineAndLineStrings) {
+    let table = match opened(memory, path, file, Wanted::LineAndLineStrings) {
         Ok(table) => table,
         Err(stop) => return Err(stop),
     };
     if !table.has_debug_str {
         return Ok(table);
     }
-    with_named(alloc, path, file, units, table)
+    with_named(memory, path, file, units, table)
 }
 
 /// The line table of the file at this path, with the sections that are looked into. `.debug_str` is one of them only
 /// where a table of the line section names it, of the units that are read.
-pub fn open_table<'p, 'a, S: ReadAt>(
-    alloc: Global,
+pub fn open_table<'p, 'a, M: Memory, S: ReadAt>(
+    memory: &M,
     path: &'p str,
     file: &'a S,
     units: FileUnits,
     sections: Sections,
 ) -> Result<LineFile<'a, S>, FileStop<'p>>
-    ensures { ForBytes (S.all_bytes file.entry.now) (λ f. MatchResult result
-        (λ table. (t : LineTable) × HasTable units sections f t × GivesTable S.all_bytes S.fails_with (S.fails_with file.entry.now) table t)
-        (TableStops units (S.fails_with file.entry.now) path.entry.now sections f)) }
+    ensures opens { ForBytes (S.all_bytes file.entry.now) (λ f. MatchResult result
+        (λ table. (t : LineTable) × HasTable units (S.fails_with file.entry.now) sections f t × GivesTable S.all_bytes S.fails_with (S.fails_with file.entry.now) table t)
+        (TableStops (M.refuses memory.now) units (S.fails_with file.entry.now) path.entry.now sections f)) }
+    ensures blames { BlamesFile result }
 {
     match sections {
-        Sections::Lines => opened(alloc, path, file, Wanted::LineSection),
-        Sections::LinesAndTexts => with_texts(alloc, path, file, units),
+        Sections::Lines => opened(memory, path, file, Wanted::LineSection),
+        Sections::LinesAndTexts => with_texts(memory, path, file, units),
     }
 }

@@ -11,6 +11,7 @@ use crate::files::{FileSource, open_file};
 use crate::shown::Shown;
 use dl_elf::ReadAt;
 use dl_file::{LineFile, Wanted, open_line_file};
+use dl_memory::Memory;
 use dl_run::{Options, PassedOver, RunFault, SECTION_LIMIT, passed_over};
 use std::alloc::Global;
 use std::io::Write;
@@ -120,30 +121,30 @@ fn told(answer: Result<Option<PassedOver>, RunFault>) -> Option<PassedOver>
 }
 
 /// The units of other versions in the line table of an open file. None where there is none, or at a fault.
-fn in_file<S: ReadAt>(alloc: Global, units: FileUnits, file: &S) -> Option<PassedOver>
-    ensures { ForBytes (S.all_bytes file.now) (λ f. IsToldOfFile units (S.fails_with file.now) f result) }
+fn in_file<M: Memory, S: ReadAt>(memory: &M, units: FileUnits, file: &S) -> Option<PassedOver>
+    ensures { ForBytes (S.all_bytes file.now) (λ f. IsToldOfFile (M.refuses memory.now) units (S.fails_with file.now) f result) }
 {
-    match open_line_file(alloc, file, Wanted::LineSection) {
-        Ok(table) => told(in_table(alloc, units, table)),
+    match open_line_file(memory, file, Wanted::LineSection) {
+        Ok(table) => told(in_table(memory.alloc(), units, table)),
         Err(_) => None,
     }
 }
 
 /// The units that aren't read in the line table of the file at this path, which is opened and read anew. None where
 /// there is none; also at a fault, of which nothing is told.
-pub fn units_not_read<'a, F: FileSource>(
-    alloc: Global,
+pub fn units_not_read<'a, M: Memory, F: FileSource>(
+    memory: &M,
     files: &F,
     path: &'a str,
     read: FileUnits,
 ) -> Option<UnitsNotRead<'a>>
     ensures path { IfSome result (λ units. units.path ≡ path.entry) }
-    ensures units { ForBytes (F.held files.now path.entry.now) (λ f. IsToldOfFile read
+    ensures units { ForBytes (F.held files.now path.entry.now) (λ f. IsToldOfFile (M.refuses memory.now) read
         (F.fails_with files.now path.entry.now) f (option_map (λ units. units.units) result)) }
 {
     match open_file(files, path) {
         Ok(file) => {
-            let units = in_file(alloc, read, &file)?;
+            let units = in_file(memory, read, &file)?;
             Some(UnitsNotRead { path, units })
         }
         Err(_) => None,

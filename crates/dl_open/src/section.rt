@@ -5,13 +5,13 @@ ghost use Rattle.dl_file.specs.Faults.{FailsOnly};
 ghost use Rattle.dl_file.specs.LineReader.{LineReaderFails, line_damage, line_remaining};
 ghost use Rattle.dl_file.specs.LineTable.{Content, GivesLine};
 ghost use Rattle.dl_open.specs.Directories.{bytes_had};
-ghost use Rattle.dl_open.specs.Pieces.{IsPiece, IsRead, IsUnread};
+ghost use Rattle.dl_open.specs.Pieces.{IsPiece, IsRead, IsReadError, IsUnread};
 
 use crate::strings::STRINGS_LIMIT;
 use dl_elf::ReadAt;
 use dl_file::{LineReader, ReadFault};
+use dl_memory::Memory;
 use dl_run::INTERRUPTIONS;
-use std::alloc::Global;
 use std::io;
 use std::io::{ErrorKind, Read};
 
@@ -92,7 +92,7 @@ pub(crate) fn next_piece<'b, S: ReadAt>(
     ensures piece { IfOk result (IsPiece (line_damage S.all_bytes section.old) (line_remaining S.all_bytes section.old)
         (line_remaining S.all_bytes section.new) left.old left.new) }
     ensures damage { line_damage S.all_bytes section.new ≡ line_damage S.all_bytes section.old }
-    ensures fails { IfErr result (IsUnread (LineReaderFails S.all_bytes S.fails_with section.old)) }
+    ensures fails { IfErr result (IsReadError (LineReaderFails S.all_bytes S.fails_with section.old)) }
     ensures later { FailsOnly (LineReaderFails S.all_bytes S.fails_with section.new)
         (LineReaderFails S.all_bytes S.fails_with section.old) }
 {
@@ -114,21 +114,21 @@ pub(crate) fn next_piece<'b, S: ReadAt>(
 }
 
 /// All bytes of a section; None where they can't be had: its stream is damaged, or there are more than 2^32.
-pub(crate) fn whole<S: ReadAt>(
-    alloc: Global,
+pub(crate) fn whole<M: Memory, S: ReadAt>(
+    memory: &M,
     section: &mut LineReader<'_, S>,
 ) -> Result<Option<Vec<u8>>, Unread>
     ensures bytes { (source : _) (content : Content) → GivesLine S.all_bytes S.fails_with (S.fails_with source) section.old content
         → IfOk result (λ held. option_map (λ v. v.items) held ≡ bytes_had STRINGS_LIMIT content) }
-    ensures fails { IfErr result (IsUnread (LineReaderFails S.all_bytes S.fails_with section.old)) }
+    ensures fails { IfErr result (IsUnread (M.refuses memory.now) (LineReaderFails S.all_bytes S.fails_with section.old)) }
 {
     let mut left = STRINGS_LIMIT;
     let mut buffer = [0; PIECE];
-    let mut bytes = Vec::new(alloc);
+    let mut bytes = Vec::new(memory.alloc());
     loop {
         match next_piece(section, &mut left, &mut buffer)? {
             Piece::Bytes(piece) => {
-                let Ok(()) = bytes.extend_from_slice(piece) else {
+                let Ok(()) = memory.extend_from_slice(&mut bytes, piece) else {
                     return Err(Unread::NoMemory);
                 };
             }

@@ -6,3 +6,4 @@ pub mod SymbolLemmas
 pub mod CompactLemmas
 pub mod CompactSteps
 pub mod PlaceLemmas
+pub mod CountLemmas

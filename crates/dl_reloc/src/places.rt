@@ -1,6 +1,7 @@
 //! The places that relocations change, with the sections of their symbols. System V ABI, chapter 4, "Symbol Table".
-ghost use Rattle.std.specs.Prelude.{◌≡◌, ◌≤◌, ◌++◌, length, OnOk};
-ghost use Rattle.dl_reloc.specs.Entries.{symbol_size};
+ghost use Rattle.std.specs.Prelude.{◌≡◌, ◌≤◌, ◌+◌, ◌++◌, length, OnErr, OnOk};
+ghost use Rattle.dl_memory.specs.Refusals.{IsRefused};
+ghost use Rattle.dl_reloc.specs.Entries.{count, entry_size, symbol_size};
 ghost use Rattle.dl_reloc.specs.Places.{index_in, placed, placed_compact, places_of, section_of, wide_index};
 
 use crate::compact::CompactHeader;
@@ -10,8 +11,8 @@ use crate::placed::Placed;
 use crate::symbol::symbol_size;
 use crate::table::{count, item, number_at};
 use crate::target::{Class, Form, Target};
+use dl_memory::{Memory, NoMemory};
 use dl_num::Order;
-use std::alloc::AllocError;
 
 /// The first of the numbers that no section has (SHN_LORESERVE).
 const SHN_LORESERVE: u64 = 0xff00;
@@ -61,15 +62,17 @@ fn section_of(target: &Target, table: &[u8], wide: &[u8], symbol: u64) -> u64
 }
 
 /// Puts the place that an entry changes after the others, if it changes one.
-fn push_place(
+fn push_place<M: Memory>(
+    memory: &M,
     target: &Target,
     entry: &Entry,
     table: &[u8],
     wide: &[u8],
     places: &mut Vec<Placed>,
-) -> Result<(), AllocError>
-    ensures { OnOk result
+) -> Result<(), NoMemory>
+    ensures places { OnOk result
         (places.new.items ≡ places.old.items ++ places_of target.now entry.now table.now wide.now) }
+    ensures refused { OnErr result (M.refuses memory.now (length places.old.items + 1)) }
 {
     let Some(change) = change_of(target, entry.number) else {
         return Ok(());
@@ -81,10 +84,7 @@ fn push_place(
         offset: entry.offset,
         section: section_of(target, table, wide, entry.symbol),
     };
-    if places.push(place).is_err() {
-        return Err(AllocError);
-    }
-    Ok(())
+    memory.push(places, place)
 }
 
 /// Puts the places that the whole entries of a relocation section change after the others, in order.
@@ -92,35 +92,41 @@ fn push_place(
 /// `table` are the bytes of the symbol table that belongs to the entries, and `wide` those of the section with the
 /// numbers of sections that don't fit there (SHT_SYMTAB_SHNDX), none where there is no such section. An entry of a type
 /// that changes nothing, or isn't known, has no place. Where a growth is refused, which places are there isn't said.
-pub fn push_places(
+pub fn push_places<M: Memory>(
+    memory: &M,
     target: &Target,
     form: Form,
     entries: &[u8],
     table: &[u8],
     wide: &[u8],
     places: &mut Vec<Placed>,
-) -> Result<(), AllocError>
-    ensures { OnOk result
+) -> Result<(), NoMemory>
+    ensures places { OnOk result
         (places.new.items ≡ places.old.items ++ placed target.now form entries.now table.now wide.now) }
+    ensures refused { OnErr result (IsRefused (M.refuses memory.now)
+        (length places.old.items + count (entry_size target.now.class form) entries.now)) }
 {
     let size = entry_size(target.class, form);
     for index in 0..count(entries, size) {
         let entry = Entry::read(target, form, item(entries, size, index));
-        push_place(target, &entry, table, wide, places)?;
+        push_place(memory, target, &entry, table, wide, places)?;
     }
     Ok(())
 }
 
 /// The same for a section of compact relocations (SHT_CREL), of as many entries as are there.
-pub fn push_compact_places(
+pub fn push_compact_places<M: Memory>(
+    memory: &M,
     target: &Target,
     section: &[u8],
     table: &[u8],
     wide: &[u8],
     places: &mut Vec<Placed>,
-) -> Result<(), AllocError>
-    ensures { OnOk result
+) -> Result<(), NoMemory>
+    ensures places { OnOk result
         (places.new.items ≡ places.old.items ++ placed_compact target.now section.now table.now wide.now) }
+    ensures refused { OnErr result (IsRefused (M.refuses memory.now)
+        (length places.old.items + length section.now)) }
 {
     let Some((header, mut rest)) = CompactHeader::read(section) else {
         return Ok(());
@@ -130,7 +136,7 @@ pub fn push_compact_places(
         let Some((next, after)) = header.next_entry(target.class, &entry, rest) else {
             return Ok(());
         };
-        push_place(target, &next, table, wide, places)?;
+        push_place(memory, target, &next, table, wide, places)?;
         entry = next;
         rest = after;
     }

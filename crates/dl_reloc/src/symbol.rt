@@ -1,11 +1,12 @@
 //! The values of symbols. System V ABI, chapter 4, "Symbol Table".
-ghost use Rattle.std.specs.Prelude.{◌≡◌, ◌≤◌, ◌++◌, ℕ, List, length, OnOk};
-ghost use Rattle.dl_reloc.specs.Entries.{AreWholeSymbols, symbol_size, symbol_value, symbol_values, value_in};
+ghost use Rattle.std.specs.Prelude.{◌≡◌, ◌≤◌, ◌+◌, ◌++◌, ℕ, List, length, OnErr, OnOk};
+ghost use Rattle.dl_memory.specs.Refusals.{IsRefused};
+ghost use Rattle.dl_reloc.specs.Entries.{AreWholeSymbols, count, symbol_size, symbol_value, symbol_values, value_in};
 
 use crate::table::{count, item, number_at};
 use crate::target::{Class, Target};
+use dl_memory::{Memory, NoMemory};
 use dl_num::Order;
-use std::alloc::AllocError;
 
 /// How many bytes a symbol has.
 pub fn symbol_size(class: Class) -> usize
@@ -33,26 +34,24 @@ fn value_in(class: Class, order: Order, bytes: &[u8]) -> u64
 ///
 /// A table may come in parts, one call for each in order, where the parts before the last are whole symbols: then the
 /// values are those of all bytes in one call. Where a growth is refused, which values are there isn't said.
-pub fn push_symbol_values(
+pub fn push_symbol_values<M: Memory>(
+    memory: &M,
     target: &Target,
     table: &[u8],
     values: &mut Vec<u64>,
-) -> Result<(), AllocError>
+) -> Result<(), NoMemory>
     ensures pushed { OnOk result
         (values.new.items ≡ values.old.items ++ symbol_values target.now.class target.now.order table.now) }
     ensures follows { (before : List ℕ) → AreWholeSymbols target.now.class before
         → values.old.items ≡ symbol_values target.now.class target.now.order before → OnOk result
         (values.new.items ≡ symbol_values target.now.class target.now.order (before ++ table.now)) }
+    ensures refused { OnErr result (IsRefused (M.refuses memory.now)
+        (length values.old.items + count (symbol_size target.now.class) table.now)) }
 {
     let size = symbol_size(target.class);
     for index in 0..count(table, size) {
         let symbol = item(table, size, index);
-        if values
-            .push(value_in(target.class, target.order, symbol))
-            .is_err()
-        {
-            return Err(AllocError);
-        }
+        memory.push(values, value_in(target.class, target.order, symbol))?;
     }
     Ok(())
 }

@@ -34,13 +34,13 @@ module _ (refuses : ℕ → Type 0) (held : Text → Option (List ℕ)) (fails :
   pub index_refused : (start : Option (List ℕ)) (result : Result Survey Stop) (stop : FileStop) (fault : FileFault)
       (are_wanted : Bool) → are_wanted ≡ is_none w.comp_dir
       → ForBytes (held path)
-      (λ f. RefusesOpening are_wanted (fails path) f fault ⊎ RefusesNaming (fails path) f fault)
+      (λ f. RefusesOpening refuses are_wanted (fails path) f fault ⊎ RefusesNaming (fails path) f fault)
       → IsAt path fault stop → result ≡ Err (stop_of stop) → IndexesFile refuses held fails path w start start result
   index_refused start result stop fault are_wanted wants why at is = λ f known short.
       inl (
         stop,
         fault,
-        subst (λ (b : Bool). RefusesOpening b (fails path) f fault ⊎ RefusesNaming (fails path) f fault) wants
+        subst (λ (b : Bool). RefusesOpening refuses b (fails path) f fault ⊎ RefusesNaming (fails path) f fault) wants
             (why f known short),
         at,
         is,

@@ -3,6 +3,7 @@ use Rattle.std.proofs.Common.{◌≡◌, ◌==◌, ◌⊎◌, inl, inr, ℕ, ◌
 use Rattle.std.proofs.Common.{Result}
 use Rattle.std.proofs.Common.{Err, refl, sym, ap, ◌∙◌, subst}
 use Rattle.std.specs.Option.{option_copied}
+use Rattle.std.specs.declared.io.Error.{Error}
 use Rattle.std.proofs.KnownBytes.{Keeps-refl}
 use Rattle.dl_file.specs.declared.code.Code.{Code}
 use Rattle.dl_look.specs.declared.code_ranges.CodeRanges.{CodeRanges}
@@ -63,11 +64,11 @@ asks_all w u these slice said q i asked sliced own code directories comp_dir for
 
 -- ---- a section on the input
 
-pub section_stops : (refuses : ℕ → Type 0) (held : Text → Option (List ℕ)) (w : AddrTexts) (left start : Option (List ℕ))
+pub section_stops : (refuses : ℕ → Type 0) (held : Text → Option (List ℕ)) (fails : Text → Error → Type 0) (w : AddrTexts) (left start : Option (List ℕ))
     (result : Result Located Stop) (stop : Stop) → result ≡ Err stop → WordsStop refuses w stop
     ⊎ (IsNoQuestion w × (stop ≡ NotUnderstood))
-    → LocatesInSection refuses held w [] left start start result
-section_stops refuses held w left start result stop is why = inl (stop, why, (is, refl, Keeps-refl start))
+    → LocatesInSection refuses held fails w [] left start start result
+section_stops refuses held fails w left start result stop is why = inl (stop, why, (is, refl, Keeps-refl start))
 
 pub some_asked : (asked : List Asked) → (length asked == 0) ≡ false → asked ≡ [] → ⊥
 some_asked asked some none =
@@ -80,21 +81,21 @@ is_question w asked suits words some (inr none) =
     some_asked asked some
     (words ∙ ap (map (λ text. record { address = address_by w.hex text })) none)
 
-pub section_done : (refuses : ℕ → Type 0) (held : Text → Option (List ℕ)) (w : AddrTexts) (asked : List Asked) (q : Question)
+pub section_done : (refuses : ℕ → Type 0) (held : Text → Option (List ℕ)) (fails : Text → Error → Type 0) (w : AddrTexts) (asked : List Asked) (q : Question)
     (bytes : List ℕ) (left start now : Option (List ℕ)) (section : SectionWords) (command : Command)
     (answer : Result Survey Stop) (result : Result Located Stop)
     → suits_input w ≡ true → asked ≡ asked_in_words w → (length asked == 0) ≡ false
     → Asks w asked (λ a. true) (said_directory w) q → section ≡ section_of (addr w) → command ≡ asking w q
-    → OnInput refuses held section command bytes left start now unheard answer → result ≡ located answer None
-    → LocatesInSection refuses held w bytes left start now result
-section_done refuses held w asked q bytes left start now section command answer result suits words some asks said commanded does
+    → OnInput refuses held fails section command bytes left start now unheard answer → result ≡ located answer None
+    → LocatesInSection refuses held fails w bytes left start now result
+section_done refuses held fails w asked q bytes left start now section command answer result suits words some asks said commanded does
     is =
     inr (
       q,
       answer,
       is_question w asked suits words some,
       subst (λ (these : List Asked). Asks w these (λ a. true) (said_directory w) q) words asks,
-      subst (λ (s : SectionWords). OnInput refuses held s (asking w q) bytes left start now unheard answer) said
-          (subst (λ (c : Command). OnInput refuses held section c bytes left start now unheard answer) commanded does),
+      subst (λ (s : SectionWords). OnInput refuses held fails s (asking w q) bytes left start now unheard answer) said
+          (subst (λ (c : Command). OnInput refuses held fails section c bytes left start now unheard answer) commanded does),
       is,
     )

@@ -69,9 +69,9 @@ module _ (refuses : ℕ → Type 0) (fails wider : Error → Type 0) (more : (e 
 
   -- ---- an ELF file
 
-  pub refuses_wider : (are_wanted : Bool) (f : List ℕ) (fault : FileFault) → RefusesOpening are_wanted fails f fault
-      → RefusesOpening are_wanted wider f fault
-  refuses_wider are_wanted f fault refuses = search rules
+  pub refuses_wider : (are_wanted : Bool) (f : List ℕ) (fault : FileFault) → RefusesOpening refuses are_wanted fails f fault
+      → RefusesOpening refuses are_wanted wider f fault
+  refuses_wider are_wanted f fault why = search rules
 
   pub elf_file_wider : (path : Bor Text) (w : AddrTexts) (f bytes : List ℕ) (left start now : Option (List ℕ))
       (r : Result Located Stop) → LocatesInElfFile refuses fails path w f bytes left start now r

@@ -17,7 +17,7 @@ use Rattle.dl_open.specs.declared.stop.FileStop.{FileStop}
 use Rattle.dl_open.specs.Parts.{PartStops}
 use Rattle.dl_open.specs.Tables.{IsWhole, bytes_of, file_dialect, stream_of}
 use Rattle.dl_open.specs.Stops.{Stream}
-use Rattle.dl_open.proofs.WiderLemmas.{keeping_wider, part_stops_weaker, stops_at_wider, strings_wider}
+use Rattle.dl_open.proofs.WiderLemmas.{has_table_wider, keeping_wider, part_stops_weaker, stops_at_wider, strings_wider}
 use Rattle.dl_open.proofs.WiderLemmas.{table_stops_weaker}
 use Rattle.dl_work.specs.declared.command.Command.{Command}
 use Rattle.dl_work.specs.Asked.{Does, WithoutTable, is_copy, looks_up, sections_of}
@@ -78,12 +78,12 @@ of_part refuses units fails path command t part chosen start now hears result is
 pub found_stops : (refuses : ℕ → Type 0) (units : FileUnits) (fails : Error → Type 0) (path : Text) (name : Option Text) (command : Command) (f : List ℕ)
     (t : LineTable) (start now : Option (List ℕ)) (hears : List Damage → Type 0) (stop : FileStop)
     (looks is_object : Bool) → looks ≡ true
-    → looks ≡ looks_up command → is_object ≡ t.is_object_file → PartStops fails path f is_object name stop
+    → looks ≡ looks_up command → is_object ≡ t.is_object_file → PartStops refuses fails path f is_object name stop
     → WithoutTable refuses command start now → hears [] → OnFound refuses units fails path name command f t start now hears (Err stop)
 found_stops refuses units fails path name command f t start now hears stop looks is_object said own object why written untold =
     subst (λ (looks : Bool). OnFoundWhere refuses looks units fails path name command f t start now hears (Err stop))
     (sym said ∙ own)
-    (inl (stop, refl, subst (λ (b : Bool). PartStops fails path f b name stop) object why, written, untold))
+    (inl (stop, refl, subst (λ (b : Bool). PartStops refuses fails path f b name stop) object why, written, untold))
 
 -- ---- the errors that opening and reading may give
 
@@ -116,7 +116,7 @@ lines_wider : (refuses : ℕ → Type 0) (units : FileUnits) (fails wider : Erro
 lines_wider refuses units fails wider path command t None start now hears result more runs =
     runs_wider refuses units fails wider path command t start now hears result more runs
 lines_wider refuses units fails wider path command t (Some part) start now hears result more (inl (stop, is, why, written, untold)) =
-    inl (stop, is, keeping_wider fails wider path (file_dialect units t) part t.line stop more why, written, untold)
+    inl (stop, is, keeping_wider refuses fails wider path (file_dialect units t) part t.line stop more why, written, untold)
 lines_wider refuses units fails wider path command t (Some part) start now hears result more (inr (kept, is, runs)) =
     inr (kept, is, runs_wider refuses units fails wider path command (with_bytes t kept) start now hears result more runs)
 
@@ -127,7 +127,7 @@ table_wider : (refuses : ℕ → Type 0) (copies : Bool) (units : FileUnits) (fa
     → OnTableWhere refuses copies units wider path command t part start now hears result
 table_wider refuses true units fails wider path command t part start now hears result more stops = stops
 table_wider refuses false units fails wider path command t part start now hears result more (inl (stop, is, why, written, untold)) =
-    inl (stop, is, strings_wider fails wider path t.line_str t.str stop more why, written, untold)
+    inl (stop, is, strings_wider refuses fails wider path t.line_str t.str stop more why, written, untold)
 table_wider refuses false units fails wider path command t part start now hears result more (inr lines) =
     inr (lines_wider refuses units fails wider path command t part start now hears result more lines)
 
@@ -140,7 +140,7 @@ on_found_weaker refuses false units fails wider path name command f t start now 
     table_wider refuses (is_copy command && t.is_object_file) units fails wider path command t None start now hears result more found
 on_found_weaker refuses true units fails wider path name command f t start now hears result more
     (inl (stop, is, why, written, untold)) =
-    inl (stop, is, part_stops_weaker fails wider path f t.is_object_file name stop more why, written, untold)
+    inl (stop, is, part_stops_weaker refuses fails wider path f t.is_object_file name stop more why, written, untold)
 on_found_weaker refuses true units fails wider path name command f t start now hears result more (inr (part, is, found)) =
     inr (
       part,
@@ -157,11 +157,11 @@ pub on_file_weaker : (refuses : ℕ → Type 0) (units : FileUnits) (fails wider
     → OnFile refuses units wider path name command f start now hears result
 on_file_weaker refuses units fails wider path name command f start now hears result more
     (inl (stop, is, why, written, untold)) =
-    inl (stop, is, table_stops_weaker units fails wider path (sections_of command) f stop more why, written, untold)
+    inl (stop, is, table_stops_weaker refuses units fails wider path (sections_of command) f stop more why, written, untold)
 on_file_weaker refuses units fails wider path name command f start now hears result more (inr (t, has, found)) =
     inr (
       t,
-      has,
+      has_table_wider units fails wider (sections_of command) f t more has,
       on_found_weaker refuses (looks_up command) units fails wider path name command f t start now hears result more
           found,
     )

@@ -20,13 +20,13 @@ pub works_on_input : (refuses : ℕ → Type 0) (held : Text → Option (List �
     (left start now : Option (List ℕ)) (hears : List Damage → Type 0) (result : Result Survey Stop) → request ≡ Some r
     → command_of r ≡ Some (command_seen command)
     → file_of r ≡ None → words ≡ section_of r
-    → OnInput refuses held words command bytes left start now hears result
+    → OnInput refuses held fails words command bytes left start now hears result
     → Works refuses held fails request bytes left start now hears result
 works_on_input refuses held fails request r command words bytes left start now hears result is asks no_file said does =
     rw (is, asks) (
       command,
       refl,
-      rw no_file (subst (λ (w : SectionWords). OnInput refuses held w command bytes left start now hears result) said does),
+      rw no_file (subst (λ (w : SectionWords). OnInput refuses held fails w command bytes left start now hears result) said does),
     )
 
 pub works_on_named : (refuses : ℕ → Type 0) (held : Text → Option (List ℕ)) (fails : Text → Error → Type 0) (request : Option Request)

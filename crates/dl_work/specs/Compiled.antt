@@ -1,5 +1,6 @@
 -- What is told of a file before its line table is read: where it has code, and in which directories its units were compiled.
--- DWARF 5, section 3.1.1. f: the bytes of the file; fails: the errors that opening and reading it may give; are_wanted: the
+-- DWARF 5, section 3.1.1. f: the bytes of the file; fails: the errors that opening and reading it may give; refuses: for how
+-- many items memory is refused; are_wanted: the
 -- directories are looked for.
 use Rattle.std.specs.Prelude.{◌≡◌, ◌⊎◌, ℕ, Bool, true, false, is_none, List, Option, None}
 use Rattle.std.specs.Option.{option_or}
@@ -21,13 +22,13 @@ AreFound true f g = AreDirectories f g
 AreFound false f g = (n : ℕ) → g n ≡ None
 
 -- why they can't be, where they are looked for
-abbrev pub RefusesFinding : (are_wanted : Bool) (fails : Error → Type 0) (f : List ℕ) → FileFault → Type 0
-RefusesFinding are_wanted fails f (Elf fault) = (are_wanted ≡ true) × RefusesDirectories fails f fault
-RefusesFinding are_wanted fails f other = ⊥
+abbrev pub RefusesFinding : (refuses : ℕ → Type 0) (are_wanted : Bool) (fails : Error → Type 0) (f : List ℕ) → FileFault → Type 0
+RefusesFinding refuses are_wanted fails f (Elf fault) = (are_wanted ≡ true) × RefusesDirectories refuses fails f fault
+RefusesFinding refuses are_wanted fails f other = ⊥
 
 -- it can't be told where the file has code, or in which directories its units were compiled
-abbrev pub RefusesOpening : (are_wanted : Bool) (fails : Error → Type 0) (f : List ℕ) → FileFault → Type 0
-RefusesOpening are_wanted fails f fault = RefusesCode fails f fault ⊎ RefusesFinding are_wanted fails f fault
+abbrev pub RefusesOpening : (refuses : ℕ → Type 0) (are_wanted : Bool) (fails : Error → Type 0) (f : List ℕ) → FileFault → Type 0
+RefusesOpening refuses are_wanted fails f fault = RefusesCode refuses fails f fault ⊎ RefusesFinding refuses are_wanted fails f fault
 
 -- a file can't be opened, or its first bytes can't be read
 abbrev pub IsNotOpen : (fails : Error → Type 0) → FileFault → Type 0

@@ -58,7 +58,7 @@ abbrev pub IndexesFile : (refuses : ℕ → Type 0) → (held : Text → Option 
     → (start now : Option (List ℕ)) → Result Survey Stop → Type 0
 IndexesFile refuses held fails path w start now result = ForBytes (held path) (λ f.
     ((stop : FileStop) × (fault : FileFault)
-    × (RefusesOpening (is_none w.comp_dir) (fails path) f fault ⊎ RefusesNaming (fails path) f fault)
+    × (RefusesOpening refuses (is_none w.comp_dir) (fails path) f fault ⊎ RefusesNaming (fails path) f fault)
     × IsAt path fault stop × (result ≡ Err (stop_of stop)) × Keeps start now)
     ⊎ ((code : Code) × IsCode f (Ok code)
     × (found : ℕ → Option (List ℕ)) × AreFound (is_none w.comp_dir) f found

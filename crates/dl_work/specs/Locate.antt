@@ -5,6 +5,7 @@ use Rattle.std.specs.Prelude.{◌≡◌, ◌≢◌, ◌⊎◌, ℕ, Bool, true, 
 use Rattle.std.specs.Prelude.{if◌then◌else◌, option_to_list, Option, Some, None, is_none, is_some, Result}
 use Rattle.std.specs.List.{list_all}
 use Rattle.std.specs.Option.{option_copied, option_map_or}
+use Rattle.std.specs.declared.io.Error.{Error}
 use Rattle.dl_memory.specs.Refusals.{IsRefused}
 use Rattle.dl_cmd.specs.Job.{AddrTexts, Text, addr}
 use Rattle.dl_run.specs.declared.fault.RunFault.TheVariants as fault
@@ -101,14 +102,14 @@ suits_input w =
 abbrev pub IsNoQuestion : AddrTexts → Type 0
 IsNoQuestion w = (suits_input w ≡ false) ⊎ (w.addresses ≡ [])
 
-abbrev pub LocatesInSection : (refuses : ℕ → Type 0) → (held : Text → Option (List ℕ)) → AddrTexts
+abbrev pub LocatesInSection : (refuses : ℕ → Type 0) → (held : Text → Option (List ℕ)) (fails : Text → Error → Type 0) → AddrTexts
     → (bytes : List ℕ) (left start now : Option (List ℕ)) → Result Located Stop → Type 0
-LocatesInSection refuses held w bytes left start now result =
+LocatesInSection refuses held fails w bytes left start now result =
     ((stop : Stop) × (WordsStop refuses w stop ⊎ (IsNoQuestion w × (stop ≡ NotUnderstood)))
     × StopsBefore bytes start now result stop)
     ⊎ ((q : Question) × (answer : Result Survey Stop) × (IsNoQuestion w → ⊥) × Asks w (asked_in_words w) (λ a. true)
     (said_directory w) q
-    × OnInput refuses held (section_of (addr w)) (asking w q) bytes left start now unheard answer
+    × OnInput refuses held fails (section_of (addr w)) (asking w q) bytes left start now unheard answer
     × (result ≡ located answer None))
 
 -- ---- the ELF file of a path. f: its bytes

@@ -36,7 +36,7 @@ LocatesInFile refuses held fails path w bytes left start now result = ForBytes (
 
 abbrev pub LocatesWhere : (refuses : ℕ → Type 0) → (is_input : Bool) → (held : Text → Option (List ℕ)) (fails : Text → Error → Type 0) → Bor Text
     → AddrTexts → (bytes : List ℕ) (left start now : Option (List ℕ)) → Result Located Stop → Type 0
-LocatesWhere refuses true held fails path w bytes left start now result = LocatesInSection refuses held w bytes left start now result
+LocatesWhere refuses true held fails path w bytes left start now result = LocatesInSection refuses held fails w bytes left start now result
 LocatesWhere refuses false held fails path w bytes left start now result =
     LocatesInFile refuses held fails path w bytes left start now result
 

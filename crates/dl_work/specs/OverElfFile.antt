@@ -100,7 +100,7 @@ abbrev pub LocatesInElfFile : (refuses : ℕ → Type 0) → (reads : Error → 
     (left start now : Option (List ℕ)) → Result Located Stop → Type 0
 LocatesInElfFile refuses reads path w f bytes left start now result =
     ((is_some w.made_of ≡ true) × StopsBefore bytes start now result NotUnderstood)
-    ⊎ ((fault : FileFault) × (is_some w.made_of ≡ false) × RefusesOpening (wants_directories w) reads f fault
+    ⊎ ((fault : FileFault) × (is_some w.made_of ≡ false) × RefusesOpening refuses (wants_directories w) reads f fault
     × (result ≡ Err (File path fault)) × Unanswered refuses w bytes left start now)
     ⊎ ((code : Code) × (ranges : Option CodeRanges) × (found : ℕ → Option (List ℕ)) × (is_some w.made_of ≡ false)
     × IsCode f (Ok code) × AreLive ranges code × AreFound (wants_directories w) f found

@@ -58,7 +58,7 @@ StopsEarly refuses command Reason start now hears result =
 abbrev pub OnLines : (refuses : ℕ → Type 0) → FileUnits → (fails : Error → Type 0) (path : Text) → Command → LineTable → Option Part → Outcome FileStop
 OnLines refuses units fails path command t None start now hears result = RunsOn refuses units fails path command t start now hears result
 OnLines refuses units fails path command t (Some part) start now hears result =
-    StopsEarly refuses command (KeepingStops fails path (file_dialect units t) part t.line) start now hears result
+    StopsEarly refuses command (KeepingStops refuses fails path (file_dialect units t) part t.line) start now hears result
     ⊎ ((kept : List ℕ) × IsKept (file_dialect units t) part t.line kept
     × RunsOn refuses units fails path command (with_bytes t kept) start now hears result)
 
@@ -68,7 +68,7 @@ abbrev pub OnTableWhere : (refuses : ℕ → Type 0) → (is_object_copy : Bool)
 OnTableWhere refuses true units fails path command t part start now hears result =
     StopsEarly refuses command (IsAt path ObjectCopy) start now hears result
 OnTableWhere refuses false units fails path command t part start now hears result =
-    StopsEarly refuses command (StringsStop fails path t.line_str t.str) start now hears result
+    StopsEarly refuses command (StringsStop refuses fails path t.line_str t.str) start now hears result
     ⊎ OnLines refuses units fails path command t part start now hears result
 
 abbrev pub OnTable : (refuses : ℕ → Type 0) → FileUnits → (fails : Error → Type 0) (path : Text) → Command → LineTable → Option Part → Outcome FileStop
@@ -82,7 +82,7 @@ abbrev pub OnFoundWhere : (refuses : ℕ → Type 0) → (looks_up : Bool) → F
 OnFoundWhere refuses false units fails path name command f t start now hears result =
     OnTable refuses units fails path command t None start now hears result
 OnFoundWhere refuses true units fails path name command f t start now hears result =
-    StopsEarly refuses command (PartStops fails path f t.is_object_file name) start now hears result
+    StopsEarly refuses command (PartStops refuses fails path f t.is_object_file name) start now hears result
     ⊎ ((part : Option Part) × IsPart f t.is_object_file name part
     × OnTable refuses units fails path command t part start now hears result)
 
@@ -95,6 +95,6 @@ OnFound refuses units fails path name command f t = OnFoundWhere refuses (looks_
 abbrev pub OnFile : (refuses : ℕ → Type 0) → FileUnits → (fails : Error → Type 0) (path : Text) (name : Option Text) → Command → (f : List ℕ)
     → Outcome FileStop
 OnFile refuses units fails path name command f start now hears result =
-    StopsEarly refuses command (TableStops units fails path (sections_of command) f) start now hears result
-    ⊎ ((t : LineTable) × HasTable units (sections_of command) f t
+    StopsEarly refuses command (TableStops refuses units fails path (sections_of command) f) start now hears result
+    ⊎ ((t : LineTable) × HasTable units fails (sections_of command) f t
     × OnFound refuses units fails path name command f t start now hears result)

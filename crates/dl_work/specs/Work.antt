@@ -42,14 +42,13 @@ stopped (Err f) = Err (Run f)
 
 -- over a section on the input: the command is done with the string sections that are named, unless these stop the
 -- program
-abbrev pub OnInput : (refuses : ℕ → Type 0) → (held : Text → Option (List ℕ)) → SectionWords → Command → (bytes : List ℕ)
-    (left : Option (List ℕ))
-    → Outcome Stop
-OnInput refuses held section command bytes left start now hears result =
+abbrev pub OnInput : (refuses : ℕ → Type 0) → (held : Text → Option (List ℕ)) (fails : Text → Error → Type 0) → SectionWords
+    → Command → (bytes : List ℕ) (left : Option (List ℕ)) → Outcome Stop
+OnInput refuses held fails section command bytes left start now hears result =
     ((s : Strings) × StringsAre held section.line_str section.strings s
     × (answer : Result Survey RunFault) × (result ≡ stopped answer)
     × Does refuses command (dialect_of section) s SECTION_LIMIT bytes left start now hears answer)
-    ⊎ ((f : RunFault) × FilesStop held section.line_str section.strings f
+    ⊎ ((f : RunFault) × FilesStop refuses held fails section.line_str section.strings f
     × StopsUntold bytes start now hears result (Run f))
 
 -- over the ELF file of a path: nothing is read of the input. units: which units are read; name: the section that is
@@ -67,12 +66,13 @@ Works refuses held fails None bytes left start now hears result = StopsUntold by
 Works refuses held fails (Some request) bytes left start now hears result =
     MatchOption (command_of request) (StopsUntold bytes start now hears result NotUnderstood)
     (λ seen. (command : Command) × (command_seen command ≡ seen)
-    × MatchOption (file_of request) (OnInput refuses held (section_of request) command bytes left start now hears result)
+    × MatchOption (file_of request) (OnInput refuses held fails (section_of request) command bytes left start now hears result)
     (λ path. OnNamed refuses held fails (file_units (units_of request)) path (part_name_of request) command bytes start now
     hears result))
 
 -- a read of the input is blamed: by a request that names no file, whose string sections can be read
-abbrev pub BlamesInput : {A : Type 0} → (held : Text → Option (List ℕ)) → Option Request → Result A Stop → Type 0
-BlamesInput held None result = ⊥
-BlamesInput held (Some request) result = (result ≡ Err (Run fault.Read)) × (file_of request ≡ None)
-    × ¬ FilesStop held (section_of request).line_str (section_of request).strings fault.Read
+abbrev pub BlamesInput : {A : Type 0} → (refuses : ℕ → Type 0) → (held : Text → Option (List ℕ)) (fails : Text → Error → Type 0)
+    → Option Request → Result A Stop → Type 0
+BlamesInput refuses held fails None result = ⊥
+BlamesInput refuses held fails (Some request) result = (result ≡ Err (Run fault.Read)) × (file_of request ≡ None)
+    × ¬ FilesStop refuses held fails (section_of request).line_str (section_of request).strings fault.Read

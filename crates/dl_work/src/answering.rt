@@ -1,6 +1,8 @@
 //! Addresses that are answered by what tells of them: those among the words, or those on the input as they come.
 ghost use Rattle.std.specs.Prelude.{◌≡◌, ℕ, List, Option};
 ghost use Rattle.std.specs.Io.KnownBytes.{Consumes};
+ghost use Rattle.dl_input.specs.Failing.{Blames};
+ghost use Rattle.dl_dialogue.specs.Dialogues.{IsLong};
 ghost use Rattle.dl_addr.specs.Location.{Location};
 ghost use Rattle.dl_cmd.specs.Job.{addr_words_made};
 ghost use Rattle.dl_dialogue.specs.Answers.{Determines};
@@ -36,6 +38,8 @@ pub fn answer_asked<M: Memory, T: Tell, R: Source, W: Destination>(
         → IsUnderstood (addr_words_made words.now) understood.now
         → AnswersAsked (M.refuses memory.now) (addr_words_made words.now) f (T.fails_with teller.old) bytes (R.remaining input.new)
         (W.contents output.old) (W.contents output.new) result) }
+    ensures blames { Blames R.follows R.fails input.old input.new ((result ≡ Err AnswerFault.Input)
+        × ¬ IsLong (R.remaining input.old) (R.remaining input.new)) }
     ensures blames_writer { BlamesWriter W.fails result }
 {
     let style = style(words, part_name(words));
@@ -66,6 +70,8 @@ pub fn answer_made<M: Memory, R: Source, W: Destination>(
         × (IsUnderstood (addr_words_made words.now) understood.now
         → AnswersMade (M.refuses memory.now) (addr_words_made words.now) index.now bytes (R.remaining input.new) (W.contents output.old)
         (W.contents output.new) result) }
+    ensures blames { Blames R.follows R.fails input.old input.new ((result ≡ Err AnswerFault.Input)
+        × ¬ IsLong (R.remaining input.old) (R.remaining input.new)) }
     ensures blames_writer { BlamesWriter W.fails result }
 {
     match open_unchecked(index) {

@@ -9,23 +9,23 @@ ghost use Rattle.dl_work.specs.Compiled.{AreFound, RefusesFinding, compiled_by};
 use crate::command::directory_said;
 use dl_dirs::{CompilationDirectories, Directories};
 use dl_elf::ReadAt;
+use dl_memory::Memory;
 use dl_open::{FileFault, directories_of};
-use std::alloc::Global;
 
 /// The directories that an open file says, where they are wanted.
-pub fn directories_for<S: ReadAt>(
-    alloc: Global,
+pub fn directories_for<M: Memory, S: ReadAt>(
+    memory: &M,
     are_wanted: bool,
     file: &S,
 ) -> Result<Directories, FileFault>
     ensures { ForBytes (S.all_bytes file.now) (λ f. MatchResult result
         (λ found. AreFound are_wanted f (directory_at found))
-        (RefusesFinding are_wanted (S.fails_with file.now) f)) }
+        (RefusesFinding (M.refuses memory.now) are_wanted (S.fails_with file.now) f)) }
 {
     if !are_wanted {
-        return Ok(Directories::none(alloc));
+        return Ok(Directories::none(memory.alloc()));
     }
-    match directories_of(alloc, file) {
+    match directories_of(memory, file) {
         Ok(found) => Ok(found),
         Err(fault) => Err(FileFault::Elf(fault)),
     }

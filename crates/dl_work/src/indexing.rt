@@ -10,6 +10,7 @@ ghost use Rattle.dl_file.specs.Code.{IsCode};
 ghost use Rattle.dl_file.specs.declared.code.Code as file_code;
 ghost use Rattle.dl_open.specs.BuildIds.{IsBuildId};
 ghost use Rattle.dl_open.specs.Code.{AreLive};
+ghost use Rattle.dl_work.specs.Blaming.{BlamesWriter};
 ghost use Rattle.dl_work.specs.Compiled.{AreFound, RefusesOpening};
 ghost use Rattle.dl_work.specs.Indexing.{IndexesFile, IndexesFor, RefusesNaming, file_indexed, indexing};
 
@@ -99,7 +100,7 @@ fn open_named<M: Memory, F: FileSource>(
     ensures reads { IfOk result (λ r. (e : Error) → F.File.fails_with r.file e → F.fails_with files.now path.now e) }
     ensures code { ForBytes (F.held files.now path.now) (λ f. MatchResult result
         (λ r. (code : file_code.Code) × IsCode f (Ok code) × AreLive r.code code)
-        (λ fault. RefusesOpening are_wanted (F.fails_with files.now path.now) f fault
+        (λ fault. RefusesOpening (M.refuses memory.now) are_wanted (F.fails_with files.now path.now) f fault
         ⊎ RefusesNaming (F.fails_with files.now path.now) f fault)) }
     ensures directories { ForBytes (F.held files.now path.now) (λ f. IfOk result
         (λ r. AreFound are_wanted f (directory_at r.directories))) }
@@ -124,8 +125,9 @@ fn index_file<'a, M: SetMemory, F: FileSource, W: Destination>(
     files: &F,
     output: &mut W,
 ) -> Result<Survey, Stop<'a>>
-    ensures { IndexesFile (M.refuses memory.now) (F.held files.now) (F.fails_with files.now) path.entry.now (index_words_made words.now)
+    ensures indexed { IndexesFile (M.refuses memory.now) (F.held files.now) (F.fails_with files.now) path.entry.now (index_words_made words.now)
         (W.contents output.old) (W.contents output.new) result }
+    ensures blames_writer { BlamesWriter W.fails result }
 {
     let wanted = wants_directories(words);
     let Opened {
@@ -172,8 +174,9 @@ pub fn index<'a, M: SetMemory, F: FileSource, W: Destination>(
     files: &F,
     output: &mut W,
 ) -> Result<Survey, Stop<'a>>
-    ensures { IndexesFor (M.refuses memory.now) (F.held files.now) (F.fails_with files.now) (index_words_made words.now)
+    ensures indexed { IndexesFor (M.refuses memory.now) (F.held files.now) (F.fails_with files.now) (index_words_made words.now)
         (W.contents output.old) (W.contents output.new) result }
+    ensures blames_writer { BlamesWriter W.fails result }
 {
     match file_indexed(words) {
         Some(path) => index_file(memory, words, path, files, output),

@@ -2,6 +2,8 @@
 ghost use Rattle.std.specs.Prelude.{ℕ, List};
 ghost use Rattle.std.specs.Io.KnownBytes.{Consumes};
 ghost use Rattle.dl_cmd.specs.Job.{addr_words_made};
+ghost use Rattle.dl_input.specs.Failing.{Became, Blames};
+ghost use Rattle.dl_work.specs.Blaming.{BlamesReader, BlamesWriter};
 ghost use Rattle.dl_work.specs.Locate.{LocatesInSection};
 ghost use Rattle.dl_work.specs.LocateFile.{LocatesFor, LocatesInFile};
 ghost use Rattle.dl_work.specs.OverElfFile.{Unanswered};
@@ -36,9 +38,12 @@ fn in_section<'a, M: SetMemory, F: FileSource, R: Source, W: Destination>(
     input: &mut R,
     output: &mut W,
 ) -> Result<Located, Stop<'a>>
-    ensures { (bytes : List ℕ) × Consumes (R.remaining input.old) (R.remaining input.new) bytes
-        × LocatesInSection (M.refuses memory.now) (F.held files.now) (addr_words_made words.now) bytes (R.remaining input.new)
+    ensures located { (bytes : List ℕ) × Consumes (R.remaining input.old) (R.remaining input.new) bytes
+        × LocatesInSection (M.refuses memory.now) (F.held files.now) (F.fails_with files.now) (addr_words_made words.now) bytes (R.remaining input.new)
         (W.contents output.old) (W.contents output.new) result }
+    ensures blames { Blames R.follows R.fails input.old input.new (BlamesReader (M.refuses memory.now)
+        (F.held files.now) (F.fails_with files.now) (addr_words_made words.now) (R.remaining input.old) (R.remaining input.new) result) }
+    ensures blames_writer { BlamesWriter W.fails result }
 {
     if !suits_input(words) {
         return Err(Stop::NotUnderstood);
@@ -74,9 +79,10 @@ fn unanswered<M: Memory, R: Source, W: Destination>(
     input: &mut R,
     output: &mut W,
 )
-    ensures { (bytes : List ℕ) × Consumes (R.remaining input.old) (R.remaining input.new) bytes
+    ensures answers { (bytes : List ℕ) × Consumes (R.remaining input.old) (R.remaining input.new) bytes
         × (IsUnderstood (addr_words_made words.now) understood.now → Unanswered (M.refuses memory.now) (addr_words_made words.now) bytes
         (R.remaining input.new) (W.contents output.old) (W.contents output.new)) }
+    ensures reads { (first : R) → Became R.follows first input.old → Became R.follows first input.new }
 {
     let _ = answer_asked(memory, words, understood, &mut Nothing, input, output);
 }
@@ -90,9 +96,12 @@ fn in_file<'a, M: SetMemory, F: FileSource, R: Source, W: Destination>(
     input: &mut R,
     output: &mut W,
 ) -> Result<Located, Stop<'a>>
-    ensures { (bytes : List ℕ) × Consumes (R.remaining input.old) (R.remaining input.new) bytes
+    ensures located { (bytes : List ℕ) × Consumes (R.remaining input.old) (R.remaining input.new) bytes
         × LocatesInFile (M.refuses memory.now) (F.held files.now) (F.fails_with files.now) path.entry (addr_words_made words.now) bytes
         (R.remaining input.new) (W.contents output.old) (W.contents output.new) result }
+    ensures blames { Blames R.follows R.fails input.old input.new (BlamesReader (M.refuses memory.now)
+        (F.held files.now) (F.fails_with files.now) (addr_words_made words.now) (R.remaining input.old) (R.remaining input.new) result) }
+    ensures blames_writer { BlamesWriter W.fails result }
 {
     if !suits_file(words) {
         return Err(Stop::NotUnderstood);
@@ -140,9 +149,12 @@ pub fn locate<'a, M: SetMemory, F: FileSource, R: Source, W: Destination>(
     input: &mut R,
     output: &mut W,
 ) -> Result<Located, Stop<'a>>
-    ensures { (bytes : List ℕ) × Consumes (R.remaining input.old) (R.remaining input.new) bytes
+    ensures located { (bytes : List ℕ) × Consumes (R.remaining input.old) (R.remaining input.new) bytes
         × LocatesFor (M.refuses memory.now) (F.held files.now) (F.fails_with files.now) (addr_words_made words.now) bytes
         (R.remaining input.new) (W.contents output.old) (W.contents output.new) result }
+    ensures blames { Blames R.follows R.fails input.old input.new (BlamesReader (M.refuses memory.now)
+        (F.held files.now) (F.fails_with files.now) (addr_words_made words.now) (R.remaining input.old) (R.remaining input.new) result) }
+    ensures blames_writer { BlamesWriter W.fails result }
 {
     match words.file {
         Some(path) if path == INPUT => in_section(memory, words, files, input, output),

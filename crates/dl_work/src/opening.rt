@@ -29,7 +29,7 @@ pub fn open_with_code<M: Memory, F: FileSource>(
     ensures reads { IfOk result (λ r. (e : Error) → F.File.fails_with r.0 e → F.fails_with files.now path.now e) }
     ensures code { ForBytes (F.held files.now path.now) (λ f. MatchResult result
         (λ r. (code : file_code.Code) × IsCode f (Ok code) × AreLive r.1 code)
-        (RefusesOpening are_wanted (F.fails_with files.now path.now) f)) }
+        (RefusesOpening (M.refuses memory.now) are_wanted (F.fails_with files.now path.now) f)) }
     ensures directories { ForBytes (F.held files.now path.now) (λ f. IfOk result
         (λ r. AreFound are_wanted f (directory_at r.2))) }
 {
@@ -46,12 +46,12 @@ pub fn code_and_directories<M: Memory, S: ReadAt>(
 ) -> Result<(Option<CodeRanges>, Directories), FileFault>
     ensures code { ForBytes (S.all_bytes file.now) (λ f. MatchResult result
         (λ r. (code : file_code.Code) × IsCode f (Ok code) × AreLive r.0 code)
-        (RefusesOpening are_wanted (S.fails_with file.now) f)) }
+        (RefusesOpening (M.refuses memory.now) are_wanted (S.fails_with file.now) f)) }
     ensures directories { ForBytes (S.all_bytes file.now) (λ f. IfOk result
         (λ r. AreFound are_wanted f (directory_at r.1))) }
 {
-    let code = code_of(memory.alloc(), file)?;
-    let directories = directories_for(memory.alloc(), are_wanted, file)?;
+    let code = code_of(memory, file)?;
+    let directories = directories_for(memory, are_wanted, file)?;
     Ok((code, directories))
 }
 

@@ -1,6 +1,8 @@
 //! What the program does for `addr` over an ELF file.
 ghost use Rattle.std.specs.Prelude.{◌≡◌, ℕ, List};
 ghost use Rattle.std.specs.Io.KnownBytes.{Consumes};
+ghost use Rattle.dl_input.specs.Failing.{Blames};
+ghost use Rattle.dl_work.specs.Blaming.{BlamesWriter, IsFailedRead, ReadsNothing};
 ghost use Rattle.dl_cmd.specs.Job.{addr_words_made};
 ghost use Rattle.dl_dirs.specs.Directories.{directory_at};
 ghost use Rattle.dl_elf.specs.Source.{ForBytes};
@@ -40,10 +42,13 @@ pub fn in_elf_file<'a, M: SetMemory, S: ReadAt, R: Source, W: Destination>(
     input: &mut R,
     output: &mut W,
 ) -> Result<Located, Stop<'a>>
-    ensures { (bytes : List ℕ) × Consumes (R.remaining input.old) (R.remaining input.new) bytes
+    ensures located { (bytes : List ℕ) × Consumes (R.remaining input.old) (R.remaining input.new) bytes
         × (IsUnderstood (addr_words_made words.now) understood.now → ForBytes (S.all_bytes file.now)
         (λ f. LocatesInElfFile (M.refuses memory.now) (S.fails_with file.now) path.entry (addr_words_made words.now) f bytes
         (R.remaining input.new) (W.contents output.old) (W.contents output.new) result)) }
+    ensures blames { Blames R.follows R.fails input.old input.new (IsFailedRead (R.remaining input.old)
+        (R.remaining input.new) result) }
+    ensures blames_writer { BlamesWriter W.fails result }
 {
     if words.made_of.is_some() {
         return Err(Stop::NotUnderstood);
@@ -95,9 +100,11 @@ fn given<'a, M: SetMemory, S: ReadAt, W: Destination>(
     understood: &AskedWords,
     output: &mut W,
 ) -> Result<Located, Stop<'a>>
-    ensures { IsUnderstood (addr_words_made words.now) understood.now → ForBytes (S.all_bytes file.now)
+    ensures located { IsUnderstood (addr_words_made words.now) understood.now → ForBytes (S.all_bytes file.now)
         (λ f. LocatesGiven (M.refuses memory.now) (S.fails_with file.now) path.entry (addr_words_made words.now) f
         (option_copied code.entry) (directory_at directories.now) (W.contents output.old) (W.contents output.new) result) }
+    ensures reads { ReadsNothing result }
+    ensures blames_writer { BlamesWriter W.fails result }
 {
     let question = question(
         words,
@@ -134,11 +141,14 @@ fn by_index<'a, M: SetMemory, S: ReadAt, R: Source, W: Destination>(
     input: &mut R,
     output: &mut W,
 ) -> Result<Located, Stop<'a>>
-    ensures { (bytes : List ℕ) × Consumes (R.remaining input.old) (R.remaining input.new) bytes
+    ensures located { (bytes : List ℕ) × Consumes (R.remaining input.old) (R.remaining input.new) bytes
         × (IsUnderstood (addr_words_made words.now) understood.now → ForBytes (S.all_bytes file.now)
         (λ f. LocatesByIndex (M.refuses memory.now) (S.fails_with file.now) path.entry (addr_words_made words.now) f
         (option_copied code.entry) (directory_at directories.now) bytes (R.remaining input.new) (W.contents output.old)
         (W.contents output.new) result)) }
+    ensures blames { Blames R.follows R.fails input.old input.new (IsFailedRead (R.remaining input.old)
+        (R.remaining input.new) result) }
+    ensures blames_writer { BlamesWriter W.fails result }
 {
     let table = table_of(words, code, directories);
     let mut index = Held::new(memory);

@@ -6,6 +6,7 @@ ghost use Rattle.dl_file.specs.LineTable.{GivesLine, GivesTable, LineTable, Plai
 ghost use Rattle.dl_run.specs.Commands.{strings_in};
 ghost use Rattle.dl_open.specs.Tables.{IsWhole, file_dialect};
 ghost use Rattle.dl_open.specs.declared.dialect.FileUnits.{FileUnits};
+ghost use Rattle.dl_work.specs.Blaming.{BlamesOver};
 ghost use Rattle.dl_work.specs.Tables.{OnFile, OnFound, OnLines, OnTable, RunsOn};
 
 use crate::command::Command;
@@ -30,11 +31,12 @@ fn on_section<'p, M: SetMemory, S: ReadAt, W: Destination, D: DamageSink>(
     damages: &mut D,
 ) -> Result<Survey, FileStop<'p>>
     requires { options.now.limit ≡ SECTION_LIMIT }
-    ensures { (source : _) (units : FileUnits) (t : LineTable)
+    ensures ran { (source : _) (units : FileUnits) (t : LineTable)
         → GivesLine S.all_bytes S.fails_with (S.fails_with source) line.old t.line → options.now.dialect ≡ file_dialect units t
         → IsWhole t.line_str t.str (strings_in options.now) → D.hears damages.old damages.old []
         → RunsOn (M.refuses memory.now) units (S.fails_with source) path.entry.now command.entry t (W.contents output.old) (W.contents output.new)
         (D.hears damages.old damages.new) result }
+    ensures blames { D.hears damages.old damages.old [] → BlamesOver W.fails result }
 {
     let stream = line.stream_name();
     match command.run(memory, line, output, options, damages) {
@@ -54,10 +56,11 @@ fn on_kept<'p, M: SetMemory, W: Destination, D: DamageSink>(
     damages: &mut D,
 ) -> Result<Survey, FileStop<'p>>
     requires { options.now.limit ≡ SECTION_LIMIT }
-    ensures { (units : FileUnits) (t : LineTable) → t.line ≡ Plain bytes.now → options.now.dialect ≡ file_dialect units t
+    ensures ran { (units : FileUnits) (t : LineTable) → t.line ≡ Plain bytes.now → options.now.dialect ≡ file_dialect units t
         → IsWhole t.line_str t.str (strings_in options.now) → D.hears damages.old damages.old []
         → RunsOn (M.refuses memory.now) units (λ error. ⊥) path.entry.now command.entry t (W.contents output.old) (W.contents output.new)
         (D.hears damages.old damages.new) result }
+    ensures blames { D.hears damages.old damages.old [] → BlamesOver W.fails result }
 {
     let mut input = bytes;
     match command.run(memory, &mut input, output, options, damages) {
@@ -78,16 +81,17 @@ fn on_lines<'p, M: SetMemory, S: ReadAt, W: Destination, D: DamageSink>(
     damages: &mut D,
 ) -> Result<Survey, FileStop<'p>>
     requires { options.now.limit ≡ SECTION_LIMIT }
-    ensures { (source : _) (units : FileUnits) (t : LineTable)
+    ensures ran { (source : _) (units : FileUnits) (t : LineTable)
         → GivesLine S.all_bytes S.fails_with (S.fails_with source) line.old t.line → options.now.dialect ≡ file_dialect units t
         → IsWhole t.line_str t.str (strings_in options.now) → D.hears damages.old damages.old []
         → OnLines (M.refuses memory.now) units (S.fails_with source) path.entry.now command.entry t (option_copied part.entry) (W.contents output.old)
         (W.contents output.new) (D.hears damages.old damages.new) result }
+    ensures blames { D.hears damages.old damages.old [] → BlamesOver W.fails result }
 {
     let Some(part) = part else {
         return on_section(memory, path, command, line, options, output, damages);
     };
-    match kept_bytes(memory.alloc(), path, options.dialect, part, line) {
+    match kept_bytes(memory, path, options.dialect, part, line) {
         Ok(bytes) => on_kept(
             memory,
             path,
@@ -115,10 +119,11 @@ fn on_table<'p, M: SetMemory, S: ReadAt, W: Destination, D: DamageSink>(
     output: &mut W,
     damages: &mut D,
 ) -> Result<Survey, FileStop<'p>>
-    ensures { (source : _) (t : LineTable) → GivesTable S.all_bytes S.fails_with (S.fails_with source) table.entry t
+    ensures ran { (source : _) (t : LineTable) → GivesTable S.all_bytes S.fails_with (S.fails_with source) table.entry t
         → D.hears damages.old damages.old []
         → OnTable (M.refuses memory.now) units (S.fails_with source) path.entry.now command.entry t (option_copied part.entry) (W.contents output.old)
         (W.contents output.new) (D.hears damages.old damages.new) result }
+    ensures blames { D.hears damages.old damages.old [] → BlamesOver W.fails result }
 {
     let LineFile {
         order,
@@ -136,7 +141,7 @@ fn on_table<'p, M: SetMemory, S: ReadAt, W: Destination, D: DamageSink>(
             fault: FileFault::ObjectCopy,
         });
     }
-    let strings = match StringSections::of_table(memory.alloc(), path, debug_line_str, debug_str) {
+    let strings = match StringSections::of_table(memory, path, debug_line_str, debug_str) {
         Ok(strings) => strings,
         Err(stop) => {
             command.without_table(memory, output);
@@ -162,15 +167,16 @@ fn on_found<'p, M: SetMemory, S: ReadAt, W: Destination, D: DamageSink>(
     output: &mut W,
     damages: &mut D,
 ) -> Result<Survey, FileStop<'p>>
-    ensures { ForBytes (S.all_bytes file.now) (λ f. (t : LineTable)
+    ensures ran { ForBytes (S.all_bytes file.now) (λ f. (t : LineTable)
         → GivesTable S.all_bytes S.fails_with (S.fails_with file.now) table.entry t → D.hears damages.old damages.old [] → OnFound (M.refuses memory.now) units (S.fails_with file.now) path.entry.now
         (option_map (λ s. s.now) section.entry) command.entry f t (W.contents output.old) (W.contents output.new)
         (D.hears damages.old damages.new) result) }
+    ensures blames { D.hears damages.old damages.old [] → BlamesOver W.fails result }
 {
     if !command.looks_up() {
         return on_table(memory, path, command, units, table, None, output, damages);
     }
-    match part_of(memory.alloc(), path, file, table.is_object, section) {
+    match part_of(memory, path, file, table.is_object, section) {
         Ok(part) => on_table(
             memory,
             path,
@@ -201,11 +207,12 @@ pub fn on_file<'p, M: SetMemory, S: ReadAt, W: Destination, D: DamageSink>(
     output: &mut W,
     damages: &mut D,
 ) -> Result<Survey, FileStop<'p>>
-    ensures { D.hears damages.old damages.old [] → ForBytes (S.all_bytes file.now) (λ f. OnFile (M.refuses memory.now) units
+    ensures ran { D.hears damages.old damages.old [] → ForBytes (S.all_bytes file.now) (λ f. OnFile (M.refuses memory.now) units
         (S.fails_with file.now) path.entry.now (option_map (λ s. s.now) section.entry) command.entry f
         (W.contents output.old) (W.contents output.new) (D.hears damages.old damages.new) result) }
+    ensures blames { D.hears damages.old damages.old [] → BlamesOver W.fails result }
 {
-    match open_table(memory.alloc(), path, file, units, command.sections()) {
+    match open_table(memory, path, file, units, command.sections()) {
         Ok(table) => on_found(
             memory, path, file, units, section, command, table, output, damages,
         ),

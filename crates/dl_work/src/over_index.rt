@@ -2,6 +2,9 @@
 ghost use Rattle.std.specs.Prelude.{◌≡◌, ◌==◌, ℕ, List, Bool, Some, IfOk, IfErr, MatchResult, option_map, true};
 ghost use Rattle.std.specs.Option.{option_copied};
 ghost use Rattle.std.specs.Io.KnownBytes.{Consumes};
+ghost use Rattle.dl_input.specs.Failing.{Blames};
+ghost use Rattle.dl_dialogue.specs.Dialogues.{IsLong};
+ghost use Rattle.dl_work.specs.Blaming as stops;
 ghost use Rattle.std.specs.declared.io.Error.{Error};
 ghost use Rattle.dl_cmd.specs.Job.{addr_words_made};
 ghost use Rattle.dl_elf.specs.Notes.{build_id_bytes};
@@ -45,10 +48,13 @@ pub fn in_index<'a, M: Memory, F: FileSource, S: ReadAt, R: Source, W: Destinati
     input: &mut R,
     output: &mut W,
 ) -> Result<Located, Stop<'a>>
-    ensures { (bytes : List ℕ) × Consumes (R.remaining input.old) (R.remaining input.new) bytes
+    ensures located { (bytes : List ℕ) × Consumes (R.remaining input.old) (R.remaining input.new) bytes
         × (IsUnderstood (addr_words_made words.now) understood.now → ForBytes (S.all_bytes file.now)
         (λ b. LocatesInIndex (M.refuses memory.now) (F.held files.now) (F.fails_with files.now) (S.fails_with file.now) path.entry
         (addr_words_made words.now) b bytes (R.remaining input.new) (W.contents output.old) (W.contents output.new) result)) }
+    ensures blames { Blames R.follows R.fails input.old input.new (stops.IsFailedRead (R.remaining input.old)
+        (R.remaining input.new) result) }
+    ensures blames_writer { stops.BlamesWriter W.fails result }
 {
     if !suits_index(words) {
         return Err(Stop::NotUnderstood);
@@ -86,6 +92,8 @@ fn answer_from<M: Memory, S: ReadAt, R: Source, W: Destination>(
         (λ b. IsIndex b → AnswersAsked (M.refuses memory.now) (addr_words_made words.now) (location_in b)
         (ReadFails (Some b) (S.fails_with (source_of index.now))) bytes (R.remaining input.new) (W.contents output.old)
         (W.contents output.new) result)) }
+    ensures blames { Blames R.follows R.fails input.old input.new ((result ≡ Err AnswerFault.Input)
+        × ¬ IsLong (R.remaining input.old) (R.remaining input.new)) }
     ensures blames_writer { BlamesWriter W.fails result }
 {
     if !are_few(understood) {
@@ -120,7 +128,8 @@ fn check_made_of<'a, F: FileSource>(
     files: &F,
     id: &[u8],
 ) -> Result<(), Stop<'a>>
-    ensures { MadeOf (F.held files.now) (F.fails_with files.now) (addr_words_made words.now) path.entry id.now result }
+    ensures made { MadeOf (F.held files.now) (F.fails_with files.now) (addr_words_made words.now) path.entry id.now result }
+    ensures runs { IfErr result stops.IsNoRun }
 {
     let Some(made_of) = words.made_of else {
         return Ok(());

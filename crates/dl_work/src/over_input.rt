@@ -66,16 +66,16 @@ pub fn on_input<'p, M: SetMemory, F: FileSource, R: Source, W: Destination, D: D
     damages: &mut D,
 ) -> Result<Survey, Stop<'p>>
     ensures ran { (bytes : List ℕ) × Consumes (R.remaining input.old) (R.remaining input.new) bytes
-        × (D.hears damages.old damages.old [] → OnInput (M.refuses memory.now) (F.held files.now) (section_seen section.entry) command.entry
+        × (D.hears damages.old damages.old [] → OnInput (M.refuses memory.now) (F.held files.now) (F.fails_with files.now) (section_seen section.entry) command.entry
         bytes (R.remaining input.new) (W.contents output.old) (W.contents output.new)
         (D.hears damages.old damages.new) result) }
     ensures blames { Blames R.follows R.fails input.old input.new ((D.hears damages.old damages.old [])
         × (result ≡ Err (Stop.Run RunFault.Read))
-        × ¬ FilesStop (F.held files.now) (section_seen section.entry).line_str (section_seen section.entry).strings
-        RunFault.Read) }
+        × ¬ FilesStop (M.refuses memory.now) (F.held files.now) (F.fails_with files.now)
+        (section_seen section.entry).line_str (section_seen section.entry).strings RunFault.Read) }
     ensures blames_writer { D.hears damages.old damages.old [] → BlamesWriter W.fails result }
 {
-    match StringSections::of_files(memory.alloc(), files, section.line_str, section.strings) {
+    match StringSections::of_files(memory, files, section.line_str, section.strings) {
         Ok(strings) => {
             let options = strings.options(section.dialect());
             stopped(command.run(memory, input, output, &options, damages))

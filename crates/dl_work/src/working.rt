@@ -7,6 +7,7 @@ ghost use Rattle.dl_work.specs.Asked.{file_of, looked_into, part_name_of, sectio
 ghost use Rattle.dl_elf.specs.Source.{ForBytes};
 ghost use Rattle.dl_work.specs.Held.{section_seen};
 ghost use Rattle.dl_work.specs.Tables.{OnFile};
+ghost use Rattle.dl_work.specs.Blaming.{BlamesOver, BlamesWriter};
 ghost use Rattle.dl_work.specs.Work.{BlamesInput, Works};
 
 use crate::addr_words::file_of_words;
@@ -116,9 +117,10 @@ fn on_named<'p, M: SetMemory, F: FileSource, W: Destination, D: DamageSink>(
     output: &mut W,
     damages: &mut D,
 ) -> Result<Survey, FileStop<'p>>
-    ensures { D.hears damages.old damages.old [] → ForBytes (F.held files.now path.entry.now) (λ f. OnFile (M.refuses memory.now) units
+    ensures ran { D.hears damages.old damages.old [] → ForBytes (F.held files.now path.entry.now) (λ f. OnFile (M.refuses memory.now) units
         (F.fails_with files.now path.entry.now) path.entry.now (option_map (λ s. s.now) section.entry) command.entry f
         (W.contents output.old) (W.contents output.new) (D.hears damages.old damages.new) result) }
+    ensures blames { D.hears damages.old damages.old [] → BlamesOver W.fails result }
 {
     match open_file(files, path) {
         Ok(file) => on_file(
@@ -155,7 +157,9 @@ pub fn work<'a, M: SetMemory, F: FileSource, R: Source, W: Destination, D: Damag
         (option_map request_made job.entry) bytes (R.remaining input.new) (W.contents output.old)
         (W.contents output.new) (D.hears damages.old damages.new) result) }
     ensures blames { Blames R.follows R.fails input.old input.new ((D.hears damages.old damages.old [])
-        × BlamesInput (F.held files.now) (option_map request_made job.entry) result) }
+        × BlamesInput (M.refuses memory.now) (F.held files.now) (F.fails_with files.now)
+        (option_map request_made job.entry) result) }
+    ensures blames_writer { D.hears damages.old damages.old [] → BlamesWriter W.fails result }
 {
     let Some(job) = job else {
         return Err(Stop::NotUnderstood);

@@ -98,7 +98,7 @@ pub fn list_index<'a>(rt: &HostRuntime, words: &IndexWords<'a>) -> Result<u8, En
     let Some(path) = words.file else {
         return Err(Ending::Stop(Stop::NotUnderstood));
     };
-    let read = SystemFiles { rt }.read_file(rt.alloc(), path, SECTION_LIMIT);
+    let read = SystemFiles { rt }.read_file(&System::new(rt.alloc()), path, SECTION_LIMIT);
     let bytes = read.map_err(|fault| Ending::Stop(Stop::Run(fault)))?;
     match open(bytes.as_slice()) {
         Ok(index) => match list(&index, &mut rt.stdout()) {

@@ -8,11 +8,11 @@ use dl_addr::Found;
 use dl_cmd::{Job, read_job, word_status};
 use dl_elf::ReadAt;
 use dl_index::IndexFault;
-use dl_memory::System;
+use dl_memory::{Memory, System};
 use dl_open::{FileSource, FileUnits, Shown, units_not_read};
 use dl_run::{RunFault, read_strings};
 use dl_work::{DamageLines, Stop, file_units, locate, looked_into, with_debug_file, work};
-use std::alloc::{AllocError, Global};
+use std::alloc::AllocError;
 use std::fs::File;
 use std::io::{ErrorKind, Write};
 use std::os::unix::fs::PermissionsExt;
@@ -115,9 +115,14 @@ impl FileSource for SystemFiles<'_> {
         Ok(SystemFile::Open(File::open(self.rt, path)?))
     }
 
-    fn read_file(&self, alloc: Global, path: &str, limit: u64) -> Result<Vec<u8>, RunFault> {
+    fn read_file<M: Memory>(
+        &self,
+        memory: &M,
+        path: &str,
+        limit: u64,
+    ) -> Result<Vec<u8>, RunFault> {
         match File::open(self.rt, path) {
-            Ok(mut file) => read_strings(&System::new(alloc), &mut file, limit),
+            Ok(mut file) => read_strings(memory, &mut file, limit),
             Err(_) => Err(RunFault::Read),
         }
     }
@@ -137,7 +142,7 @@ fn tell_not_read(rt: &HostRuntime, path: Option<&str>, read: FileUnits) {
     let Some(path) = path else {
         return;
     };
-    if let Some(units) = units_not_read(rt.alloc(), &SystemFiles { rt }, path, read) {
+    if let Some(units) = units_not_read(&System::new(rt.alloc()), &SystemFiles { rt }, path, read) {
         let _ = units.write_line(&mut rt.stderr());
     }
 }

@@ -3,6 +3,7 @@ use crate::files::{COMPRESSED, DAMAGED, OBJECT, PLAIN};
 use crate::source::{Habit, Source};
 use dl_elf::{ElfFault, Part};
 use dl_file::{LineReader, ReadFault, Wanted, open_line_file};
+use dl_memory::System;
 use std::alloc::Global;
 use std::io::{ErrorKind, Read};
 use std::process::Abort;
@@ -90,7 +91,7 @@ fn told_of_line(line: &mut LineReader<'_, Source<'_>>, want: &[u8]) -> Told {
 fn told(alloc: Global, file: File, habit: Habit) -> Told {
     let (bytes, want) = file;
     let source = Source::new(alloc, bytes, habit);
-    match open_line_file(alloc, &source, Wanted::LineSection) {
+    match open_line_file(&System::new(alloc), &source, Wanted::LineSection) {
         Ok(mut file) => told_of_line(&mut file.line, want),
         Err(fault) => ("at opening", name_of_fault(&fault)),
     }

@@ -1,8 +1,9 @@
 //! Which sequences are left, by the relocations at their addresses.
 
 use dl_head::Dialect;
+use dl_memory::{NoMemory, System};
 use dl_num::Order;
-use dl_object::{NoMemory, keep_section};
+use dl_object::keep_section;
 use dl_reloc::Placed;
 use std::alloc::Global;
 use std::test::Fail;
@@ -31,7 +32,7 @@ fn places(alloc: Global, pairs: &[(u64, u64)]) -> Result<Vec<Placed>, Fail> {
 fn kept(alloc: Global, mut section: Vec<u8>, pairs: &[(u64, u64)]) -> Result<Vec<u8>, Fail> {
     let places = places(alloc, pairs)?;
     keep_section(
-        alloc,
+        &System::new(alloc),
         Dialect::version_5(Order::Little),
         &mut section,
         &places,
@@ -160,7 +161,13 @@ fn keep_beside(
     section: &mut [u8],
     places: &[Placed],
 ) -> Result<(), NoMemory> {
-    let answer = keep_section(alloc, Dialect::version_5(Order::Little), section, places, 5);
+    let answer = keep_section(
+        &System::new(alloc),
+        Dialect::version_5(Order::Little),
+        section,
+        places,
+        5,
+    );
     drop(blocks);
     answer
 }

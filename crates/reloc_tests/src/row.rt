@@ -1,4 +1,5 @@
 //! A row: relocations, and what they make of bytes.
+use dl_memory::System;
 use dl_num::Order;
 use dl_reloc::{
     Class, Form, RelocationFault, Target, push_symbol_values, relocate, relocate_compact,
@@ -31,7 +32,12 @@ fn target_of(row: &Row<'_>) -> Target {
 /// The values of the row's symbols.
 fn values(alloc: Global, row: &Row<'_>) -> Result<Vec<u64>, Fail> {
     let mut symbols = Vec::new(alloc);
-    push_symbol_values(&target_of(row), row.symbols, &mut symbols)?;
+    push_symbol_values(
+        &System::new(alloc),
+        &target_of(row),
+        row.symbols,
+        &mut symbols,
+    )?;
     Ok(symbols)
 }
 

@@ -1,8 +1,8 @@
 //! Files by their paths, the reads of one of which may fail.
 use dl_elf::ReadAt;
+use dl_memory::Memory;
 use dl_open::FileSource;
 use dl_run::RunFault;
-use std::alloc::Global;
 use std::io;
 use std::io::ErrorKind;
 
@@ -74,7 +74,12 @@ impl<'a> FileSource for Shelf<'a> {
         }
     }
 
-    fn read_file(&self, _alloc: Global, _path: &str, _limit: u64) -> Result<Vec<u8>, RunFault> {
+    fn read_file<M: Memory>(
+        &self,
+        _memory: &M,
+        _path: &str,
+        _limit: u64,
+    ) -> Result<Vec<u8>, RunFault> {
         Err(RunFault::Read)
     }
 }

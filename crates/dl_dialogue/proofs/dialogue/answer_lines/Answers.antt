@@ -1,9 +1,9 @@
-use Rattle.std.proofs.Common.{rules, arith, refl, [], ◌<◌, ◌++◌, ap, ◌∙◌, length, length-append, subst, append-nil}
+use Rattle.std.proofs.Common.{Err, rules, arith, refl, [], ◌<◌, ◌++◌, ap, ◌∙◌, length, length-append, subst, append-nil}
 use Rattle.std.proofs.KnownBytes.{Consumes-nil, Consumes-trans}
 use Rattle.std.specs.Io.KnownBytes.{Consumes}
 use Rattle.std.proofs.lemmas.Result.{err_from_is_err_and}
 use Rattle.dl_run.proofs.BlameLemmas.{blames_next}
-use Rattle.dl_dialogue.proofs.BlameLemmas.{end_without_input, input_fault, stop_without_input}
+use Rattle.dl_dialogue.proofs.BlameLemmas.{no_input}
 use Rattle.dl_dialogue.proofs.DialogueLemmas.{end_answers, fault_answers, nothing_of}
 use Rattle.dl_dialogue.specs.Faults.{TellFails}
 use Rattle.dl_dialogue.proofs.StayLemmas.{stays_itself, stays_on}
@@ -77,32 +77,16 @@ returns-in_default-clause-blames g c = blames_next _ c.loop.invariant.5 c.in_def
 
 pub returns-then-is_empty-clause-blames : goal.returns-then-is_empty-clause-blames
 returns-then-is_empty-clause-blames g c =
-    let i = c.loop.invariant in
-    blames_next _ i.5 c.next_piece.ensures.blames (λ e.
-    let f = e.1.0 in
-    let determines = e.1.1 in
-    absurd (end_without_input _ (record { style = c.args.style; base = c.args.base; told = f })
-    (TellFails (g.T.Tell.fails_with c.args.teller.now) (g.M.Memory.refuses c.args.memory.now))
-    (g.W.Write.contents c.args.output.now) (g.W.Write.contents c.end.new.output) _ c.end.result
-    (c.end.ensures.answers c.args.teller.now (record { style = c.args.style; base = c.args.base; told = f }) c.args.hex
-    (g.W.Write.contents c.args.output.now) i.0 i.2 determines (i.3 f determines)) e.0))
+    blames_next _ c.loop.invariant.5 c.next_piece.ensures.blames (λ e. absurd (no_input c.end.result c.end.ensures.reads e.0))
 
 pub returns-in_err-take-clause-blames : goal.returns-in_err-take-clause-blames
 returns-in_err-take-clause-blames g c =
-    let i = c.loop.invariant in
     let p = err_from_is_err_and c.from_residual.result c.from_residual.ensures.1 in
-    rw (p.1, p.2) (blames_next _ i.5 c.next_piece.ensures.blames (λ e.
-    let f = e.1.0 in
-    let determines = e.1.1 in
-    absurd (stop_without_input (record { style = c.args.style; base = c.args.base; told = f })
-    c.args.hex (TellFails (g.T.Tell.fails_with c.args.teller.now) (g.M.Memory.refuses c.args.memory.now))
-    (g.W.Write.contents c.args.output.now) (g.W.Write.contents c.take.new.output) (i.0 ++ c.in-Ok.piece.now)
-    c.in_err-take.field-0.0
-    (c.in_err-take.ensures.answers c.args.teller.now (record { style = c.args.style; base = c.args.base; told = f }) c.args.hex
-    (g.W.Write.contents c.args.output.now) i.0 i.2 determines (i.3 f determines)) (input_fault _ e.0))))
+    rw (p.1, p.2) (blames_next _ c.loop.invariant.5 c.next_piece.ensures.blames (λ e.
+    absurd (no_input (Err c.in_err-take.field-0.0) c.in_err-take.ensures.reads e.0)))
 
 pub returns-clause-blames : goal.returns-clause-blames
 returns-clause-blames g c first is = (
   c.loop.invariant.5 first is,
-  λ e. absurd (e.2 (c.loop.invariant.0, c.loop.invariant.1, omega (arith, c.loop.invariant.4))),
+  λ e. absurd (e.1 (c.loop.invariant.0, c.loop.invariant.1, omega (arith, c.loop.invariant.4))),
 )

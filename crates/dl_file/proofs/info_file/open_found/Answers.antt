@@ -1,6 +1,9 @@
-use Rattle.std.proofs.Common.{Ok, refl}
+use Rattle.std.proofs.Common.{arith, Ok, refl}
 use Rattle.dl_file.specs.InfoTable.{info_table}
 use Rattle.dl_file.proofs.InfoLemmas.{no_units, some_units}
+use Rattle.std.proofs.lemmas.Result.{err_from_is_err_and}
+use Rattle.dl_file.specs.LineTable.{HoldsTooMuch}
+use Rattle.dl_file.proofs.RefusedLemmas.{refused_within}
 use Rattle.dl_file.proofs.info_file.open_found.Goals as goal
 
 pub returns-in_default-clause-opens : goal.returns-in_default-clause-opens
@@ -25,3 +28,27 @@ returns-clause-opens g c = λ f is short.
         line_str = c.in_ok-optional_reader-3.ensures.opens f is short;
       },
     )
+
+pub returns-in_err-open-clause-most : goal.returns-in_err-open-clause-most
+returns-in_err-open-clause-most g c = λ f is short.
+    let p = err_from_is_err_and c.from_residual-in_err-open.result c.from_residual-in_err-open.ensures.1 in
+    rw (p.1, p.2) (refused_within (HoldsTooMuch c.args.elf.now f c.args.found.now.info)
+    (g.M.Memory.refuses c.args.memory.now) f 1 c.in_err-open.field-0.0 (omega arith) c.in_err-open.ensures.most)
+
+pub returns-in_err-optional_reader-clause-most : goal.returns-in_err-optional_reader-clause-most
+returns-in_err-optional_reader-clause-most g c = λ f is short.
+    let p = err_from_is_err_and c.from_residual-in_err-optional_reader.result c.from_residual-in_err-optional_reader.ensures.1 in
+    rw (p.1, p.2) (refused_within (HoldsTooMuch c.args.elf.now f c.args.found.now.info)
+    (g.M.Memory.refuses c.args.memory.now) f 1 c.in_err-optional_reader.field-0.0 (omega arith) c.in_err-optional_reader.ensures.most)
+
+pub returns-in_err-optional_reader-2-clause-most : goal.returns-in_err-optional_reader-2-clause-most
+returns-in_err-optional_reader-2-clause-most g c = λ f is short.
+    let p = err_from_is_err_and c.from_residual-in_err-optional_reader-2.result c.from_residual-in_err-optional_reader-2.ensures.1 in
+    rw (p.1, p.2) (refused_within (HoldsTooMuch c.args.elf.now f c.args.found.now.info)
+    (g.M.Memory.refuses c.args.memory.now) f 1 c.in_err-optional_reader-2.field-0.0 (omega arith) c.in_err-optional_reader-2.ensures.most)
+
+pub returns-in_err-optional_reader-3-clause-most : goal.returns-in_err-optional_reader-3-clause-most
+returns-in_err-optional_reader-3-clause-most g c = λ f is short.
+    let p = err_from_is_err_and c.from_residual-in_err-optional_reader-3.result c.from_residual-in_err-optional_reader-3.ensures.1 in
+    rw (p.1, p.2) (refused_within (HoldsTooMuch c.args.elf.now f c.args.found.now.info)
+    (g.M.Memory.refuses c.args.memory.now) f 1 c.in_err-optional_reader-3.field-0.0 (omega arith) c.in_err-optional_reader-3.ensures.most)

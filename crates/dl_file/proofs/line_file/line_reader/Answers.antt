@@ -1,11 +1,13 @@
-use Rattle.std.proofs.Common.{◌≡◌, ◌≤◌, ◌<◌, ◌-◌, Some, Ok, Err, arith, ap, drop, inl, length, sym, refl, subst, ℕ, List, ◌∙◌}
+use Rattle.std.proofs.Common.{◌≡◌, ◌+◌, ◌^◌, ◌⊎◌, ◌≤◌, ◌<◌, ◌-◌, Some, Ok, Err, arith, ap, drop, inl, inr, length, sym, refl, subst, ℕ, List, ◌∙◌}
 use Rattle.std.proofs.lemmas.List.{with_items_is}
 use Rattle.std.proofs.lemmas.Result.{err_from_is_err_and}
 use Rattle.dl_file.specs.Answering.{IsMade}
-use Rattle.dl_file.specs.LineTable.{IsLine, Plain, content, held_bytes, plain_content}
+use Rattle.dl_file.specs.LineTable.{HoldsTooMuch, IsLine, IsTooLong, Plain, content, held_bytes, plain_content}
 use Rattle.dl_file.specs.OneByOne.{relocated_upto}
 use Rattle.dl_file.proofs.AnswerLemmas.{opened_line, uncounted_opens, unmade_opens, unread_opens}
 use Rattle.dl_file.proofs.RelocationLemmas.{line_made, line_refused, line_unread, some_relocations}
+use Rattle.dl_file.proofs.RefusedLemmas.{refused_err}
+use Rattle.dl_memory.specs.Refusals.{IsRefused, WasRefused}
 use Rattle.dl_file.proofs.line_file.line_reader.Goals as goal
 
 pub returns-in_err-relocations-clause-opens : goal.returns-in_err-relocations-clause-opens
@@ -91,3 +93,26 @@ returns-clause-opens g c = λ f is short.
         λ error fails. absurd fails,
       ),
     )
+
+pub returns-in_err-bytes-clause-refused : goal.returns-in_err-bytes-clause-refused
+returns-in_err-bytes-clause-refused g c = λ f is short.
+    let p = err_from_is_err_and c.from_residual-in_err-bytes.result c.from_residual-in_err-bytes.ensures.1 in
+    let e = c.args.elf.now in
+    let line = c.args.line.now in
+    let some = some_relocations e f line.number c.in_ok-relocations.relocations.count
+    (c.in_ok-relocations.ensures.found f is short).0 c.if-relocations-eq0.false in
+    let Refusal = WasRefused (g.M.Memory.refuses c.args.memory.now) in
+    rw (p.1, p.2) (refused_err (Refusal ⊎ IsTooLong e f line) (Refusal ⊎ HoldsTooMuch e f line) c.in_err-bytes.field-0.0
+    (λ why. elim why [ inl refused ↦ inl refused | inr long ↦ inr (some, long) ])
+    (c.in_err-bytes.ensures.refused f is short))
+
+pub returns-in_err-bytes-clause-most : goal.returns-in_err-bytes-clause-most
+returns-in_err-bytes-clause-most g c = λ f is short.
+    let p = err_from_is_err_and c.from_residual-in_err-bytes.result c.from_residual-in_err-bytes.ensures.1 in
+    let e = c.args.elf.now in
+    let line = c.args.line.now in
+    let some = some_relocations e f line.number c.in_ok-relocations.relocations.count
+    (c.in_ok-relocations.ensures.found f is short).0 c.if-relocations-eq0.false in
+    let Refusal = IsRefused (g.M.Memory.refuses c.args.memory.now) (length f + 2 ^ 32) in
+    rw (p.1, p.2) (refused_err (Refusal ⊎ IsTooLong e f line) (Refusal ⊎ HoldsTooMuch e f line) c.in_err-bytes.field-0.0
+    (λ why. elim why [ inl refused ↦ inl refused | inr long ↦ inr (some, long) ]) (c.in_err-bytes.ensures.most f is short))

@@ -1,6 +1,9 @@
-use Rattle.std.proofs.Common.{Ok, sym, ◌∙◌, refl}
+use Rattle.std.proofs.Common.{arith, Ok, sym, ◌∙◌, refl}
 use Rattle.dl_file.specs.LineTable.{line_table}
 use Rattle.dl_file.proofs.LineTableLemmas.{strings_lie, table_whole}
+use Rattle.std.proofs.lemmas.Result.{err_from_is_err_and}
+use Rattle.dl_file.specs.LineTable.{HoldsTooMuch}
+use Rattle.dl_file.proofs.RefusedLemmas.{refused_within}
 use Rattle.dl_file.proofs.line_file.open_chosen.Goals as goal
 
 pub returns-clause-opens : goal.returns-clause-opens
@@ -34,3 +37,19 @@ optional_reader-requires-2 g c = record {
   within = λ f is short.
       (strings_lie c.args.elf.now f c.args.chosen.now (sym (c.in_ok-part.ensures.part f is short) ∙ c.in_default.is)).1;
 }
+
+pub returns-in_err-optional_reader-clause-most : goal.returns-in_err-optional_reader-clause-most
+returns-in_err-optional_reader-clause-most g c = λ f is short.
+    let p = err_from_is_err_and c.from_residual-in_err-optional_reader.result
+    c.from_residual-in_err-optional_reader.ensures.1 in
+    rw (p.1, p.2) (refused_within (HoldsTooMuch c.args.elf.now f c.args.chosen.now.line)
+    (g.M.Memory.refuses c.args.memory.now) f 1 c.in_err-optional_reader.field-0.0 (omega arith)
+    c.in_err-optional_reader.ensures.most)
+
+pub returns-in_err-optional_reader-2-clause-most : goal.returns-in_err-optional_reader-2-clause-most
+returns-in_err-optional_reader-2-clause-most g c = λ f is short.
+    let p = err_from_is_err_and c.from_residual-in_err-optional_reader-2.result
+    c.from_residual-in_err-optional_reader-2.ensures.1 in
+    rw (p.1, p.2) (refused_within (HoldsTooMuch c.args.elf.now f c.args.chosen.now.line)
+    (g.M.Memory.refuses c.args.memory.now) f 1 c.in_err-optional_reader-2.field-0.0 (omega arith)
+    c.in_err-optional_reader-2.ensures.most)

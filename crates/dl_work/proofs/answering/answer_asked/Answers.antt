@@ -6,7 +6,7 @@ use Rattle.std.proofs.lemmas.Grind.{common_steps}
 use Rattle.dl_cmd.specs.Job.{addr_words_made}
 use Rattle.dl_dialogue.specs.Answers.{Manner}
 use Rattle.dl_work.proofs.AnsweringLemmas.{lines_asked, manner, words_asked}
-use Rattle.dl_work.proofs.BlameLemmas.{given_writer}
+use Rattle.dl_work.proofs.BlameLemmas.{given_no_read, given_writer}
 use Rattle.dl_work.proofs.answering.answer_asked.Goals as goal
 
 pub returns-then-is_empty-clause-answers : goal.returns-then-is_empty-clause-answers
@@ -51,3 +51,9 @@ returns-clause-answers g c =
 pub returns-clause-blames_writer : goal.returns-clause-blames_writer
 returns-clause-blames_writer g c =
     rw c.answered_given.ensures (given_writer _ c.answer_all.result c.answer_all.ensures.blames_writer)
+
+pub returns-clause-blames : goal.returns-clause-blames
+returns-clause-blames g c first is = (
+  is,
+  λ e. absurd (given_no_read c.answer_all.result c.answer_all.ensures.reads (sym c.answered_given.ensures ∙ e.0)),
+)

@@ -5,13 +5,15 @@ use Rattle.dl_cmd.specs.Job.{addr_words_made}
 use Rattle.dl_dirs.specs.Compilation.{directory_by}
 use Rattle.dl_work.specs.Damages.{unheard}
 use Rattle.dl_work.specs.Located.{located}
+use Rattle.dl_work.specs.Stops.{over_file}
 use Rattle.dl_work.specs.Tables.{OnFile}
 use Rattle.dl_work.specs.Units.{file_units}
+use Rattle.dl_work.proofs.BlameLemmas.{located_reads, located_writer, over_reads, over_writer}
 use Rattle.dl_work.proofs.TableLemmas.{on_file_as}
 use Rattle.dl_work.proofs.over_elf_file.given.Goals as goal
 
-pub returns : goal.returns
-returns g c = λ understood f known short.
+pub returns-clause-located : goal.returns-clause-located
+returns-clause-located g c = λ understood f known short.
     let w = addr_words_made c.args.words.now in
     let q = c.question-question.ensures in
     let reads = g.S.ReadAt.fails_with c.args.file.now in (
@@ -31,6 +33,18 @@ returns g c = λ understood f known short.
           (g.W.Write.contents c.args.output.now) (g.W.Write.contents c.on_file-answer.new.output) unheard
           c.on_file-answer.result) c.asking-command.ensures
           (on_file_as (g.M.Memory.refuses c.args.memory.now) c.units_of_file-units.result _ _ _ c.args.path.now _ c.asking-command.result f _ _ _ _
-          c.units_of_file-units.ensures (λ e fails. fails) (c.on_file-answer.ensures tt f known short)),
+          c.units_of_file-units.ensures (λ e fails. fails) (c.on_file-answer.ensures.ran tt f known short)),
       c.by_answer.ensures ∙ ap (λ answer. located answer None) c.over_file.ensures,
     )
+
+pub returns-clause-reads : goal.returns-clause-reads
+returns-clause-reads g c =
+    let answer = c.on_file-answer.result in
+    rw (c.by_answer.ensures, c.over_file.ensures) (located_reads (over_file answer) None
+    (over_reads g.W.Destination.fails answer (c.on_file-answer.ensures.blames tt)))
+
+pub returns-clause-blames_writer : goal.returns-clause-blames_writer
+returns-clause-blames_writer g c =
+    let answer = c.on_file-answer.result in
+    rw (c.by_answer.ensures, c.over_file.ensures) (located_writer g.W.Destination.fails (over_file answer) None
+    (over_writer g.W.Destination.fails answer (c.on_file-answer.ensures.blames tt)))

@@ -6,8 +6,8 @@ use Rattle.dl_work.specs.OverIndex.{has_id}
 use Rattle.dl_work.specs.declared.stop.Stop.TheVariants.{OtherFile}
 use Rattle.dl_work.proofs.over_index.check_made_of.Goals as goal
 
-pub returns-then-has_id : goal.returns-then-has_id
-returns-then-has_id g c =
+pub returns-then-has_id-clause-made : goal.returns-then-has_id-clause-made
+returns-then-has_id-clause-made g c =
     let own = option_map build_id_bytes c.in-Ok.own in
     let is = ap (λ o. has_id (option_map build_id_bytes o) c.args.id.now) (sym c.as_ref.ensures.value)
     ∙ (sym c.has_id.ensures ∙ c.if-has_id.true) in
@@ -17,8 +17,8 @@ returns-then-has_id g c =
       sym (ap (λ b. if b then Ok tt else Err (OtherFile c.args.path)) is),
     ))
 
-pub returns-else-has_id : goal.returns-else-has_id
-returns-else-has_id g c =
+pub returns-else-has_id-clause-made : goal.returns-else-has_id-clause-made
+returns-else-has_id-clause-made g c =
     let own = option_map build_id_bytes c.in-Ok.own in
     let is = ap (λ o. has_id (option_map build_id_bytes o) c.args.id.now) (sym c.as_ref.ensures.value)
     ∙ (sym c.has_id.ensures ∙ c.if-has_id.false) in

@@ -17,8 +17,8 @@ returns-in-Err-clause-ran g c = (
 pub returns-in-Err-clause-blames : goal.returns-in-Err-clause-blames
 returns-in-Err-clause-blames g c first is = (
   is,
-  λ e. absurd (e.2 (subst (λ (f : RunFault). FilesStop (g.F.FileSource.held c.args.files.now)
-      (section_seen c.args.section).line_str (section_seen c.args.section).strings f) (same_stop c.in-Err.fault e.1)
+  λ e. absurd (e.2 (subst (λ (f : RunFault). FilesStop (g.M.Memory.refuses c.args.memory.now)
+      (g.F.FileSource.held c.args.files.now) (g.F.FileSource.fails_with c.args.files.now) (section_seen c.args.section).line_str (section_seen c.args.section).strings f) (same_stop c.in-Err.fault e.1)
       c.in-Err.ensures)),
 )
 
@@ -32,5 +32,6 @@ returns-in-Ok-clause-blames_writer g c untold =
 
 pub returns-in-Err-clause-blames_writer : goal.returns-in-Err-clause-blames_writer
 returns-in-Err-clause-blames_writer g c untold =
-    files_writer _ (g.F.FileSource.held c.args.files.now) (section_seen c.args.section).line_str
+    files_writer _ (g.M.Memory.refuses c.args.memory.now) (g.F.FileSource.held c.args.files.now)
+    (g.F.FileSource.fails_with c.args.files.now) (section_seen c.args.section).line_str
     (section_seen c.args.section).strings c.in-Err.fault c.in-Err.ensures

@@ -3,7 +3,7 @@ use Rattle.std.specs.Prelude.{option_map}
 use Rattle.dl_addr.specs.Commands.{is_answered}
 use Rattle.dl_addr.specs.Locations.{location_seen}
 use Rattle.dl_dialogue.proofs.AnswerLemmas.{answers_one, some_mapped, stops_before}
-use Rattle.dl_dialogue.proofs.BlameLemmas.{stopped_writer, written_writer}
+use Rattle.dl_dialogue.proofs.BlameLemmas.{stopped_reads, stopped_writer, written_reads, written_writer}
 use Rattle.dl_dialogue.specs.Faults.{TellFails}
 use Rattle.dl_dialogue.proofs.StayLemmas.{determined, tell_fails}
 use Rattle.dl_dialogue.proofs.answers.Answers.answer.Goals as goal
@@ -32,3 +32,9 @@ returns-in-Ok-clause-blames_writer g c =
 pub returns-in-Err-clause-blames_writer : goal.returns-in-Err-clause-blames_writer
 returns-in-Err-clause-blames_writer g c =
     rw c.stopped.ensures (stopped_writer _ c.flush.result c.in-Err.fault c.flush.ensures.blames)
+
+pub returns-in-Ok-clause-reads : goal.returns-in-Ok-clause-reads
+returns-in-Ok-clause-reads g c = rw c.written.ensures (written_reads c.print_location.result)
+
+pub returns-in-Err-clause-reads : goal.returns-in-Err-clause-reads
+returns-in-Err-clause-reads g c = rw c.stopped.ensures (stopped_reads c.flush.result c.in-Err.fault)

@@ -1,5 +1,5 @@
 use Rattle.dl_dialogue.proofs.AnswerLemmas.{flushes_all}
-use Rattle.dl_dialogue.proofs.BlameLemmas.{written_writer}
+use Rattle.dl_dialogue.proofs.BlameLemmas.{written_reads, written_writer}
 use Rattle.dl_dialogue.proofs.answers.Answers.flush.Goals as goal
 
 pub returns-clause-flushed : goal.returns-clause-flushed
@@ -10,3 +10,6 @@ returns-clause-flushed g c = λ m start asked stands.
 
 pub returns-clause-blames_writer : goal.returns-clause-blames_writer
 returns-clause-blames_writer g c = rw c.written.ensures (written_writer _ c.flush.result c.flush.ensures.blames)
+
+pub returns-clause-reads : goal.returns-clause-reads
+returns-clause-reads g c = rw c.written.ensures (written_reads c.flush.result)
