@@ -17,6 +17,7 @@ ghost use Rattle.dl_calls.specs.PathCalls.{TellsPath, both_strings};
 ghost use Rattle.dl_calls.specs.PathsCalls.{TellsPaths};
 ghost use Rattle.dl_calls.specs.Records.{status_code};
 ghost use Rattle.dl_calls.specs.UnitCalls.{Describes, Lists, length_told, written_over};
+ghost use Rattle.dl_memory.specs.Refusals.{SystemRefuses};
 ghost use Rattle.dl_index_calls.specs.IndexFaultCalls as index_faults;
 ghost use Rattle.dl_index_calls.specs.IndexFindCalls.{FindsMany, FindsOne};
 ghost use Rattle.dl_index_calls.specs.IndexPathCalls.{path_told};
@@ -110,7 +111,7 @@ pub extern "C" fn boxantrel_find_all(
     fault: &mut FaultRecord,
 ) -> u32
     ensures { (status : Status) × (result ≡ status_code status)
-        × FindsAllBy (λ n. Unit {0}) (goes_on how) (dialect_of how) section.now addresses.now rows.old rows.new units.old units.new
+        × FindsAllBy SystemRefuses (goes_on how) (dialect_of how) section.now addresses.now rows.old rows.new units.old units.new
         fault.old fault.new status }
 {
     dl_calls::find_all(
@@ -136,7 +137,7 @@ pub extern "C" fn boxantrel_copy(
     fault: &mut FaultRecord,
 ) -> u32
     ensures { (status : Status) × (result ≡ status_code status)
-        × Copies (Unit {0}) (λ n. Unit {0}) (dialect_of how) section.now room.old room.new len.old len.new fault.old fault.new status }
+        × Copies (Unit {0}) SystemRefuses (dialect_of how) section.now room.old room.new len.old len.new fault.old fault.new status }
 {
     dl_calls::copy(&System::new(alloc), section, how, room, len, fault).code()
 }
@@ -303,7 +304,7 @@ pub extern "C" fn boxantrel_index_build(
     fault: &mut FaultRecord,
 ) -> u32
     ensures { (status : Status) × (result ≡ status_code status)
-        × BuildsFile (λ n. Unit {0}) file.now all keep_going room.old room.new len.old len.new fault.old fault.new status }
+        × BuildsFile SystemRefuses file.now all keep_going room.old room.new len.old len.new fault.old fault.new status }
 {
     dl_building::build_file(&System::new(alloc), file, all, keep_going, room, len, fault).code()
 }
@@ -323,7 +324,7 @@ pub extern "C" fn boxantrel_index_build_section(
     fault: &mut FaultRecord,
 ) -> u32
     ensures { (status : Status) × (result ≡ status_code status)
-        × BuildsSection (λ n. Unit {0}) (goes_on how) (dialect_of how) (both_strings line_str.now str.now) all code.now section.now
+        × BuildsSection SystemRefuses (goes_on how) (dialect_of how) (both_strings line_str.now str.now) all code.now section.now
         room.old room.new len.old len.new fault.old fault.new status }
 {
     dl_building::build_section(

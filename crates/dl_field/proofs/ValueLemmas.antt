@@ -2,6 +2,7 @@
 use Rattle.std.proofs.Common.{◌≡◌, ℕ, zero, suc, ◌+◌, ◌-◌, ◌<◌, ◌≤◌, inl, inr, true, false, List, [], ◌∷◌, ◌++◌, length}
 use Rattle.std.proofs.Common.{drop, if◌then◌else◌, Some, None, Result, Ok, Err, refl, sym, ap, subst, ◌∙◌}
 use Rattle.std.proofs.Common.{arith, length-append, append_assoc, append-nil}
+use Rattle.std.specs.Prelude.{OnErr, OnOk}
 use Rattle.std.specs.Result.{is_ok, is_err}
 use Rattle.std.proofs.lemmas.List.Sums.{sum_by_push}
 use Rattle.std.proofs.lemmas.List.{map-append, drop-append-le}
@@ -176,6 +177,16 @@ pushed xs ys (Err x) e = absurd cc
 pub refused : {A B E : Type 0} (xs ys : List B) (r : Result A E) → is_err r ≡ true → (if is_ok r then xs else ys) ≡ ys
 refused xs ys (Ok a) e = absurd cc
 refused xs ys (Err x) e = refl
+
+-- what holds of a call that wasn't refused
+pub granted : {A E : Type 0} {P : Type 0} (r : Result A E) → OnOk r P → is_err r ≡ false → P
+granted (Ok a) holds e = holds
+granted (Err x) holds e = absurd cc
+
+-- and of one that was
+pub denied : {A E : Type 0} {P : Type 0} (r : Result A E) → OnErr r P → is_err r ≡ true → P
+denied (Ok a) holds e = absurd cc
+denied (Err x) holds e = holds
 
 -- `enter`
 pub entered : (order : Order) (old : TableReader) (values : List StoredValue) (new : TableReader) (at : Cursor)

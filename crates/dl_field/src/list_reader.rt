@@ -6,9 +6,11 @@ ghost use Rattle.dl_num.specs.declared.fixed.Order.{Order};
 ghost use Rattle.dl_table.specs.Held.{cells_held, held_end, value_held, values_end};
 ghost use Rattle.dl_table.specs.Value.{Value};
 ghost use Rattle.dl_field.specs.ListStep.{listed, most_pairs, path_start};
+ghost use Rattle.dl_memory.specs.Refusals.{SystemRefuses, WasRefused};
 
 use crate::field_step::FieldStep;
 use crate::value_reader::held_number;
+use dl_memory::{Memory, System};
 use dl_num::{LebRange, Uleb};
 use dl_table::table::cells_of;
 use dl_table::{Extent, FaultKind, Form, Format, Pair, StoredValue, Table};
@@ -145,6 +147,7 @@ impl ListReader {
     pub fn push(&mut self, byte: u8) -> FieldStep
         ensures made { ListFollows self.old (byte ∷ []) result self.new }
         ensures cells { ListAdds self.old (byte ∷ []) result self.new }
+        ensures refused { result ≡ byte_makes.NoMemory → WasRefused SystemRefuses }
     {
         match self.phase {
             ListPhase::Path(start) => self.path(start, byte),
@@ -158,9 +161,10 @@ impl ListReader {
         requires { self.old.phase ≡ phase.Path start }
         ensures made { ListFollows self.old (byte ∷ []) result self.new }
         ensures cells { ListAdds self.old (byte ∷ []) result self.new }
+        ensures refused { result ≡ byte_makes.NoMemory → WasRefused SystemRefuses }
     {
         if byte != 0 {
-            if self.pool.push(byte).is_err() {
+            if System::of(&self.pool).push(&mut self.pool, byte).is_err() {
                 return FieldStep::NoMemory;
             }
             return FieldStep::Within;
@@ -178,8 +182,13 @@ impl ListReader {
         requires { self.old.phase ≡ phase.Path (length self.old.pool.items) }
         ensures made { ListFollows self.old (0 ∷ []) result self.new }
         ensures cells { ListAdds self.old (0 ∷ []) result self.new }
+        ensures refused { result ≡ byte_makes.NoMemory → WasRefused SystemRefuses }
     {
-        if self.pairs.extend_from_slice(self.kind.pairs()).is_err() {
+        let pairs = self.kind.pairs();
+        if System::of(&self.pairs)
+            .extend_from_slice(&mut self.pairs, pairs)
+            .is_err()
+        {
             return FieldStep::NoMemory;
         }
         self.phase = ListPhase::Whole;
@@ -190,6 +199,7 @@ impl ListReader {
         requires { self.old.phase ≡ phase.Number left number }
         ensures made { ListFollows self.old (byte ∷ []) result self.new }
         ensures cells { ListAdds self.old (byte ∷ []) result self.new }
+        ensures refused { result ≡ byte_makes.NoMemory → WasRefused SystemRefuses }
     {
         match number.push(byte) {
             None => {
@@ -216,8 +226,12 @@ impl ListReader {
         ensures cells { OneListCell self.old result self.new }
         ensures room { vec_len self.old.values < vec_capacity self.old.values → result ≡ byte_makes.Ends }
         ensures going { result ≡ byte_makes.Ends → self.new.phase ≢ phase.Whole }
+        ensures refused { result ≡ byte_makes.NoMemory → WasRefused SystemRefuses }
     {
-        if self.values.push(held).is_err() {
+        if System::of(&self.values)
+            .push(&mut self.values, held)
+            .is_err()
+        {
             return FieldStep::NoMemory;
         }
         if left == 0 {

@@ -4,9 +4,11 @@
 ghost use Rattle.std.specs.Prelude.{◌≡◌, ◌+◌, ◌-◌, ◌^◌, ◌≤◌, Ok, length, max, min};
 ghost use Rattle.dl_table.specs.Held.{values_end};
 ghost use Rattle.dl_field.specs.TableStep.{pairs_due, row_end, text_start, bytes_due};
+ghost use Rattle.dl_memory.specs.Refusals.{SystemRefuses, WasRefused};
 
 use crate::field_step::FieldStep;
 use crate::value_phase::{Cursor, ValuePhase};
+use dl_memory::{Memory, System};
 use dl_num::{LebRange, Order, Uleb};
 use dl_table::table::cells_of;
 use dl_table::{FaultKind, Form, Format, Pair, StoredValue, Table};
@@ -61,6 +63,7 @@ pub struct TableReader {
 }
 
 impl TableReader {
+    ghost use Rattle.dl_field.specs.declared.field_step.FieldStep.TheVariants as byte_makes;
     ghost use Rattle.dl_field.specs.declared.table_reader.TablePhase.TheVariants as phase;
     ghost use Rattle.dl_field.specs.TablePlace.{IsFresh, reader_cells};
     ghost use Rattle.dl_field.specs.TableMoves.{MakesTable, Takes, TableFollows, TakesContent, TakesForm, TakesCount};
@@ -107,7 +110,8 @@ impl TableReader {
 
     /// Takes the next byte, save where memory is refused; the reader is then unchanged.
     pub fn push(&mut self, order: Order, format: Format, byte: u8) -> FieldStep
-        ensures { PushFollows order format self.old byte result self.new }
+        ensures follows { PushFollows order format self.old byte result self.new }
+        ensures refused { result ≡ byte_makes.NoMemory → WasRefused SystemRefuses }
     {
         match self.phase {
             TablePhase::PairCount => self.pair_count(byte),
@@ -123,6 +127,7 @@ impl TableReader {
         requires { self.old.phase ≡ phase.PairCount }
         ensures made { TableFollows self.old byte result self.new }
         ensures cells { KeepsCells self.old result self.new }
+        ensures refused { result ≡ byte_makes.NoMemory → WasRefused SystemRefuses }
     {
         self.phase = TablePhase::of_pairs(byte);
         FieldStep::Ends
@@ -132,6 +137,7 @@ impl TableReader {
         requires { self.old.phase ≡ phase.ContentCode left code }
         ensures made { TableFollows self.old byte result self.new }
         ensures cells { KeepsCells self.old result self.new }
+        ensures refused { result ≡ byte_makes.NoMemory → WasRefused SystemRefuses }
     {
         match code.push(byte) {
             None => {
@@ -149,6 +155,7 @@ impl TableReader {
         requires whole { values_end self.old.values.items ≤ length self.old.pool.items }
         ensures made { TakesContent self.old left content result self.new }
         ensures cells { KeepsCells self.old result self.new }
+        ensures refused { result ≡ byte_makes.NoMemory → WasRefused SystemRefuses }
     {
         self.phase = TablePhase::FormCode(left, content, Uleb::new());
         FieldStep::Ends
@@ -158,6 +165,7 @@ impl TableReader {
         requires { self.old.phase ≡ phase.FormCode left content code }
         ensures made { TableFollows self.old byte result self.new }
         ensures cells { OneCell self.old result self.new }
+        ensures refused { result ≡ byte_makes.NoMemory → WasRefused SystemRefuses }
     {
         match code.push(byte) {
             None => {
@@ -175,11 +183,13 @@ impl TableReader {
         requires whole { values_end self.old.values.items ≤ length self.old.pool.items }
         ensures made { TakesForm self.old left content code result self.new }
         ensures cells { OneCell self.old result self.new }
+        ensures refused { result ≡ byte_makes.NoMemory → WasRefused SystemRefuses }
     {
         let Some(form) = Form::from_code(code) else {
             return FieldStep::Refuses(FaultKind::UnknownForm(code));
         };
-        if self.pairs.push(Pair { content, form }).is_err() {
+        let pair = Pair { content, form };
+        if System::of(&self.pairs).push(&mut self.pairs, pair).is_err() {
             return FieldStep::NoMemory;
         }
         self.phase = TablePhase::of_pairs(left.saturating_sub(1));
@@ -190,6 +200,7 @@ impl TableReader {
         requires { self.old.phase ≡ phase.EntryCount count }
         ensures made { (order : Order) → ValueFollows order format self.old byte result self.new }
         ensures cells { KeepsCells self.old result self.new }
+        ensures refused { result ≡ byte_makes.NoMemory → WasRefused SystemRefuses }
     {
         match count.push(byte) {
             None => {
@@ -205,6 +216,7 @@ impl TableReader {
         requires { values_end self.old.values.items ≤ length self.old.pool.items }
         ensures made { TakesCount self.old count format result self.new }
         ensures cells { KeepsCells self.old result self.new }
+        ensures refused { result ≡ byte_makes.NoMemory → WasRefused SystemRefuses }
     {
         match count {
             Ok(count) => self.begin_entries(count, format),
@@ -222,6 +234,7 @@ impl TableReader {
         requires { values_end self.old.values.items ≤ length self.old.pool.items }
         ensures made { TakesCount self.old (Ok count) format result self.new }
         ensures cells { KeepsCells self.old result self.new }
+        ensures refused { result ≡ byte_makes.NoMemory → WasRefused SystemRefuses }
     {
         if count == 0 {
             self.phase = TablePhase::Whole;

@@ -5,11 +5,13 @@ ghost use Rattle.std.specs.Prelude.{vec_len, vec_capacity};
 ghost use Rattle.dl_num.specs.declared.fixed.Order.{Order};
 ghost use Rattle.dl_table.specs.Held.{cells_held, held_end, values_end, value_held};
 ghost use Rattle.dl_field.specs.TablePlace.{number_value};
+ghost use Rattle.dl_memory.specs.Refusals.{SystemRefuses, WasRefused};
 
 use crate::field_step::FieldStep;
 use crate::sixteen::Sixteen;
 use crate::table_reader::{TablePhase, TableReader};
 use crate::value_phase::{Cursor, ValuePhase};
+use dl_memory::{Memory, System};
 use dl_num::{LebRange, Order, PartialNumber, Uleb};
 use dl_table::{Extent, FaultKind, Form, Format, StoredValue, Word};
 
@@ -33,6 +35,7 @@ impl TableReader {
         requires { self.old.phase ≡ phase.Value at value }
         ensures made { ValueFollows order format self.old byte result self.new }
         ensures cells { ValueAdds order format self.old byte result self.new }
+        ensures refused { result ≡ byte_makes.NoMemory → WasRefused SystemRefuses }
     {
         match value {
             ValuePhase::Number(form, number) => self.number(at, form, number, order, format, byte),
@@ -57,6 +60,7 @@ impl TableReader {
         requires { self.old.phase ≡ phase.Value at (value.Number form number) }
         ensures made { ValueFollows order format self.old byte result self.new }
         ensures cells { OneCell self.old result self.new }
+        ensures refused { result ≡ byte_makes.NoMemory → WasRefused SystemRefuses }
     {
         match number.push(order, byte) {
             Err(number) => {
@@ -71,6 +75,7 @@ impl TableReader {
         requires { self.old.phase ≡ phase.Value at (value.Leb number) }
         ensures made { (order : Order) → ValueFollows order format self.old byte result self.new }
         ensures cells { OneCell self.old result self.new }
+        ensures refused { result ≡ byte_makes.NoMemory → WasRefused SystemRefuses }
     {
         match number.push(byte) {
             None => {
@@ -86,6 +91,7 @@ impl TableReader {
         requires { self.old.phase ≡ phase.Value at (value.Data16 sixteen) }
         ensures made { (order : Order) → ValueFollows order format self.old byte result self.new }
         ensures cells { OneCell self.old result self.new }
+        ensures refused { result ≡ byte_makes.NoMemory → WasRefused SystemRefuses }
     {
         match sixteen.push(byte) {
             Err(sixteen) => {
@@ -100,12 +106,13 @@ impl TableReader {
         requires { self.old.phase ≡ phase.Value at (value.Text start) }
         ensures made { (order : Order) → ValueFollows order format self.old byte result self.new }
         ensures cells { EachCell self.old result self.new }
+        ensures refused { result ≡ byte_makes.NoMemory → WasRefused SystemRefuses }
     {
         if byte == 0 {
             let len = self.pool.len() - start;
             return self.enter(at, StoredValue::Text(Extent::new(start, len)), format);
         }
-        if self.pool.push(byte).is_err() {
+        if System::of(&self.pool).push(&mut self.pool, byte).is_err() {
             return FieldStep::NoMemory;
         }
         FieldStep::Within
@@ -122,6 +129,7 @@ impl TableReader {
         requires { self.old.phase ≡ phase.Value at (value.BlockLength number) }
         ensures made { ValueFollows order format self.old byte result self.new }
         ensures cells { ValueAdds order format self.old byte result self.new }
+        ensures refused { result ≡ byte_makes.NoMemory → WasRefused SystemRefuses }
     {
         match number.push(order, byte) {
             Err(number) => {
@@ -142,6 +150,7 @@ impl TableReader {
         requires { self.old.phase ≡ phase.Value at (value.LebBlockLength number) }
         ensures made { (order : Order) → ValueFollows order format self.old byte result self.new }
         ensures cells { (order : Order) → ValueAdds order format self.old byte result self.new }
+        ensures refused { result ≡ byte_makes.NoMemory → WasRefused SystemRefuses }
     {
         match number.push(byte) {
             None => {
@@ -161,12 +170,13 @@ impl TableReader {
         ensures small { size < 2 ^ 64 }
         ensures begins { BeginsBlock self.old at size format result self.new }
         ensures cells { EachCell self.old result self.new }
+        ensures refused { result ≡ byte_makes.NoMemory → WasRefused SystemRefuses }
     {
         let start = self.pool.len();
         let len = size as usize;
-        if self
-            .values
-            .push(StoredValue::Block(Extent::new(start, len)))
+        let block = StoredValue::Block(Extent::new(start, len));
+        if System::of(&self.values)
+            .push(&mut self.values, block)
             .is_err()
         {
             return FieldStep::NoMemory;
@@ -183,8 +193,9 @@ impl TableReader {
         requires { self.old.phase ≡ phase.Value at (value.Block left) }
         ensures made { (order : Order) → ValueFollows order format self.old byte result self.new }
         ensures cells { EachCell self.old result self.new }
+        ensures refused { result ≡ byte_makes.NoMemory → WasRefused SystemRefuses }
     {
-        if self.pool.push(byte).is_err() {
+        if System::of(&self.pool).push(&mut self.pool, byte).is_err() {
             return FieldStep::NoMemory;
         }
         if left <= 1 {
@@ -207,8 +218,12 @@ impl TableReader {
         ensures goes { result ≡ byte_makes.Ends → GoesOn self.old.pairs.items self.old.pool.items
             (self.old.values.items ++ held ∷ []) (at.column + 1) at.left format self.new }
         ensures room { vec_len self.old.values < vec_capacity self.old.values → result ≡ byte_makes.Ends }
+        ensures refused { result ≡ byte_makes.NoMemory → WasRefused SystemRefuses }
     {
-        if self.values.push(held).is_err() {
+        if System::of(&self.values)
+            .push(&mut self.values, held)
+            .is_err()
+        {
             return FieldStep::NoMemory;
         }
         self.end_value(at, format);

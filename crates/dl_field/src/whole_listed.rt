@@ -1,6 +1,7 @@
 //! Values of a table of versions 2 to 4 whose bytes all stand at the front of a piece. DWARF 4, section 6.2.4.
 
 ghost use Rattle.std.specs.Prelude.{◌≡◌, ◌≢◌, ◌≤◌, length, take, MatchOption};
+ghost use Rattle.dl_memory.specs.Refusals.{SystemRefuses, WasRefused};
 
 use crate::field_step::FieldStep;
 use crate::list_reader::{ListPhase, ListReader};
@@ -24,6 +25,7 @@ impl ListReader {
         ensures some { 1 ≤ result.0 }
         ensures within { result.0 ≤ length bytes.now }
         ensures one { result.1 ≢ byte_makes.Ends → result.0 ≡ 1 }
+        ensures refused { result.1 ≡ byte_makes.NoMemory → WasRefused SystemRefuses }
     {
         match self.whole_value(bytes) {
             Some(tail) => (bytes.len() - tail.len(), FieldStep::Ends),

@@ -5,6 +5,7 @@ ghost use Rattle.dl_num.specs.declared.fixed.Order.{Order};
 ghost use Rattle.dl_field.specs.declared.value_phase.ValuePhase.TheVariants as value;
 ghost use Rattle.dl_table.specs.Held.{held_end, values_end};
 ghost use Rattle.dl_field.specs.TableMoves.{InFront, LebInFront, LengthInFront};
+ghost use Rattle.dl_memory.specs.Refusals.{SystemRefuses, WasRefused};
 
 use crate::field_step::FieldStep;
 use crate::sixteen::Sixteen;
@@ -120,6 +121,7 @@ impl TableReader {
         ensures some { 1 ≤ result.0 }
         ensures within { result.0 ≤ length bytes.now }
         ensures one { result.1 ≢ byte_makes.Ends → result.0 ≡ 1 }
+        ensures refused { result.1 ≡ byte_makes.NoMemory → WasRefused SystemRefuses }
     {
         match self.value_front(order, format, bytes) {
             Some(tail) => (bytes.len() - tail.len(), FieldStep::Ends),

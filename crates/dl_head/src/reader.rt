@@ -1,5 +1,6 @@
 //! The header of a unit, byte by byte. Section 6.2.4.
 
+ghost use Rattle.dl_memory.specs.Refusals.{SystemRefuses, WasRefused};
 ghost use Rattle.std.specs.Prelude.{◌≡◌, ◌≢◌, ◌-◌, ◌≤◌, ◌^◌, ℕ, List, [], true, false, length, min, IfSome, IsTrue, Some};
 ghost use Rattle.dl_head.specs.Header.{unit_len};
 ghost use Rattle.dl_head.specs.Cells.{cells};
@@ -121,6 +122,7 @@ pub struct HeadReader {
 }
 
 impl HeadReader {
+    ghost use Rattle.dl_field.specs.declared.field_step.FieldStep.TheVariants as byte_makes;
     ghost use Rattle.dl_head.specs.declared.reader.Phase.TheVariants as phase;
     ghost use Rattle.dl_head.specs.declared.reader.HeadStep.TheVariants as answer;
     ghost use Rattle.dl_head.specs.Place.{Keeps, PushFollows};
@@ -156,6 +158,7 @@ impl HeadReader {
     pub fn step(&mut self, byte: u8) -> HeadStep
         ensures steps { (b : List ℕ) → StandsFor self.old b → Steps self.old.dialect b byte result self.new }
         ensures dialect { self.new.dialect ≡ self.old.dialect }
+        ensures refused { result ≡ answer.NoMemory → WasRefused SystemRefuses }
     {
         match self.ended() {
             Some(last) => last,
@@ -283,6 +286,7 @@ impl HeadReader {
         ensures within { result.0 ≤ length piece.now }
         ensures some { result.1 ≢ answer.NoMemory → 1 ≤ result.0 }
         ensures dialect { self.new.dialect ≡ self.old.dialect }
+        ensures refused { result.1 ≡ answer.NoMemory → WasRefused SystemRefuses }
     {
         let (used, field) = self.push(self.up_to_end(piece));
         match field {
@@ -321,7 +325,8 @@ impl HeadReader {
     /// took, and what they make of the field.
     fn push(&mut self, bytes: &[u8]) -> (usize, FieldStep)
         requires { 1 ≤ length bytes.now }
-        ensures { Pushed self.old bytes.now result.0 result.1 self.new }
+        ensures pushed { Pushed self.old bytes.now result.0 result.1 self.new }
+        ensures refused { result.1 ≡ byte_makes.NoMemory → WasRefused SystemRefuses }
     {
         match self.phase {
             Phase::Directories => self.directories(bytes),
@@ -337,6 +342,7 @@ impl HeadReader {
         requires { in_table self.old.phase ≡ false }
         ensures follows { PushFollows self.old byte result self.new }
         ensures kept { Keeps self.old result self.new }
+        ensures refused { result ≡ byte_makes.NoMemory → WasRefused SystemRefuses }
     {
         match self.phase {
             Phase::UnitLength(number) => self.unit_length(number, byte),

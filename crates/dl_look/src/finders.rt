@@ -70,7 +70,7 @@ enum State {
 
 impl Finders {
     ghost use Rattle.std.specs.Prelude.{◌≡◌, ℕ, ◌+◌, ◌<◌, ◌≤◌, IfOk, OnErr, length, true, false, List, [], ◌∷◌, ◌++◌, slice_get};
-    ghost use Rattle.dl_memory.specs.Refusals.{IsRefused};
+    ghost use Rattle.dl_memory.specs.Refusals.{IsRefused, SystemRefuses};
     ghost use Rattle.std.specs.Option.{option_and_then};
     ghost use Rattle.dl_rows.specs.declared.row.Row.{Row};
     ghost use Rattle.dl_look.specs.declared.place.Place.{Place};
@@ -79,7 +79,8 @@ impl Finders {
 
     /// The places to look for, in any order, and no row yet. No memory is taken later.
     pub fn build(alloc: Global, places: &[Place]) -> Result<Finders, NoMemory>
-        ensures { IfOk result (λ finders. Stand finders places.now [] []) }
+        ensures built { IfOk result (λ finders. Stand finders places.now [] []) }
+        ensures refused { OnErr result (IsRefused SystemRefuses (length places.now + 1)) }
     {
         Finders::build_in(&System::new(alloc), places)
     }

@@ -1,7 +1,7 @@
 //! Rows in memory, for the look-up of many places.
 
 ghost use Rattle.std.specs.Prelude.{◌≡◌, ◌+◌, ◌*◌, IfOk, OnErr, length};
-ghost use Rattle.dl_memory.specs.Refusals.{IsRefused};
+ghost use Rattle.dl_memory.specs.Refusals.{IsRefused, SystemRefuses};
 ghost use Rattle.dl_look.specs.Answer.{answer};
 ghost use Rattle.dl_look.specs.Spans as Spans;
 
@@ -41,7 +41,8 @@ impl Model for Index {
 impl Index {
     /// An index of a copy of the rows. Where a growth is refused, nothing is kept.
     pub fn build(alloc: Global, rows: &[Row]) -> Result<Index, NoMemory>
-        ensures { IfOk result (λ built. built ≡ rows.now) }
+        ensures built { IfOk result (λ built. built ≡ rows.now) }
+        ensures refused { OnErr result (IsRefused SystemRefuses (2 * length rows.now + 1)) }
     {
         Index::build_in(&System::new(alloc), rows)
     }

@@ -1,5 +1,6 @@
 -- Refusals of memory. refuses: for how many items memory is refused.
 use Rattle.std.specs.Prelude.{ℕ, ◌≤◌}
+use Rattle.std.specs.declared.alloc.AllocError.{AllocError}
 
 -- memory was refused for some list of items
 abbrev pub WasRefused : (refuses : ℕ → Type 0) → Type 0
@@ -12,3 +13,13 @@ IsRefused refuses most = (n : ℕ) × (n ≤ most) × refuses n
 -- some memory of a kind is refused
 abbrev pub MayRefuse : {M : Type 0} → (refuses : M → ℕ → Type 0) → Type 0
 MayRefuse {M} refuses = (memory : M) × WasRefused (refuses memory)
+
+-- The system refused memory for a list or a map of n items. Only an error that the standard library answered shows it: what
+-- stands on this definition doesn't see what it is.
+pub SystemRefuses : (n : ℕ) → Type 0
+SystemRefuses n = AllocError
+
+-- An error of the standard library shows it.
+pub library_refused : AllocError → (n : ℕ) → SystemRefuses n
+unfolding SystemRefuses
+library_refused error n = error

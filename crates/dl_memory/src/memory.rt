@@ -10,7 +10,7 @@ pub struct NoMemory;
 /// Where memory comes from. Each call answers [`NoMemory`] only where memory was refused, and then the list or map stays as it
 /// was.
 pub trait Memory {
-    ghost use Rattle.std.specs.Prelude.{◌≡◌, ◌≤◌, ◌+◌, ◌++◌, ◌∷◌, [], ℕ, length, vec_len, vec_capacity, IfOk, OnOk, OnErr, Some, None};
+    ghost use Rattle.std.specs.Prelude.{◌≡◌, ◌<◌, ◌≤◌, ◌+◌, ◌++◌, ◌∷◌, [], ℕ, length, vec_len, vec_capacity, IfOk, OnOk, OnErr, Some, None};
     ghost use Rattle.std.specs.BTreeMap.{IsUnchanged, Updates, btree_map_len, get};
     ghost use Rattle.std.specs.List.Sorted.{IsSortedByKeyClosure, IsStableByKeyClosure};
     ghost use Rattle.std.specs.Ordering.{nat_cmp};
@@ -25,6 +25,7 @@ pub trait Memory {
     fn with_capacity<T>(&self, count: usize) -> Result<Vec<T>, NoMemory>
         ensures items { IfOk result (λ list. list.items ≡ []) }
         ensures capacity { IfOk result (λ list. count ≤ vec_capacity list) }
+        ensures some { OnErr result (0 < count) }
         ensures refused { OnErr result (refuses self.now count) };
 
     /// Puts one item more behind those of a list.
@@ -40,7 +41,16 @@ pub trait Memory {
         ensures items { OnOk result (list.new.items ≡ list.old.items ++ more.now) }
         ensures kept { OnErr result (list.new.items ≡ list.old.items) }
         ensures capacity { vec_capacity list.old ≤ vec_capacity list.new }
+        ensures full { OnErr result (vec_capacity list.old < vec_len list.old + length more.now) }
         ensures refused { OnErr result (refuses self.now (length list.old.items + length more.now)) };
+
+    /// Makes room for so many items more.
+    fn reserve<T>(&self, list: &mut Vec<T>, more: usize) -> Result<(), NoMemory>
+        ensures items { list.new.items ≡ list.old.items }
+        ensures room { OnOk result (vec_len list.new + more ≤ vec_capacity list.new) }
+        ensures capacity { vec_capacity list.old ≤ vec_capacity list.new }
+        ensures full { OnErr result (vec_capacity list.old < vec_len list.old + more) }
+        ensures refused { OnErr result (refuses self.now (length list.old.items + more)) };
 
     /// Puts a value into a place of its own.
     fn boxed<T: Drop>(&self, value: T) -> Result<Box<T>, NoMemory>

@@ -34,7 +34,7 @@ impl SetMemory for System {
     ) -> Result<usize, NoMemory> {
         match set.insert_full(item) {
             Ok(placed) => Ok(placed.0),
-            Err(_) => Err(NoMemory),
+            Err(error) => Err(System::refused(error.into())),
         }
     }
 }

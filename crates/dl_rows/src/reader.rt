@@ -1,5 +1,6 @@
 //! The reader of a unit, from bytes that come in pieces. Section 6.2.
 
+ghost use Rattle.dl_memory.specs.Refusals.{SystemRefuses, WasRefused};
 ghost use Rattle.std.specs.Prelude.{◌≡◌, ◌≢◌, ◌≤◌, ◌+◌, ◌^◌, ◌-◌, ◌⊎◌, ℕ, List, [], true, Some, length, min, IfOk};
 ghost use Rattle.std.specs.Option.{option_copied};
 ghost use Rattle.dl_num.specs.Laws.{AllBytes};
@@ -129,6 +130,7 @@ impl Reader {
         ensures fed { (b : List ℕ) → StandsFor self.old b
             → ReaderFed self.old.dialect b piece.now result self.new }
         ensures dialect { self.new.dialect ≡ self.old.dialect }
+        ensures refused { IfOk result (λ fed. fed.event ≡ Event.NoMemory → WasRefused SystemRefuses) }
     {
         self.feed_rows(piece, &mut EachRow)
     }
@@ -144,6 +146,7 @@ impl Reader {
             → (S.story first).hears sink.old before
             → RowsFed (S.story first) self.old.dialect b piece.now before result self.new sink.new }
         ensures dialect { self.new.dialect ≡ self.old.dialect }
+        ensures refused { IfOk result (λ fed. fed.event ≡ Event.NoMemory → WasRefused SystemRefuses) }
     {
         match &mut self.state {
             State::InHeader(_) => self.feed_head(piece),
@@ -253,6 +256,7 @@ impl Reader {
         ensures no_row { IfOk result (λ fed. (r : Row) → fed.event ≢ Event.Row r) }
         ensures fed { (b : List ℕ) → StandsFor self.old b → ReaderFed self.old.dialect b piece.now result self.new }
         ensures dialect { self.new.dialect ≡ self.old.dialect }
+        ensures refused { IfOk result (λ fed. fed.event ≡ Event.NoMemory → WasRefused SystemRefuses) }
     {
         let State::InHeader(head) = &mut self.state else {
             unreachable!()

@@ -8,6 +8,7 @@ pub mod EntryData
 pub mod EntryHeld
 pub mod ValuesLeft
 pub mod Built
+pub mod Refused
 pub mod Sound
 pub mod FaultText
 pub mod Text

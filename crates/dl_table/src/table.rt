@@ -3,7 +3,9 @@
 ghost use Rattle.std.specs.Prelude.{◌≡◌, ◌+◌, ◌-◌, ◌*◌, ◌/◌, ◌^◌, ◌<◌, ◌≤◌, ◌↔◌, ◌∷◌, ◌++◌, [], IsTrue, IfOk, OnOk};
 ghost use Rattle.std.specs.Prelude.{OnErr, Err, length, take, drop, map, min, slice_get};
 ghost use Rattle.std.specs.Option.{option_map};
+ghost use Rattle.dl_memory.specs.Refusals.{IsRefused, SystemRefuses};
 ghost use Rattle.dl_table.specs.Built.{entry_fault, format_fault, Refuses};
+ghost use Rattle.dl_table.specs.Refused.{RefusesEntry};
 ghost use Rattle.std.specs.List.{sum_by};
 ghost use Rattle.dl_table.specs.Held.{cells_held, value_lent, values_end, IsWhole, table_of};
 ghost use Rattle.dl_table.specs.Sound.{AreContents, IsSoundTable};
@@ -19,9 +21,10 @@ mod writing;
 
 use crate::fault::BuildFault;
 use crate::form::{Form, Format};
+use dl_memory::{Memory, NoMemory, System};
 pub use entry::{Entry, Values};
 pub use held::{Extent, StoredValue, ValueRef, Word};
-use std::alloc::{AllocError, Global};
+use std::alloc::Global;
 use std::marker::Model;
 
 /// The greatest number of pairs of a format.
@@ -68,11 +71,26 @@ impl Model for Table {
 impl Table {
     ghost use Rattle.dl_table.specs.EntryHeld.{entry_items};
 
-    /// A table without entries. It is refused where there are more than 255 pairs, or where memory
-    /// is.
+    /// A table without entries, as `new_in` makes it, by the memory of the system.
     pub fn new(alloc: Global, format: Format, pairs: &[Pair]) -> Result<Table, BuildFault>
         ensures refused { Refuses (format_fault pairs.now) result }
         ensures memory { result ≡ Err BuildFault.NoMemory → 0 < length pairs.now }
+        ensures system { result ≡ Err BuildFault.NoMemory → IsRefused SystemRefuses (length pairs.now) }
+        ensures made { IfOk result
+            (λ t. t ≡ record { format = format; pairs = pairs.now; entries = [] }) }
+    {
+        Table::new_in(&System::new(alloc), format, pairs)
+    }
+
+    /// A table without entries. It is refused where there are more than 255 pairs, or where memory for the pairs is.
+    pub fn new_in<M: Memory>(
+        memory: &M,
+        format: Format,
+        pairs: &[Pair],
+    ) -> Result<Table, BuildFault>
+        ensures refused { Refuses (format_fault pairs.now) result }
+        ensures some { result ≡ Err BuildFault.NoMemory → 0 < length pairs.now }
+        ensures memory { result ≡ Err BuildFault.NoMemory → IsRefused (M.refuses memory.now) (length pairs.now) }
         ensures made { IfOk result
             (λ t. t ≡ record { format = format; pairs = pairs.now; entries = [] }) }
     {
@@ -80,22 +98,41 @@ impl Table {
             return Err(BuildFault::TooManyFormats);
         }
         if pairs.is_empty() {
-            return Ok(Table::without_pairs(alloc, format));
+            return Ok(Table::without_pairs(memory.alloc(), format));
         }
-        match copied(alloc, pairs) {
+        match copied(memory, pairs) {
             Ok(pairs) => Ok(Table {
                 format,
                 pairs,
-                values: Vec::new(alloc),
-                pool: Vec::new(alloc),
+                values: Vec::new(memory.alloc()),
+                pool: Vec::new(memory.alloc()),
             }),
-            Err(_) => Err(BuildFault::NoMemory),
+            Err(NoMemory) => Err(BuildFault::NoMemory),
         }
     }
 
-    /// Adds an entry at the end. Where it is refused, the table is unchanged.
+    /// Adds an entry at the end, as `push_entry_in` does, by the memory of the system.
     pub fn push_entry(&mut self, values: &[ValueRef<'_>]) -> Result<(), BuildFault>
         ensures refused { Refuses (entry_fault self.old (map value_lent values.now)) result }
+        ensures memory { result ≡ Err BuildFault.NoMemory → RefusesEntry SystemRefuses values.now }
+        ensures added { OnOk result (self.new ≡ record self.old {
+          entries = self.old.entries ++ map value_lent values.now ∷ [];
+        }) }
+        ensures unchanged { OnErr result (self.new ≡ self.old) }
+    {
+        let memory = System::of(&self.pool);
+        self.push_entry_in(&memory, values)
+    }
+
+    /// Adds an entry at the end. Where it is refused, the table is unchanged. It is refused where one of the values isn't one
+    /// of its pair's form, or where memory is.
+    pub fn push_entry_in<M: Memory>(
+        &mut self,
+        memory: &M,
+        values: &[ValueRef<'_>],
+    ) -> Result<(), BuildFault>
+        ensures refused { Refuses (entry_fault self.old (map value_lent values.now)) result }
+        ensures memory { result ≡ Err BuildFault.NoMemory → RefusesEntry (M.refuses memory.now) values.now }
         ensures added { OnOk result (self.new ≡ record self.old {
           entries = self.old.entries ++ map value_lent values.now ∷ [];
         }) }
@@ -110,7 +147,9 @@ impl Table {
         let Some(pooled) = building::pooled_len(values) else {
             return Err(BuildFault::NoMemory);
         };
-        if self.values.reserve(values.len()).is_err() || self.pool.reserve(pooled).is_err() {
+        if memory.reserve(&mut self.values, values.len()).is_err()
+            || memory.reserve(&mut self.pool, pooled).is_err()
+        {
             return Err(BuildFault::NoMemory);
         }
         building::hold_all(&mut self.values, &mut self.pool, values);
@@ -202,13 +241,14 @@ impl Table {
 }
 
 /// The pairs, copied.
-fn copied(alloc: Global, pairs: &[Pair]) -> Result<Vec<Pair>, AllocError>
+fn copied<M: Memory>(memory: &M, pairs: &[Pair]) -> Result<Vec<Pair>, NoMemory>
     ensures same { IfOk result (λ copy. copy.items ≡ pairs.now) }
     ensures contents { OnOk result (AreContents pairs.now) }
+    ensures refused { OnErr result (IsRefused (M.refuses memory.now) (length pairs.now)) }
 {
-    let mut copy = Vec::with_capacity(alloc, pairs.len())?;
+    let mut copy = memory.with_capacity(pairs.len())?;
     for pair in pairs {
-        copy.push(Pair::new(pair.content, pair.form))?;
+        memory.push(&mut copy, Pair::new(pair.content, pair.form))?;
     }
     Ok(copy)
 }

@@ -1,5 +1,6 @@
 //! The fields of one byte of a header, and the lengths of its standard opcodes. Section 6.2.4.
 
+ghost use Rattle.dl_memory.specs.Refusals.{SystemRefuses, WasRefused};
 ghost use Rattle.std.specs.Prelude.{◌≡◌, ◌+◌, ◌≤◌, ◌++◌, ◌∷◌, [], ℕ, nat_lt, if◌then◌else◌, List, true, None, length};
 ghost use Rattle.dl_field.specs.Layout.{Item, number_is, objection, opcode_length};
 ghost use Rattle.dl_head.specs.HeaderLayout.{signed_byte};
@@ -15,6 +16,7 @@ use dl_num::PartialNumber;
 use dl_table::FaultKind;
 
 impl HeadReader {
+    ghost use Rattle.dl_field.specs.declared.field_step.FieldStep.TheVariants as byte_makes;
     ghost use Rattle.dl_head.specs.Place.{At, Follows, Keeps, SameCounts, held_cells};
 
     pub(super) fn byte_field(&mut self, field: ByteField, byte: u8) -> FieldStep
@@ -22,6 +24,7 @@ impl HeadReader {
         ensures follows { Follows self.old byte result self.new }
         ensures kept { Keeps self.old result self.new }
         ensures cells { held_cells self.new ≡ held_cells self.old }
+        ensures refused { result ≡ byte_makes.NoMemory → WasRefused SystemRefuses }
     {
         if let Some(kind) = field.objection(byte) {
             return FieldStep::Refuses(kind);
@@ -82,6 +85,7 @@ impl HeadReader {
         ensures follows { Follows self.old byte result self.new }
         ensures kept { Keeps self.old result self.new }
         ensures cells { held_cells self.new ≡ held_cells self.old }
+        ensures refused { result ≡ byte_makes.NoMemory → WasRefused SystemRefuses }
     {
         let opcode_base = self.params.opcode_base;
         let opcode = self.params.lengths.len() + 1;

@@ -1,5 +1,6 @@
 //! The lengths and the version of a unit: its fields up to header_length. Sections 6.2.4 and 7.4.
 
+ghost use Rattle.dl_memory.specs.Refusals.{SystemRefuses, WasRefused};
 ghost use Rattle.std.specs.Prelude.{◌≡◌, ◌+◌, ◌≤◌, ◌∷◌, [], true};
 ghost use Rattle.dl_head.specs.Built.{are_operations};
 ghost use Rattle.dl_num.specs.Fixed.{fixed};
@@ -16,6 +17,7 @@ use dl_table::{FaultKind, Format};
 const UNIT_LENGTH_LIMIT: u64 = 1 << 40;
 
 impl HeadReader {
+    ghost use Rattle.dl_field.specs.declared.field_step.FieldStep.TheVariants as byte_makes;
     ghost use Rattle.dl_head.specs.declared.reader.Phase.TheVariants as phase;
     ghost use Rattle.dl_field.specs.TablePlace.{IsFresh};
     ghost use Rattle.dl_head.specs.TableSpelt.{TableReads};
@@ -26,6 +28,7 @@ impl HeadReader {
         ensures follows { Follows self.old byte result self.new }
         ensures kept { Keeps self.old result self.new }
         ensures cells { held_cells self.new ≡ held_cells self.old }
+        ensures refused { result ≡ byte_makes.NoMemory → WasRefused SystemRefuses }
     {
         match number.push(self.dialect.order, byte) {
             Err(number) => {
@@ -46,6 +49,7 @@ impl HeadReader {
         ensures follows { Follows self.old byte result self.new }
         ensures kept { Keeps self.old result self.new }
         ensures cells { held_cells self.new ≡ held_cells self.old }
+        ensures refused { result ≡ byte_makes.NoMemory → WasRefused SystemRefuses }
     {
         match number.push(self.dialect.order, byte) {
             Err(number) => {
@@ -65,6 +69,7 @@ impl HeadReader {
         ensures follows { Starts self.old format length result self.new }
         ensures kept { Keeps self.old result self.new }
         ensures cells { held_cells self.new ≡ held_cells self.old }
+        ensures refused { result ≡ byte_makes.NoMemory → WasRefused SystemRefuses }
     {
         if length > UNIT_LENGTH_LIMIT {
             return FieldStep::Refuses(FaultKind::UnitTooLong);
@@ -81,6 +86,7 @@ impl HeadReader {
         ensures follows { Follows self.old byte result self.new }
         ensures kept { Keeps self.old result self.new }
         ensures cells { held_cells self.new ≡ held_cells self.old }
+        ensures refused { result ≡ byte_makes.NoMemory → WasRefused SystemRefuses }
     {
         self.phase = Phase::VersionEnd(byte);
         FieldStep::Within
@@ -91,6 +97,7 @@ impl HeadReader {
         ensures follows { Follows self.old byte result self.new }
         ensures kept { Keeps self.old result self.new }
         ensures cells { held_cells self.new ≡ held_cells self.old }
+        ensures refused { result ≡ byte_makes.NoMemory → WasRefused SystemRefuses }
     {
         let version = version_of(self.dialect.order, first, byte);
         if version == 5 {
@@ -111,6 +118,7 @@ impl HeadReader {
         ensures follows { Follows self.old byte result self.new }
         ensures kept { Keeps self.old result self.new }
         ensures cells { held_cells self.new ≡ held_cells self.old }
+        ensures refused { result ≡ byte_makes.NoMemory → WasRefused SystemRefuses }
     {
         match number.push(self.dialect.order, byte) {
             Err(number) => {
@@ -130,6 +138,7 @@ impl HeadReader {
         ensures follows { StartsHeader self.old length result self.new }
         ensures kept { Keeps self.old result self.new }
         ensures cells { held_cells self.new ≡ held_cells self.old }
+        ensures refused { result ≡ byte_makes.NoMemory → WasRefused SystemRefuses }
     {
         let format = self.params.format;
         let fixed = fixed_part(format, self.params.version);

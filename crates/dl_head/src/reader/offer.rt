@@ -1,5 +1,6 @@
 //! The bytes of a header at once, where memory may be refused and asked for again.
 
+ghost use Rattle.dl_memory.specs.Refusals.{SystemRefuses, WasRefused};
 ghost use Rattle.std.specs.Prelude.{◌≡◌, ◌≢◌, ◌+◌, ◌^◌, ◌<◌, ◌≤◌, ℕ, List, length, take};
 
 use crate::reader::{HeadReader, HeadStep};
@@ -23,6 +24,7 @@ impl HeadReader {
         ensures progress { (b : List ℕ) → StandsFor self.old b → Answers self.old.dialect b answer.More
             → result.1 ≢ answer.More → result.1 ≢ answer.NoMemory → 1 ≤ result.0 }
         ensures dialect { self.new.dialect ≡ self.old.dialect }
+        ensures refused { result.1 ≡ answer.NoMemory → WasRefused SystemRefuses }
     {
         match self.ended() {
             Some(last) => (0, last),
@@ -37,6 +39,7 @@ impl HeadReader {
         ensures within { result.0 ≤ length piece.now }
         ensures progress { result.1 ≢ answer.More → result.1 ≢ answer.NoMemory → 1 ≤ result.0 }
         ensures dialect { self.new.dialect ≡ self.old.dialect }
+        ensures refused { result.1 ≡ answer.NoMemory → WasRefused SystemRefuses }
     {
         let mut used = 0;
         while used < piece.len() {

@@ -1,5 +1,6 @@
 //! The tables of a header: those of version 5, section 6.2.4.1, and those of versions 2 to 4.
 
+ghost use Rattle.dl_memory.specs.Refusals.{SystemRefuses, WasRefused};
 ghost use Rattle.std.specs.Prelude.{◌≡◌, ◌≤◌, length, take};
 ghost use Rattle.dl_head.specs.declared.reader.Phase.TheVariants as phase;
 
@@ -7,6 +8,7 @@ use crate::reader::{HeadReader, Phase};
 use dl_field::FieldStep;
 
 impl HeadReader {
+    ghost use Rattle.dl_field.specs.declared.field_step.FieldStep.TheVariants as byte_makes;
     ghost use Rattle.dl_head.specs.Place.{SameCounts};
     ghost use Rattle.dl_head.specs.Whole.{Pushed, TakesValues};
 
@@ -31,7 +33,8 @@ impl HeadReader {
     pub(super) fn directories(&mut self, bytes: &[u8]) -> (usize, FieldStep)
         requires phase { self.old.phase ≡ phase.Directories }
         requires some { 1 ≤ length bytes.now }
-        ensures { Pushed self.old bytes.now result.0 result.1 self.new }
+        ensures pushed { Pushed self.old bytes.now result.0 result.1 self.new }
+        ensures refused { result.1 ≡ byte_makes.NoMemory → WasRefused SystemRefuses }
     {
         let format = self.params.format;
         let next = self.table.push_front(self.dialect.order, format, bytes);
@@ -45,7 +48,8 @@ impl HeadReader {
     pub(super) fn files(&mut self, bytes: &[u8]) -> (usize, FieldStep)
         requires phase { self.old.phase ≡ phase.Files }
         requires some { 1 ≤ length bytes.now }
-        ensures { Pushed self.old bytes.now result.0 result.1 self.new }
+        ensures pushed { Pushed self.old bytes.now result.0 result.1 self.new }
+        ensures refused { result.1 ≡ byte_makes.NoMemory → WasRefused SystemRefuses }
     {
         let format = self.params.format;
         let next = self.table.push_front(self.dialect.order, format, bytes);
@@ -59,7 +63,8 @@ impl HeadReader {
     pub(super) fn older_directories(&mut self, bytes: &[u8]) -> (usize, FieldStep)
         requires phase { self.old.phase ≡ phase.OlderDirectories }
         requires some { 1 ≤ length bytes.now }
-        ensures { Pushed self.old bytes.now result.0 result.1 self.new }
+        ensures pushed { Pushed self.old bytes.now result.0 result.1 self.new }
+        ensures refused { result.1 ≡ byte_makes.NoMemory → WasRefused SystemRefuses }
     {
         let next = self.list.push_front(bytes);
         if let Some(table) = self.list.take(self.alloc, self.params.format) {
@@ -72,7 +77,8 @@ impl HeadReader {
     pub(super) fn older_files(&mut self, bytes: &[u8]) -> (usize, FieldStep)
         requires phase { self.old.phase ≡ phase.OlderFiles }
         requires some { 1 ≤ length bytes.now }
-        ensures { Pushed self.old bytes.now result.0 result.1 self.new }
+        ensures pushed { Pushed self.old bytes.now result.0 result.1 self.new }
+        ensures refused { result.1 ≡ byte_makes.NoMemory → WasRefused SystemRefuses }
     {
         let next = self.list.push_front(bytes);
         if let Some(table) = self.list.take(self.alloc, self.params.format) {

@@ -5,7 +5,7 @@ use Rattle.dl_table.specs.declared.table.held.StoredValue.TheVariants as held
 use Rattle.dl_field.specs.Layout.{value_judged}
 use Rattle.dl_field.proofs.ListLemmas.{list_at, path_field, path_open, path_text, path_grown, path_made, path_adds}
 use Rattle.dl_field.proofs.ValueFields.{no_zero-push, text_held}
-use Rattle.dl_field.proofs.ValueLemmas.{pushed}
+use Rattle.dl_field.proofs.ValueLemmas.{granted}
 use Rattle.dl_field.proofs.list_reader.ListReader.path.Goals as goal
 
 pub returns-then-byte-ne0-clause-made : goal.returns-then-byte-ne0-clause-made
@@ -15,7 +15,7 @@ returns-then-byte-ne0-clause-made c = λ going order format next layout rest at.
     let more = no_zero-push rest c.args.byte a.no_zero c.if-byte-ne0.true in (
       path_field order c.args.self.now c.args.start format next layout rest w a ∙ path_open _ w more,
       path_grown c.args.self.now _ c.args.start c.args.byte format next layout rest a refl refl refl
-          (c.push.ensures.items ∙ pushed _ _ c.push.result (sym c.is_err.ensures.value ∙ c.if-is_err.false)) more
+          (granted c.push.result c.push.ensures.items (sym c.is_err.ensures.value ∙ c.if-is_err.false)) more
           c.requires,
     )
 

@@ -3,8 +3,8 @@ use Rattle.dl_field.proofs.PairLemmas.{table_at}
 use Rattle.dl_field.proofs.ByteCells.{adds_number, adds_form}
 use Rattle.dl_field.proofs.table_reader.TableReader.push.Goals as goal
 
-pub returns-in-PairCount : goal.returns-in-PairCount
-returns-in-PairCount c = record {
+pub returns-in-PairCount-clause-follows : goal.returns-in-PairCount-clause-follows
+returns-in-PairCount-clause-follows c = record {
   made = λ going next layout rest at. c.pair_count.ensures.made c.args.order c.args.format next layout rest at;
   cells = λ going next layout rest at.
       let a = table_at c.args.order c.args.self.now _ c.args.format next layout rest c.in-PairCount.is at in
@@ -12,8 +12,8 @@ returns-in-PairCount c = record {
       c.pair_count.result a.1 c.pair_count.ensures.cells;
 }
 
-pub returns-in-ContentCode : goal.returns-in-ContentCode
-returns-in-ContentCode c = record {
+pub returns-in-ContentCode-clause-follows : goal.returns-in-ContentCode-clause-follows
+returns-in-ContentCode-clause-follows c = record {
   made = λ going next layout rest at. c.content_code.ensures.made c.args.order c.args.format next layout rest at;
   cells = λ going next layout rest at.
       let a = table_at c.args.order c.args.self.now _ c.args.format next layout rest c.in-ContentCode.is at in
@@ -21,8 +21,8 @@ returns-in-ContentCode c = record {
       c.content_code.result a.1 c.content_code.ensures.cells;
 }
 
-pub returns-in-FormCode : goal.returns-in-FormCode
-returns-in-FormCode c = record {
+pub returns-in-FormCode-clause-follows : goal.returns-in-FormCode-clause-follows
+returns-in-FormCode-clause-follows c = record {
   made = λ going next layout rest at. c.form_code.ensures.made c.args.order c.args.format next layout rest at;
   cells = λ going next layout rest at.
       let a = table_at c.args.order c.args.self.now _ c.args.format next layout rest c.in-FormCode.is at in
@@ -31,8 +31,8 @@ returns-in-FormCode c = record {
       (c.form_code.ensures.made c.args.order c.args.format next layout rest at) c.form_code.ensures.cells;
 }
 
-pub returns-in-EntryCount : goal.returns-in-EntryCount
-returns-in-EntryCount c = record {
+pub returns-in-EntryCount-clause-follows : goal.returns-in-EntryCount-clause-follows
+returns-in-EntryCount-clause-follows c = record {
   made = λ going next layout rest at. c.entry_count.ensures.made c.args.order next layout rest at;
   cells = λ going next layout rest at.
       let a = table_at c.args.order c.args.self.now _ c.args.format next layout rest c.in-EntryCount.is at in

@@ -12,4 +12,4 @@ returns-in-None-clause-follows c =
     follows_same c.args.order c.args.format old c.value_front.new.self c.push.new.self (take 1 bytes) c.push.result
     c.in-None.ensures
     (subst (λ (l : List ℕ). BytesFollow c.args.order c.args.format c.value_front.new.self l c.push.result
-    c.push.new.self) (sym first) c.push.ensures)
+    c.push.new.self) (sym first) c.push.ensures.follows)

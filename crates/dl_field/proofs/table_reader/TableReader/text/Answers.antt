@@ -4,7 +4,7 @@ use Rattle.dl_field.specs.declared.value_phase.ValuePhase.TheVariants as value
 use Rattle.dl_field.specs.Layout.{value_judged}
 use Rattle.dl_field.proofs.PairLemmas.{table_at}
 use Rattle.dl_field.proofs.ValueFields.{value_field, value_made, text_goes_on, text_form, no_zero-push, text_held}
-use Rattle.dl_field.proofs.ValueLemmas.{text_grown, pushed}
+use Rattle.dl_field.proofs.ValueLemmas.{text_grown, granted}
 use Rattle.dl_field.proofs.table_reader.TableReader.text.Goals as goal
 
 pub returns-then-byte-eq0-clause-made : goal.returns-then-byte-eq0-clause-made
@@ -28,5 +28,5 @@ returns-clause-made c = λ order next layout rest at.
           ∙ ap value_judged (text_form order c.args.format a.pair.form w _ a.value.0 (text_goes_on w more)),
       text_grown order c.args.self.now _ c.args.at c.args.start (c.args.byte ∷ []) c.args.format next layout rest a
           c.requires refl refl
-          (c.push.ensures.items ∙ pushed _ _ c.push.result (sym c.is_err.ensures.value ∙ c.if-is_err.false)) more,
+          (granted c.push.result c.push.ensures.items (sym c.is_err.ensures.value ∙ c.if-is_err.false)) more,
     )

@@ -12,8 +12,8 @@ use Rattle.dl_head.proofs.HeadTables.{table_goes_on, table_ends, fresh_cells, no
 use Rattle.dl_head.proofs.TableSpellings.{makes_table_pushed, reads_on, fresh_reads, stands_at, front_is_read}
 use Rattle.dl_head.proofs.reader.HeadReader.directories.Goals as goal
 
-pub returns-in-Some : goal.returns-in-Some
-returns-in-Some c =
+pub returns-in-Some-clause-pushed : goal.returns-in-Some-clause-pushed
+returns-in-Some-clause-pushed c =
     let old = c.args.self.now in
     let p = c.push_front-next.ensures in
     let next = from_files old.params in
@@ -31,8 +31,8 @@ returns-in-Some c =
           taken.1 refl;
     })
 
-pub returns-in_default : goal.returns-in_default
-returns-in_default c =
+pub returns-in_default-clause-pushed : goal.returns-in_default-clause-pushed
+returns-in_default-clause-pushed c =
     let old = c.args.self.now in
     let p = c.push_front-next.ensures in
     let none = c.in_default.ensures in

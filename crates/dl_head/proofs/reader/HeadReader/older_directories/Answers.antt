@@ -14,8 +14,8 @@ use Rattle.dl_head.proofs.TableSpellings.{front_is_read, stands_at}
 use Rattle.dl_head.proofs.ListSpellings.{makes_list_pushed, list_reads_on, fresh_list_reads}
 use Rattle.dl_head.proofs.reader.HeadReader.older_directories.Goals as goal
 
-pub returns-in-Some : goal.returns-in-Some
-returns-in-Some c =
+pub returns-in-Some-clause-pushed : goal.returns-in-Some-clause-pushed
+returns-in-Some-clause-pushed c =
     let old = c.args.self.now in
     let p = c.push_front-next.ensures in
     let next = from_older_files old.params in
@@ -37,8 +37,8 @@ returns-in-Some c =
       );
     })
 
-pub returns-in_default : goal.returns-in_default
-returns-in_default c =
+pub returns-in_default-clause-pushed : goal.returns-in_default-clause-pushed
+returns-in_default-clause-pushed c =
     let old = c.args.self.now in
     let p = c.push_front-next.ensures in
     let none = c.in_default.ensures in

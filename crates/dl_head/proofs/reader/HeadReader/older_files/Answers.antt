@@ -13,8 +13,8 @@ use Rattle.dl_head.proofs.TableSpellings.{front_is_read, stands_at}
 use Rattle.dl_head.proofs.ListSpellings.{makes_list_pushed, list_reads_on, fresh_list_reads}
 use Rattle.dl_head.proofs.reader.HeadReader.older_files.Goals as goal
 
-pub returns-in-Some : goal.returns-in-Some
-returns-in-Some c =
+pub returns-in-Some-clause-pushed : goal.returns-in-Some-clause-pushed
+returns-in-Some-clause-pushed c =
     let old = c.args.self.now in
     let p = c.push_front-next.ensures in
     let next = from_end old.params old.directories in
@@ -28,8 +28,8 @@ returns-in-Some c =
     (λ kept. omega (arith, kept, fresh_list_cells c.take.new.self taken.1))
     (λ is fresh past. past)
 
-pub returns-in_default : goal.returns-in_default
-returns-in_default c =
+pub returns-in_default-clause-pushed : goal.returns-in_default-clause-pushed
+returns-in_default-clause-pushed c =
     let old = c.args.self.now in
     let p = c.push_front-next.ensures in
     let none = c.in_default.ensures in

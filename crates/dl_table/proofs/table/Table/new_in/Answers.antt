@@ -3,10 +3,10 @@ use Rattle.dl_table.specs.Sound.{AreContents}
 use Rattle.dl_table.specs.declared.table.held.StoredValue.{StoredValue}
 use Rattle.dl_table.specs.Held.{values_end, IsWhole}
 use Rattle.dl_table.proofs.SoundLemmas.{sound_empty}
-use Rattle.dl_table.proofs.table.Table.new.Goals as goal
+use Rattle.dl_table.proofs.table.Table.new_in.Goals as goal
 
 pub invariant_of-result : goal.invariant_of-result
-invariant_of-result c =
+invariant_of-result g c =
     let same = c.in-Ok.ensures.same in
     let none = c.new.ensures.items in
     record {

@@ -6,12 +6,12 @@ use Rattle.dl_table.specs.Held.{value_lent, table_of}
 use Rattle.dl_table.proofs.BuildLemmas.{values_counted, nothing_wrong}
 use Rattle.dl_table.proofs.RowLemmas.{whole-push, table_of-push}
 use Rattle.dl_table.proofs.SoundLemmas.{sound_push}
-use Rattle.dl_table.proofs.table.Table.push_entry.Goals as goal
-use Rattle.dl_table.proofs.table.Table.push_entry.Goals.{then-is_err-via-then-is_err}
-use Rattle.dl_table.proofs.table.Table.push_entry.Goals.{then-is_err-via-else-is_err+then-is_err-2}
+use Rattle.dl_table.proofs.table.Table.push_entry_in.Goals as goal
+use Rattle.dl_table.proofs.table.Table.push_entry_in.Goals.{then-is_err-via-then-is_err}
+use Rattle.dl_table.proofs.table.Table.push_entry_in.Goals.{then-is_err-via-else-is_err+then-is_err-2}
 
 pub invariant_of-self-2 : goal.invariant_of-self-2
-invariant_of-self-2 c =
+invariant_of-self-2 g c =
     let t = c.self.inside in
     let new = map value_lent c.args.values.now in
     let each = values_counted t.format t.pairs.items _ new _ c.as_slice.ensures.value c.wrong_value.ensures
@@ -32,7 +32,7 @@ invariant_of-self-2 c =
     }
 
 pub returns-clause-added : goal.returns-clause-added
-returns-clause-added c =
+returns-clause-added g c =
     let t = c.self.inside in
     let new = map value_lent c.args.values.now in
     let each = values_counted t.format t.pairs.items _ new _ c.as_slice.ensures.value c.wrong_value.ensures
@@ -45,13 +45,13 @@ returns-clause-added c =
     ∙ ap (λ (d : TableData). record d { entries = d.entries ++ new ∷ [] }) c.self.view_is
 
 pub returns-then-is_err-clause-unchanged : goal.returns-then-is_err-clause-unchanged
-returns-then-is_err-clause-unchanged c = elim c.then-is_err.branch [
+returns-then-is_err-clause-unchanged g c = elim c.then-is_err.branch [
   | then-is_err-via-then-is_err w ↦ w.self-is ∙ ap
       (λ (v : List StoredValue). table_of c.self.inside.format c.self.inside.pairs.items v c.self.inside.pool.items)
       c.reserve.ensures.items ∙ c.self.view_is
   | then-is_err-via-else-is_err+then-is_err-2 w ↦
       w.self-is ∙ ap (λ (v : List StoredValue). table_of c.self.inside.format c.self.inside.pairs.items v
-      w.reserve-else-is_err.new.self.items) c.reserve.ensures.items
+      w.reserve-else-is_err.new.list.items) c.reserve.ensures.items
       ∙ ap (λ (pool : List ℕ). table_of c.self.inside.format c.self.inside.pairs.items c.self.inside.values.items pool)
       w.reserve-else-is_err.ensures.items ∙ c.self.view_is
 ]
