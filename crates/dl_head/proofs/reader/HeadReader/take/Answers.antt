@@ -60,6 +60,7 @@ returns-in_default c =
       within = omega (arith, a.ensures.within, ap length rest, length-drop used c.args.piece.now, i.within);
       progress = λ goes fed. omega (arith, a.ensures.some fed);
       dialect = a.ensures.dialect ∙ dialect;
+      refused = a.ensures.refused;
     }
 
 pub returns-clause-offered : goal.returns-clause-offered
