@@ -25,7 +25,7 @@ use Rattle.dl_run.specs.declared.in_memory.SectionStop.{SectionStop}
 use Rattle.dl_run.specs.declared.in_memory.SectionStop.TheVariants as stop
 use Rattle.dl_run.specs.declared.in_memory.WholeUnit.{WholeUnit}
 use Rattle.dl_run.specs.InMemory.{ReadsSection, UnitTold, as_fault, read_of, unit_told, units_told}
-use Rattle.dl_run.specs.Section.{AddsCell, EndsAs, HasUnits}
+use Rattle.dl_run.specs.Section.{RefusesCell, EndsAs, HasUnits}
 use Rattle.dl_run.proofs.SectionLemmas.{few_rows}
 use Rattle.dl_calls.specs.declared.listing.RowRoom.{RowRoom}
 use Rattle.dl_calls.specs.declared.record.RowRecord.{RowRecord}
@@ -124,7 +124,7 @@ module _ (dialect : Dialect) (t s : List ℕ) (offset : ℕ) (rest : t ≡ drop 
 -- ---- rows
 
 -- before a byte that adds a cell the header isn't whole
-no_rows_yet : (dialect : Dialect) (b back : List ℕ) → AddsCell dialect b back → unit_rows dialect b ≡ []
+no_rows_yet : (dialect : Dialect) (b back : List ℕ) → RefusesCell dialect b back → unit_rows dialect b ≡ []
 no_rows_yet dialect b back (byte, others, is, more) = by (header_in dialect b) refl where
   by : (o : Option (HeaderData × List ℕ)) → header_in dialect b ≡ o → unit_rows dialect b ≡ []
   by None none = no_rows dialect b none

@@ -23,7 +23,7 @@ use Rattle.dl_object.specs.Section.{NoneFollows}
 use Rattle.dl_object.proofs.HeadLemmas.{none_after_refused, none_more}
 use Rattle.dl_forms.specs.declared.state.State.{State}
 use Rattle.dl_forms.specs.declared.state.State.TheVariants as state
-use Rattle.dl_forms.specs.Names.{AddsCellFrom, Names, named_in}
+use Rattle.dl_forms.specs.Names.{RefusesCellFrom, Names, named_in}
 use Rattle.dl_forms.specs.Standing.{Begins, IsHead, Onward, StandsAt}
 use Rattle.dl_forms.proofs.NamesLemmas.{Kind, named_here, none_named, past_head}
 
@@ -123,7 +123,7 @@ module _ (dialect : Dialect) (u piece : List ℕ) (goes : IsOpen dialect u) (use
 
   -- memory is refused
   pub adds_cell : step ≡ answer.NoMemory → (before b : List ℕ) → b ≡ before ++ u
-      → AddsCellFrom dialect (length b) (b ++ piece)
+      → RefusesCellFrom dialect (length b) (b ++ piece)
   adds_cell e before b split =
       let cell = took.unfed e in
       let n = ap length split ∙ length-append before u in
@@ -300,7 +300,7 @@ module _ (reader new : HeadReader) (b u piece : List ℕ) (used : ℕ) (step : H
         (at taken head is_head (subst (λ (d : Dialect). Onward d taken head) (sym same) later))
 
   -- memory is refused
-  pub wants_cell : step ≡ answer.NoMemory → AddsCellFrom reader.dialect (length b) (b ++ piece)
+  pub wants_cell : step ≡ answer.NoMemory → RefusesCellFrom reader.dialect (length b) (b ++ piece)
   wants_cell refused =
       adds_cell reader.dialect u piece begins.goes used step took refused onward.before b onward.split
 
@@ -327,8 +327,8 @@ further_within piece at used le within =
     omega (arith, n, m, le, within)
 
 pub wants_further : (dialect : Dialect) (b piece : List ℕ) (at : ℕ)
-    → AddsCellFrom dialect (length (b ++ take at piece))
-    ((b ++ take at piece) ++ take (length piece - at) (drop at piece)) → AddsCellFrom dialect (length b) (b ++ piece)
+    → RefusesCellFrom dialect (length (b ++ take at piece))
+    ((b ++ take at piece) ++ take (length piece - at) (drop at piece)) → RefusesCellFrom dialect (length b) (b ++ piece)
 wants_further dialect b piece at (before, front, byte, back, split, past, adds) =
     let n = length-append b (take at piece) in (
       before,

@@ -8,7 +8,7 @@ use Rattle.dl_table.specs.declared.form.Form.TheVariants as form
 use Rattle.dl_table.specs.declared.table.Pair.{Pair}
 use Rattle.dl_field.specs.HeaderData.{HeaderData}
 use Rattle.dl_head.specs.Header.{IsHeader, unit_len}
-use Rattle.dl_head.specs.Reading.{AddsCell}
+use Rattle.dl_head.specs.Reading.{RefusesCell}
 use Rattle.dl_object.specs.Section.{IsUnread}
 
 abbrev pub is_strp : Form → Bool
@@ -41,7 +41,7 @@ pub data Names (dialect : Dialect) : List ℕ → Type 0 where
       → unit_len dialect head ≡ Some len → length head ≤ len → Names dialect (drop len b) → Names dialect b
 
 -- with a byte after the first n of b the header of a unit in b holds a cell more, for which memory may be refused
-abbrev pub AddsCellFrom : Dialect → (n : ℕ) (b : List ℕ) → Type 0
-AddsCellFrom dialect n b =
+abbrev pub RefusesCellFrom : Dialect → (n : ℕ) (b : List ℕ) → Type 0
+RefusesCellFrom dialect n b =
     (before : List ℕ) × (front : List ℕ) × (byte : ℕ) × (back : List ℕ) × (b ≡ before ++ (front ++ byte ∷ back))
-    × (n ≤ length before + length front) × AddsCell dialect front byte
+    × (n ≤ length before + length front) × RefusesCell dialect front byte

@@ -3,7 +3,7 @@
 ghost use Rattle.std.specs.Prelude.{◌≡◌, ◌≤◌, ◌++◌, ℕ, List, length, take, IfOk, IfErr};
 ghost use Rattle.std.specs.Option.{option_copied};
 ghost use Rattle.dl_forms.specs.declared.state.State.TheVariants as state;
-ghost use Rattle.dl_forms.specs.Names.{AddsCellFrom, has_strp, is_strp, named_in};
+ghost use Rattle.dl_forms.specs.Names.{RefusesCellFrom, has_strp, is_strp, named_in};
 ghost use Rattle.dl_forms.specs.Standing.{Begins, IsHead, Onward, StandsAt};
 
 use dl_head::{Dialect, Form, HeadReader, HeadStep, Header, Pair};
@@ -69,7 +69,7 @@ fn read_head(reader: HeadReader, piece: &[u8]) -> Result<(State, usize), NoMemor
     ensures stands { (b u : List ℕ) → Begins reader u → Onward reader.dialect b u
         → IfOk result (λ r. (1 ≤ r.1) × StandsAt reader.dialect r.0 (b ++ take r.1 piece.now)) }
     ensures memory { (b u : List ℕ) → Begins reader u → Onward reader.dialect b u
-        → IfErr result (λ error. AddsCellFrom reader.dialect (length b) (b ++ piece.now)) }
+        → IfErr result (λ error. RefusesCellFrom reader.dialect (length b) (b ++ piece.now)) }
 {
     let mut reader = reader;
     let (used, step) = reader.offer(piece);
@@ -94,7 +94,7 @@ pub fn advance(
     ensures stands { (b : List ℕ) → StandsAt dialect state b
         → IfOk result (λ r. (1 ≤ r.1) × StandsAt dialect r.0 (b ++ take r.1 piece.now)) }
     ensures memory { (b : List ℕ) → StandsAt dialect state b
-        → IfErr result (λ error. AddsCellFrom dialect (length b) (b ++ piece.now)) }
+        → IfErr result (λ error. RefusesCellFrom dialect (length b) (b ++ piece.now)) }
 {
     match state {
         State::Head(reader) => read_head(reader, piece),
@@ -116,7 +116,7 @@ fn after_body(
     ensures stands { (b : List ℕ) → StandsAt dialect (state.Body left) b
         → IfOk result (λ r. (1 ≤ r.1) × StandsAt dialect r.0 (b ++ take r.1 piece.now)) }
     ensures memory { (b : List ℕ) → StandsAt dialect (state.Body left) b
-        → IfErr result (λ error. AddsCellFrom dialect (length b) (b ++ piece.now)) }
+        → IfErr result (λ error. RefusesCellFrom dialect (length b) (b ++ piece.now)) }
 {
     if left >= piece.len() as u64 {
         return Ok((State::Body(left - piece.len() as u64), piece.len()));

@@ -1,7 +1,7 @@
 //! A walk over the units of a section, whose bytes come in pieces. Section 6.2.4.
 
 ghost use Rattle.std.specs.Prelude.{◌≡◌, ◌↔◌, ◌++◌, ℕ, List, [], length, IfOk, IfErr, IsTrue};
-ghost use Rattle.dl_forms.specs.Names.{AddsCellFrom, Names};
+ghost use Rattle.dl_forms.specs.Names.{RefusesCellFrom, Names};
 ghost use Rattle.dl_forms.specs.Standing.{StandsFor};
 
 use crate::state::{State, advance};
@@ -40,7 +40,7 @@ impl StringWalk {
         ensures stands { (b : List ℕ) → StandsFor self b → IfOk result (λ walk. StandsFor walk (b ++ piece.now)) }
         ensures dialect { IfOk result (λ walk. walk.dialect ≡ self.dialect) }
         ensures memory { (b : List ℕ) → StandsFor self b
-            → IfErr result (λ error. AddsCellFrom self.dialect (length b) (b ++ piece.now)) }
+            → IfErr result (λ error. RefusesCellFrom self.dialect (length b) (b ++ piece.now)) }
     {
         let StringWalk {
             alloc,

@@ -4,6 +4,7 @@ use Rattle.std.proofs.Common.{slice_index_or, Option, Some, None, refl, sym, ap,
 use Rattle.std.proofs.Common.{length-drop, length-take}
 use Rattle.std.proofs.lemmas.Bool.{leb-true}
 use Rattle.std.proofs.lemmas.List.{length-take-le, take-take, take_more, drop_more}
+use Rattle.dl_memory.specs.Refusals.{SystemRefuses, WasRefused}
 use Rattle.dl_head.specs.declared.dialect.Dialect.{Dialect}
 use Rattle.dl_table.specs.declared.fault.FaultKind.{FaultKind}
 use Rattle.dl_field.specs.declared.field_step.FieldStep.{FieldStep}
@@ -147,9 +148,10 @@ module _ {r new : HeadReader} {b piece bytes : List ℕ} {n : ℕ} {result : Fie
       (by_dialect last follows.counts.dialect (settled last whole.moved s))
       (λ j lt. rw (take-take j n piece (omega (arith, lt))) at (whole.more j (omega (arith, lt, size))))
 
-  pub unfed_advances : result ≡ byte_makes.NoMemory → Advances r.dialect b piece 0 answer.NoMemory new
-  unfed_advances is =
-      let u = unfed_step r new b byte goes stands live (one_follows byte_makes.NoMemory is (λ e. cc)) in
+  pub unfed_advances : result ≡ byte_makes.NoMemory → WasRefused SystemRefuses
+      → Advances r.dialect b piece 0 answer.NoMemory new
+  unfed_advances is refused =
+      let u = unfed_step r new b byte goes stands live (one_follows byte_makes.NoMemory is (λ e. cc)) refused in
       record {
         took = record {
           within = omega arith;

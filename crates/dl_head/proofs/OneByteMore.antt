@@ -1,6 +1,7 @@
 -- One byte more of a header: what the reader answers, and the bytes that it stands for then.
 use Rattle.std.proofs.Common.{◌≡◌, ◌≢◌, ℕ, ◌+◌, List, [], ◌∷◌, ◌++◌, length, Option, Some, None, refl, sym, ap, subst}
 use Rattle.std.proofs.Common.{◌∙◌, arith, length-append}
+use Rattle.dl_memory.specs.Refusals.{SystemRefuses, WasRefused}
 use Rattle.dl_head.specs.declared.dialect.Dialect.{Dialect}
 use Rattle.dl_num.specs.declared.partial_number.PartialNumber.{PartialNumber}
 use Rattle.dl_num.specs.NumberBytes.{number_size, number_bytes}
@@ -21,7 +22,7 @@ use Rattle.dl_table.specs.TableCells.{table_cells}
 use Rattle.dl_field.specs.TablePlace.{IsFresh}
 use Rattle.dl_head.specs.Place.{AtStart, AtPhase, At, SameCounts, SameUnit, PushFollows, end_of_unit, held_cells}
 use Rattle.dl_head.specs.Standing.{Below, IsRead, Live, Unmade, ending, Stands, StandsFor, unit_known, Fails, Settles}
-use Rattle.dl_head.specs.Reading.{Answers, AddsCell, Steps}
+use Rattle.dl_head.specs.Reading.{Answers, RefusesCell, Steps}
 use Rattle.dl_field.proofs.FieldLemmas.{none_some}
 use Rattle.dl_head.proofs.CutLemmas.{cut_of, cut_bad}
 use Rattle.dl_head.proofs.HeaderEnds.{UpTo, below_next, end_from}
@@ -172,10 +173,13 @@ kept_stands r new b goes stands l at counts same_cells =
 
 -- memory was refused
 pub unfed_step : (r new : HeadReader) (b : List ℕ) (x : ℕ) → ending r.phase ≡ None → StandsFor r b
-    → Live r b × Unmade r b → PushFollows r x byte_makes.NoMemory new
-    → AddsCell r.dialect b x × StandsFor new b
-unfed_step r new b x goes stands l f = (
-  omega (arith, (f.cells l.0.items l.0.rest l.0.at).1, cells_on r.dialect b x l.0.items l.0.rest l.0.read.cut_is),
+    → Live r b × Unmade r b → PushFollows r x byte_makes.NoMemory new → WasRefused SystemRefuses
+    → RefusesCell r.dialect b x × StandsFor new b
+unfed_step r new b x goes stands l f refused = (
+  (
+    omega (arith, (f.cells l.0.items l.0.rest l.0.at).1, cells_on r.dialect b x l.0.items l.0.rest l.0.read.cut_is),
+    refused,
+  ),
   kept_stands r new b goes stands l (f.made l.0.items l.0.rest l.0.at) f.counts
       (f.cells l.0.items l.0.rest l.0.at).0,
 )

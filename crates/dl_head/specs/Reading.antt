@@ -1,5 +1,6 @@
 -- What a reader of headers answers, by the bytes that it has taken. DWARF 5, section 6.2.4.
 use Rattle.std.specs.Prelude.{◌≡◌, ◌≢◌, ◌<◌, ℕ, List, [], ◌∷◌, ◌++◌, Option, Some, None}
+use Rattle.dl_memory.specs.Refusals.{SystemRefuses, WasRefused}
 use Rattle.dl_head.specs.declared.dialect.Dialect.{Dialect}
 use Rattle.dl_table.specs.declared.fault.FaultKind.{FaultKind}
 use Rattle.dl_head.specs.declared.reader.HeadStep.{HeadStep}
@@ -21,16 +22,16 @@ Answers dialect b answer.More =
     × ((at : ℕ) (kind : FaultKind) → HeaderRefused dialect b at kind → ⊥)
 Answers dialect b answer.NoMemory = ⊥
 
--- the byte after b makes a header hold a cell more
-abbrev pub AddsCell : Dialect → List ℕ → ℕ → Type 0
-AddsCell dialect b byte = cells dialect b < cells dialect (b ++ byte ∷ [])
+-- the byte after b makes a header hold a cell more, and the system refused memory
+abbrev pub RefusesCell : Dialect → List ℕ → ℕ → Type 0
+RefusesCell dialect b byte = (cells dialect b < cells dialect (b ++ byte ∷ [])) × WasRefused SystemRefuses
 
 -- a step of a reader that has taken b
 pub record Steps (dialect : Dialect) (b : List ℕ) (byte : ℕ) (result : HeadStep) (new : HeadReader) : Type 0 where
   -- once b has come to something, the answer stays the same, and the byte isn't taken
   pub ended : (r : HeadStep) → Answers dialect b r → r ≢ answer.More → (result ≡ r) × StandsFor new b
   -- where memory is refused, the byte isn't taken
-  pub unfed : result ≡ answer.NoMemory → AddsCell dialect b byte × StandsFor new b
+  pub unfed : result ≡ answer.NoMemory → RefusesCell dialect b byte × StandsFor new b
   -- else the byte is taken, and the answer is what the bytes then come to
   pub taken : Answers dialect b answer.More → result ≢ answer.NoMemory
       → Answers dialect (b ++ byte ∷ []) result × StandsFor new (b ++ byte ∷ [])

@@ -5,7 +5,7 @@ use Rattle.dl_head.specs.declared.reader.HeadStep.{HeadStep}
 use Rattle.dl_head.specs.declared.reader.HeadStep.TheVariants as answer
 use Rattle.dl_head.specs.declared.reader.HeadReader.{HeadReader}
 use Rattle.dl_head.specs.Standing.{StandsFor}
-use Rattle.dl_head.specs.Reading.{Answers, AddsCell}
+use Rattle.dl_head.specs.Reading.{Answers, RefusesCell}
 use Rattle.dl_head.specs.Turns.{Answer}
 
 -- what the bytes taken come to, where an answer was given; want of memory ends nothing
@@ -21,7 +21,7 @@ pub record Took (dialect : Dialect) (b bytes : List ℕ) (used : ℕ) (last : He
   pub before : (i : ℕ) → i < used → Answers dialect (b ++ take i bytes) answer.More
   -- memory was refused before a byte that adds a cell
   pub unfed : last ≡ answer.NoMemory → (byte : ℕ) × (later : List ℕ) × (drop used bytes ≡ byte ∷ later)
-      × AddsCell dialect (b ++ take used bytes) byte
+      × RefusesCell dialect (b ++ take used bytes) byte
 
 -- what a piece may be answered after b
 pub record Answered (dialect : Dialect) (b piece : List ℕ) (a : Answer HeadStep) : Type 0 where

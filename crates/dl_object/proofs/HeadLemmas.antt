@@ -18,7 +18,7 @@ use Rattle.dl_head.proofs.QuietLemmas.{header_is_not_refused, foreign_is_not_ref
 use Rattle.dl_rows.proofs.FirstLemmas.{split_front}
 use Rattle.dl_rows.proofs.UnitKnown.{foreign_known, header_known}
 use Rattle.dl_rows.proofs.UnitLemmas.{unit_len_on}
-use Rattle.dl_object.specs.Section.{AddsCell, IsRefused, NoneFollows}
+use Rattle.dl_object.specs.Section.{RefusesCell, IsRefused, NoneFollows}
 use Rattle.dl_object.specs.Fronts.{KindIs}
 
 -- after a head that is refused, whose unit has no known length, none follows
@@ -91,7 +91,7 @@ module _ (dialect : Dialect) (b : List ℕ) (used : ℕ) (step : HeadStep) (took
 
   -- ---- memory is refused
 
-  pub adds_cell : step ≡ answer.NoMemory → AddsCell dialect b
+  pub adds_cell : step ≡ answer.NoMemory → RefusesCell dialect b
   adds_cell e =
       let cell = took.unfed e in (
         take used b,

@@ -12,7 +12,7 @@ use Rattle.dl_field.specs.HeaderData.{HeaderData}
 use Rattle.dl_head.specs.Header.{IsHeader, unit_len}
 use Rattle.dl_reloc.specs.declared.placed.Placed.{Placed}
 use Rattle.dl_object.specs.Kept.{program_kept}
-use Rattle.dl_object.specs.Section.{IsBody, IsUnread, NoneFollows, Keeps, ends, unread, own, AddsCell, WantsCell}
+use Rattle.dl_object.specs.Section.{IsBody, IsUnread, NoneFollows, Keeps, ends, unread, own, RefusesCell, WantsCell}
 use Rattle.dl_object.specs.declared.head.UnitHead.{UnitHead}
 use Rattle.dl_object.specs.Fronts.{KindIs, HeadIs, HeadWithin, unit_kept}
 use Rattle.dl_object.proofs.PartLemmas.{PutIn, part_len, put_in}
@@ -35,9 +35,9 @@ module _ (dialect : Dialect) (places : List Placed) (section : ℕ) (old : List 
         (ap (λ (z : List ℕ). take at bytes ++ z) (sym so.rest) ∙ take-append-drop at bytes)
         (so.kept (drop at old) (ends (subst (NoneFollows dialect) (same ∙ so.rest) none)))
 
-    pub cell_wanted : AddsCell dialect b → WantsCell dialect old
+    pub cell_wanted : RefusesCell dialect b → WantsCell dialect old
     cell_wanted cell =
-        (take at old, drop at old, sym (take-append-drop at old), subst (AddsCell dialect) (same ∙ so.rest) cell)
+        (take at old, drop at old, sym (take-append-drop at old), subst (RefusesCell dialect) (same ∙ so.rest) cell)
 
     -- a unit more, whose head has `len` bytes, of `unit`
     module _ (len unit told : ℕ) (first : len ≤ unit) (room : unit ≤ length b)

@@ -6,7 +6,7 @@ use Rattle.dl_field.specs.HeaderData.{HeaderData}
 use Rattle.dl_head.specs.Header.{IsHeader, foreign_in, unit_len}
 use Rattle.dl_head.specs.Refusal.{HeaderRefused}
 use Rattle.dl_table.specs.declared.fault.FaultKind.{FaultKind}
-use Rattle.dl_head.specs.Reading.{AddsCell as AddsCellAt}
+use Rattle.dl_head.specs.Reading.{RefusesCell as RefusesCellAt}
 use Rattle.dl_reloc.specs.declared.placed.Placed.{Placed}
 use Rattle.dl_object.specs.Kept.{program_kept}
 
@@ -56,10 +56,10 @@ pub data Keeps (dialect : Dialect) (places : List Placed) (section : ℕ) : ℕ 
       ((head ++ program_kept dialect.order h.params places section (at + length head) body) ++ new)
 
 -- with a byte of b the header that b begins with holds a cell more, for which memory may be refused
-abbrev pub AddsCell : Dialect → List ℕ → Type 0
-AddsCell dialect b =
-    (front : List ℕ) × (byte : ℕ) × (back : List ℕ) × (b ≡ front ++ byte ∷ back) × AddsCellAt dialect front byte
+abbrev pub RefusesCell : Dialect → List ℕ → Type 0
+RefusesCell dialect b =
+    (front : List ℕ) × (byte : ℕ) × (back : List ℕ) × (b ≡ front ++ byte ∷ back) × RefusesCellAt dialect front byte
 
 -- the same of a unit in b
 abbrev pub WantsCell : Dialect → List ℕ → Type 0
-WantsCell dialect b = (before after : List ℕ) × (b ≡ before ++ after) × AddsCell dialect after
+WantsCell dialect b = (before after : List ℕ) × (b ≡ before ++ after) × RefusesCell dialect after

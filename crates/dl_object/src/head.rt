@@ -1,7 +1,7 @@
 //! The header of the unit at the front of bytes. Section 6.2.4.
 
 ghost use Rattle.std.specs.Prelude.{◌≡◌, ℕ, List, MatchOption, IfOk, IfErr, length};
-ghost use Rattle.dl_object.specs.Section.{AddsCell, NoneFollows};
+ghost use Rattle.dl_object.specs.Section.{RefusesCell, NoneFollows};
 ghost use Rattle.dl_object.specs.Fronts.{HeadIs, HeadWithin};
 
 use dl_head::{Dialect, HeadReader, HeadStep, Header};
@@ -29,7 +29,7 @@ pub fn head_at_front(
     ensures within { IfOk result (λ found. HeadWithin (length bytes.now) found) }
     ensures head { IfOk result (λ found. MatchOption found (NoneFollows dialect bytes.now)
         (HeadIs dialect bytes.now)) }
-    ensures memory { IfErr result (λ error. AddsCell dialect bytes.now) }
+    ensures memory { IfErr result (λ error. RefusesCell dialect bytes.now) }
 {
     let mut reader = HeadReader::new(alloc, dialect);
     let (len, step) = reader.offer(bytes);

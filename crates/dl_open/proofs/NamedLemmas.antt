@@ -27,7 +27,7 @@ use Rattle.dl_open.proofs.WiderLemmas.{stops_at_wider}
 use Rattle.std.specs.Io.KnownBytes.{Consumes, IsAtEnd}
 use Rattle.dl_head.specs.declared.dialect.Dialect.{Dialect}
 use Rattle.dl_run.specs.declared.options.TheConstants.{SECTION_LIMIT}
-use Rattle.dl_forms.specs.Names.{AddsCellFrom, Names}
+use Rattle.dl_forms.specs.Names.{RefusesCellFrom, Names}
 
 -- it is told of all bytes, where those that were read settle it
 settled : (dialect : Dialect) (known left : Option (List ℕ)) (bs : List ℕ) (names : Bool) → Consumes known left bs
@@ -64,7 +64,7 @@ over dialect known left bs names consumes told same =
 
 -- memory was refused
 pub wants : (dialect : Dialect) (known left : Option (List ℕ)) (bs : List ℕ) (n : ℕ) → Consumes known left bs
-    → AddsCellFrom dialect n bs → IfSome known (AddsCellFrom dialect 0)
+    → RefusesCellFrom dialect n bs → IfSome known (RefusesCellFrom dialect 0)
 wants dialect None left bs n consumes cell = tt
 wants dialect (Some bytes) None bs n consumes cell = absurd consumes
 wants dialect (Some bytes) (Some rest) bs n consumes (before, front, byte, back, split, past, adds) = (

@@ -16,7 +16,7 @@ use Rattle.dl_head.specs.declared.dialect.AddressSize.TheVariants as size
 use Rattle.dl_head.specs.declared.dialect.Dialect.{Dialect}
 use Rattle.dl_head.specs.declared.dialect.Older.{Older}
 use Rattle.dl_head.specs.declared.dialect.Older.TheVariants as older
-use Rattle.dl_forms.specs.Names.{AddsCellFrom, Names}
+use Rattle.dl_forms.specs.Names.{RefusesCellFrom, Names}
 use Rattle.dl_memory.specs.Refusals.{IsRefused, WasRefused}
 use Rattle.dl_object.specs.Kept.{Rises}
 use Rattle.dl_object.specs.Section.{Keeps, WantsCell}
@@ -132,7 +132,7 @@ IsNamed fails dialect (Inflated name bytes damage) names = (IsTrue names ↔ Nam
 -- it can't be told: a read failed, or memory was refused for a header, or the section is too long
 abbrev pub StopsNaming : Dialect → (known : Option (List ℕ)) → RunFault → Type 0
 StopsNaming dialect known fault.Read = ⊤
-StopsNaming dialect known fault.NoMemory = IfSome known (AddsCellFrom dialect 0)
+StopsNaming dialect known fault.NoMemory = IfSome known (RefusesCellFrom dialect 0)
 StopsNaming dialect known fault.SectionTooLong = IfSome known (λ bytes. SECTION_LIMIT < length bytes)
 StopsNaming dialect known other = ⊥
 

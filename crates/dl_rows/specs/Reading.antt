@@ -5,8 +5,8 @@ use Rattle.dl_head.specs.declared.dialect.Dialect.{Dialect}
 use Rattle.dl_head.specs.declared.fault.Fault.{Fault}
 use Rattle.dl_table.specs.declared.fault.FaultKind.{FaultKind}
 use Rattle.dl_table.specs.declared.fault.FaultKind.TheVariants.{Truncated}
-use Rattle.dl_head.specs.Cells.{cells}
 use Rattle.dl_head.specs.Header.{header_in, unit_len}
+use Rattle.dl_head.specs.Reading.{RefusesCell}
 use Rattle.dl_rows.specs.declared.reader.Event.{Event}
 use Rattle.dl_rows.specs.declared.reader.Event.TheVariants as event
 use Rattle.dl_rows.specs.declared.reader.Fed.{Fed}
@@ -45,10 +45,10 @@ EventHoldsAfter dialect before b piece used event.More =
 -- a unit is whole
 EventHoldsAfter dialect before b piece used event.End =
     IsUnit dialect (b ++ take used piece) × ((used ≡ 0) ⊎ (used < length piece))
--- the next byte of a header adds a cell
+-- for the next byte of a header the system refused memory
 EventHoldsAfter dialect before b piece used event.NoMemory =
     (byte : ℕ) × (slice_get piece used ≡ Some byte) × (header_in dialect (b ++ take used piece) ≡ None)
-    × (cells dialect (b ++ take used piece) < cells dialect ((b ++ take used piece) ++ byte ∷ []))
+    × RefusesCell dialect (b ++ take used piece) byte
 -- what is told comes with the last byte used
 EventHoldsAfter dialect before b piece used other = (1 ≤ used) × (events dialect (b ++ take (used - 1) piece) ≡ before)
 

@@ -51,6 +51,7 @@ impl UnitBytes {
         ensures used { result.used ≤ length piece.now }
         ensures pause { IsPause result.event }
         ensures end { result.event ≡ Event.End → 1 ≤ self.old.taken + result.used }
+        ensures no_want { result.event ≢ Event.NoMemory }
         ensures fed { (dialect : Dialect) (version : ℕ) (b : List ℕ) → InForeign dialect version self.old b
             → Feeds (InForeign dialect version) dialect b piece.now result self.new }
     {
@@ -81,6 +82,7 @@ impl UnitBytes {
         ensures event { result.event ≡ paused self.now.taken self.now.left used (length piece.now) }
         ensures pause { IsPause result.event }
         ensures end { result.event ≡ Event.End → 1 ≤ self.now.taken }
+        ensures no_want { result.event ≢ Event.NoMemory }
     {
         let is_whole = self.taken > 0 && self.left == 0;
         let ends = is_whole && (used == 0 || used < piece.len());
@@ -120,6 +122,7 @@ impl UnitBody {
         ensures used { IfOk result (λ fed. fed.used ≤ length piece.now) }
         ensures progress { IfOk result (λ fed. IsPause fed.event ⊎ (1 ≤ fed.used)) }
         ensures end { IfOk result (λ fed. fed.event ≡ Event.End → 1 ≤ self.old.bytes.taken + fed.used) }
+        ensures no_want { IfOk result (λ fed. fed.event ≢ Event.NoMemory) }
         ensures fed { (h : HeaderData) (b : List ℕ) (before : List Row) (first : S) → h.params ≡ params.now
             → InProgram dialect h self.old b
             → (S.story first).hears sink.old before
@@ -194,6 +197,7 @@ impl BodyState {
         ensures used { IfOk result (λ fed. fed.used ≤ length piece.now) }
         ensures progress { IfOk result (λ fed. IsPause fed.event ⊎ (1 ≤ fed.used)) }
         ensures end { IfOk result (λ fed. fed.event ≡ Event.End → 1 ≤ taken_in_body self.old + fed.used) }
+        ensures no_want { IfOk result (λ fed. fed.event ≢ Event.NoMemory) }
         ensures fed { (h : HeaderData) (b : List ℕ) (before : List Row) (first : S) → h.params ≡ params.now
             → BodyStands dialect h self.old b
             → (S.story first).hears sink.old before

@@ -17,7 +17,7 @@ use Rattle.dl_run.specs.declared.around.DamagedUnits.{DamagedUnits}
 use Rattle.dl_run.specs.declared.around.Survey.{Survey}
 use Rattle.dl_run.specs.declared.fault.RunFault.{RunFault}
 use Rattle.dl_run.specs.declared.fault.RunFault.TheVariants as fault
-use Rattle.dl_run.specs.Section.{Visit, AddsCell, NoUnitBegins, of_damage, summary_of, unit_visits, visits}
+use Rattle.dl_run.specs.Section.{Visit, RefusesCell, NoUnitBegins, of_damage, summary_of, unit_visits, visits}
 use Rattle.dl_run.specs.Visiting.{Settled, Story, VisitorStops, WritesFront}
 
 -- ---- blocks
@@ -145,7 +145,7 @@ EndsAround dialect limit bytes left blocks rest (Err fault.SectionTooLong) =
     IsCut dialect (take limit bytes) blocks rest × IsOpen dialect rest × (limit < length bytes)
 EndsAround dialect limit bytes left blocks rest (Err fault.NoMemory) =
     (b : List ℕ) × (others : List ℕ) × (rest ≡ begun b) × IsCutTo dialect (take limit bytes) blocks rest others
-    × Sound dialect b × AddsCell dialect b others
+    × Sound dialect b × RefusesCell dialect b others
 EndsAround dialect limit bytes left blocks rest (Err other) = ⊥
 
 -- ---- what a command is told

@@ -23,7 +23,7 @@ use Rattle.dl_run.specs.declared.fault.RunFault.TheVariants as fault
 use Rattle.dl_run.specs.declared.options.Options.{Options}
 use Rattle.dl_print.specs.declared.summary.Summary.{Summary}
 use Rattle.dl_run.specs.RunOutput.{TellsOut}
-use Rattle.dl_run.specs.Section.{HasUnits, HasBegun, AddsCell, EndsAs, header_of, summary_of}
+use Rattle.dl_run.specs.Section.{HasUnits, HasBegun, RefusesCell, EndsAs, header_of, summary_of}
 use Rattle.dl_run.specs.SectionText.{section_text}
 use Rattle.dl_print.specs.Text.{row_line, summary_line}
 use Rattle.dl_print.specs.ValueText.{Strings}
@@ -149,7 +149,7 @@ CopiesBy are text made Wants dialect limit bytes left start now (Err (fault.Emit
 CopiesBy are text made Wants dialect limit bytes left start now (Err fault.NoMemory) =
     (units : List (List ℕ)) × (b : List ℕ) × (back : List ℕ) × HasBegun dialect (take limit bytes) units b back
     × Sound dialect b × (foreign_in dialect b ≡ None)
-    × (AddsCell dialect b back ⊎ Wants b) × HasCopied are text units start now
+    × (RefusesCell dialect b back ⊎ Wants b) × HasCopied are text units start now
 CopiesBy are text made Wants dialect limit bytes left start now (Err (fault.Write out)) =
     (units : List (List ℕ)) × (back : List ℕ) × HasUnits dialect (take limit bytes) units back × are units
     × TellsOut start now (text units) (fault.Write out)

@@ -16,7 +16,7 @@ use Rattle.dl_run.specs.declared.fault.RunFault.TheVariants as fault
 use Rattle.dl_run.specs.declared.section.SectionUnits.{SectionUnits}
 use Rattle.dl_run.specs.Around.{Block, Rest, begun, broken, bytes_of, damaged_units, faults_of, IsCut, IsCutTo}
 use Rattle.dl_run.specs.Around.{IsSoundSoFar, survey_of, units_around, visits_around}
-use Rattle.dl_run.specs.Section.{Visit, AddsCell, of_damage}
+use Rattle.dl_run.specs.Section.{Visit, RefusesCell, of_damage}
 use Rattle.dl_run.specs.UnitsRead.{Before, UnitsAre}
 use Rattle.dl_run.specs.Visiting.{Settled, Story, VisitorStops, WritesFront}
 
@@ -76,7 +76,7 @@ HasNoLength dialect other = ⊥
 
 -- memory is refused for a cell of the front of a unit, which the next byte adds
 abbrev pub WantsCell : Dialect → Rest → (others : List ℕ) → RunFault → Type 0
-WantsCell dialect (begun b) others fault.NoMemory = AddsCell dialect b others
+WantsCell dialect (begun b) others fault.NoMemory = RefusesCell dialect b others
 WantsCell dialect rest others other = ⊥
 
 -- t was read, which is blocks and a rest, and the visitor was told of it

@@ -9,7 +9,7 @@ use Rattle.dl_table.specs.declared.fault.FaultKind.{FaultKind}
 use Rattle.dl_table.specs.declared.fault.FaultKind.TheVariants.{Truncated}
 use Rattle.dl_field.specs.HeaderData.{HeaderData}
 use Rattle.dl_head.specs.Header.{foreign_in, header_in}
-use Rattle.dl_head.specs.Cells.{cells}
+use Rattle.dl_head.specs.Reading.{RefusesCell as RefusesCellAt}
 use Rattle.dl_rows.specs.declared.row.Row.{Row}
 use Rattle.dl_rows.specs.declared.reader.Event.{Event}
 use Rattle.dl_rows.specs.declared.reader.Event.TheVariants as event
@@ -56,10 +56,10 @@ IsDamaged dialect limit bytes left units b back offset kind =
     ⊎ ((back ≡ []) × (b ≢ []) × Sound dialect b × (length bytes ≤ limit) × IsAtEnd left × (offset ≡ length bytes)
     × (kind ≡ Truncated))
 
--- by the byte after b its header holds a cell more, for which memory may be refused
-abbrev pub AddsCell : Dialect → (b back : List ℕ) → Type 0
-AddsCell dialect b back =
-    (byte : ℕ) × (others : List ℕ) × (back ≡ byte ∷ others) × (cells dialect b < cells dialect (b ++ byte ∷ []))
+-- by the byte after b its header holds a cell more, for which the system refused memory
+abbrev pub RefusesCell : Dialect → (b back : List ℕ) → Type 0
+RefusesCell dialect b back =
+    (byte : ℕ) × (others : List ℕ) × (back ≡ byte ∷ others) × RefusesCellAt dialect b byte
 
 -- where no write fails. The first `limit` bytes are units, and then b and back, which no unit begins, but where memory
 -- is refused.
@@ -78,7 +78,7 @@ EndsAs dialect limit bytes left units b back (Err fault.SectionTooLong) =
     HasUnits dialect (take limit bytes) units b × (back ≡ []) × NoUnitBegins dialect b × Sound dialect b
     × (limit < length bytes)
 EndsAs dialect limit bytes left units b back (Err fault.NoMemory) =
-    HasBegun dialect (take limit bytes) units b back × Sound dialect b × AddsCell dialect b back
+    HasBegun dialect (take limit bytes) units b back × Sound dialect b × RefusesCell dialect b back
 EndsAs dialect limit bytes left units b back (Err other) = ⊥
 
 -- ---- what a command is told

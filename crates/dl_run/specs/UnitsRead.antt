@@ -18,7 +18,7 @@ use Rattle.dl_rows.specs.declared.sink.Flow.TheVariants as flow
 use Rattle.dl_run.specs.declared.section.SectionUnits.{SectionUnits}
 use Rattle.dl_print.specs.declared.summary.Summary.{Summary}
 use Rattle.dl_table.specs.declared.fault.FaultKind.TheVariants.{Truncated}
-use Rattle.dl_run.specs.Section.{Visit, HasUnits, HasBegun, NoUnitBegins, AddsCell, summary_of, units_visits, visits}
+use Rattle.dl_run.specs.Section.{Visit, HasUnits, HasBegun, NoUnitBegins, RefusesCell, summary_of, units_visits, visits}
 use Rattle.dl_run.specs.Visiting.{Story, Stopped, WritesFront, VisitorStops, Settled, header_told}
 
 abbrev pub row_told : Event → List Row
@@ -85,7 +85,7 @@ abbrev pub ReaderStops : {dialect : Dialect} → Before dialect → SectionUnits
 ReaderStops {dialect} past u units b back (fault.Damage offset kind) =
     (at : ℕ) × (offset ≡ end_of past units + at) × Refused dialect b at kind × NoUnitBegins dialect (b ++ back)
     × StopsWith past u units b
-ReaderStops {dialect} past u units b back fault.NoMemory = Sound dialect b × AddsCell dialect b back
+ReaderStops {dialect} past u units b back fault.NoMemory = Sound dialect b × RefusesCell dialect b back
 ReaderStops {dialect} past u units b back other = ⊥
 
 -- `feed`: s is what was read before and the piece. Where the visitor stops, nothing that was read is refused.

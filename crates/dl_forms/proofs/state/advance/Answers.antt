@@ -1,6 +1,6 @@
 use Rattle.std.proofs.Common.{◌≤◌, ◌++◌, IfErr, IfOk, length, sym, subst, take}
 use Rattle.dl_head.specs.declared.dialect.Dialect.{Dialect}
-use Rattle.dl_forms.specs.Names.{AddsCellFrom}
+use Rattle.dl_forms.specs.Names.{RefusesCellFrom}
 use Rattle.dl_forms.specs.declared.state.State.{State}
 use Rattle.dl_forms.specs.declared.state.State.TheVariants as state
 use Rattle.dl_forms.specs.Standing.{Onward, StandsAt}
@@ -18,7 +18,7 @@ pub returns-in-Head-clause-memory : goal.returns-in-Head-clause-memory
 returns-in-Head-clause-memory c b stands =
     let at : StandsAt c.args.dialect (state.Head c.in-Head.reader) b =
     subst (λ (s : State). StandsAt c.args.dialect s b) c.in-Head.is stands in
-    subst (λ (d : Dialect). IfErr c.read_head.result (λ error. AddsCellFrom d (length b) (b ++ c.args.piece.now))) at.1
+    subst (λ (d : Dialect). IfErr c.read_head.result (λ error. RefusesCellFrom d (length b) (b ++ c.args.piece.now))) at.1
     (c.read_head.ensures.memory b at.0 at.2 (subst (λ (d : Dialect). Onward d b at.0) (sym at.1) at.3))
 
 pub returns-in-Body-clause-stands : goal.returns-in-Body-clause-stands

@@ -1,7 +1,7 @@
 use Rattle.std.proofs.Common.{◌≤◌, ◌++◌, ◌-◌, List, ℕ, arith, drop, length, sym, subst, take, []}
 use Rattle.std.proofs.lemmas.List.{take_all}
 use Rattle.dl_head.specs.declared.dialect.Dialect.{Dialect}
-use Rattle.dl_forms.specs.Names.{AddsCellFrom}
+use Rattle.dl_forms.specs.Names.{RefusesCellFrom}
 use Rattle.dl_forms.specs.declared.state.State.TheVariants as state
 use Rattle.dl_forms.specs.Standing.{Onward, StandsAt}
 use Rattle.dl_forms.proofs.WalkLemmas.{begins_none, body_ends, body_goes, further, wants_further}
@@ -22,7 +22,7 @@ returns-in_default-clause-memory c b stands =
     let left = c.args.left in
     let le : left ≤ length piece = omega (arith, c.if-left-piece.false) in
     wants_further c.args.dialect b piece left
-    (subst (λ (d : Dialect). AddsCellFrom d (length (b ++ take left piece))
+    (subst (λ (d : Dialect). RefusesCellFrom d (length (b ++ take left piece))
     ((b ++ take left piece) ++ take (length piece - left) (drop left piece)))
     c.new.ensures.dialect
     (c.in_default.ensures.memory (b ++ take left piece) [] (begins_none c.new.result c.new.ensures.stands)

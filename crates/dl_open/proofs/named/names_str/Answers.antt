@@ -1,7 +1,7 @@
 use Rattle.std.proofs.Common.{◌++◌, [], ap, arith, append-nil, length, length-append, subst, sym, refl, ◌∙◌, List, ℕ}
 use Rattle.std.proofs.KnownBytes.{Consumes-nil, Consumes-trans}
 use Rattle.dl_head.specs.declared.dialect.Dialect.{Dialect}
-use Rattle.dl_forms.specs.Names.{AddsCellFrom}
+use Rattle.dl_forms.specs.Names.{RefusesCellFrom}
 use Rattle.dl_open.proofs.NamedLemmas.{at_end, empty_is, over, told_in, wants}
 use Rattle.dl_open.proofs.NamedLemmas.{too_long, same_over}
 use Rattle.dl_run.proofs.BlameLemmas.{blames_next}
@@ -45,7 +45,7 @@ returns-in-Err g c =
     record {
       told = wants c.args.dialect _ _ (read.0 ++ c.in-Ok.piece.now) (length read.0)
           (Consumes-trans _ _ _ read.0 c.in-Ok.piece.now read.1 c.in-Ok.ensures.ok)
-          (subst (λ (d : Dialect). AddsCellFrom d (length read.0) (read.0 ++ c.in-Ok.piece.now)) l.invariant.dialect
+          (subst (λ (d : Dialect). RefusesCellFrom d (length read.0) (read.0 ++ c.in-Ok.piece.now)) l.invariant.dialect
           (c.in-Err.ensures.memory read.0 read.2));
       blames = blames_next _ l.invariant.follows c.next_piece.ensures.blames (λ e. absurd cc);
     }

@@ -4,6 +4,7 @@ use Rattle.dl_head.proofs.reader.HeadReader.advance.Goals as goal
 pub returns-in-NoMemory-clause-advances : goal.returns-in-NoMemory-clause-advances
 returns-in-NoMemory-clause-advances c b s more =
     unfed_advances c.up_to_end.ensures c.push-used.ensures.pushed s more c.in-NoMemory.is
+    (c.push-used.ensures.refused c.in-NoMemory.is)
 
 pub returns-in-Within-clause-advances : goal.returns-in-Within-clause-advances
 returns-in-Within-clause-advances c b s more =
