@@ -134,7 +134,7 @@ no_rows_yet dialect b back (byte, others, is, more) = by (header_in dialect b) r
       let after = ap (λ (l : List ℕ). cells dialect (l ++ byte ∷ [])) found.1
       ∙ ap (cells dialect) (append_assoc found.0 program (byte ∷ []))
       ∙ (header_holds_its_cells dialect h found.0 (program ++ byte ∷ []) found.2).0 in
-      absurd (omega (arith, more, before, after))
+      absurd (omega (arith, more.0, before, after))
 
 -- ---- rows in a room
 
