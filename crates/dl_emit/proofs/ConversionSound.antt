@@ -25,6 +25,7 @@ use Rattle.dl_head.specs.Written.{byte_of, is_within_limit, written_limit}
 use Rattle.dl_emit.specs.Conversion.{directory_entry, entries_in, file_entry, file_numbers, file_pairs, first_directory}
 use Rattle.dl_emit.specs.Conversion.{first_of, has_number, kept_numbers, new_directories, new_files, number_in}
 use Rattle.dl_emit.specs.Conversion.{number_or_zero, number_pair, path_entry, path_in, path_pair, to_version_5, version_5_params}
+use Rattle.dl_emit.specs.Parts.{directories_from}
 use Rattle.dl_emit.specs.Texts.{IsText}
 use Rattle.dl_emit.proofs.ConversionLemmas.{before_zero_text, directory_fits, file_fits, none_some, parts_fit, path_text}
 use Rattle.dl_emit.proofs.ConversionLemmas.{right_values}
@@ -91,14 +92,14 @@ all_directories t pairs [] all = tt
 all_directories t pairs (e ∷ es) all =
     (directory_fits t (path_in e) pairs all.0.path, all_directories t pairs es all.1)
 
-sound_directories : (directory : Option (List ℕ)) (t : TableData) → IsSoundTable t
-    → length (new_directories directory t).entries < 2 ^ 64 → IsSoundTable (new_directories directory t)
-sound_directories directory t sound few =
-    let new = new_directories directory t in
+pub sound_directories : (first : List ℕ) → IsText first → (t : TableData) → IsSoundTable t
+    → length (directories_from first t).entries < 2 ^ 64 → IsSoundTable (directories_from first t)
+sound_directories first is t sound few =
+    let new = directories_from first t in
     record {
       contents = (lit< tt, tt);
       entries = (
-        directory_fits new (first_directory directory) refl (first_text directory),
+        directory_fits new first refl is,
         all_directories new refl (entries_in t) (are_entries t t.entries sound.entries),
       );
       count = few;
@@ -137,7 +138,7 @@ file_contents true false = (lit< tt, (lit< tt, (lit< tt, tt)))
 file_contents false true = (lit< tt, (lit< tt, (lit< tt, tt)))
 file_contents false false = (lit< tt, (lit< tt, tt))
 
-sound_files : (t : TableData) → IsSoundTable t → length (new_files t).entries < 2 ^ 64 → IsSoundTable (new_files t)
+pub sound_files : (t : TableData) → IsSoundTable t → length (new_files t).entries < 2 ^ 64 → IsSoundTable (new_files t)
 sound_files t sound few =
     let times = list_any (has_number 3) (entries_in t) in
     let sizes = list_any (has_number 4) (entries_in t) in
@@ -230,6 +231,7 @@ version_5_sound h directory sound near = by (h.params.version == 5) near where
         params = parts_fit h new.params new.directories new.files sound refl refl refl;
         maximum_operations = sound.maximum_operations;
         line_base = sound.line_base;
-        directories = sound_directories directory h.directories sound.directories (omega (arith, few, directories));
+        directories = sound_directories (first_directory directory) (first_text directory) h.directories sound.directories
+            (omega (arith, few, directories));
         files = sound_files h.files sound.files (omega (arith, few, files));
       }

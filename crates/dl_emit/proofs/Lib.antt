@@ -1,6 +1,8 @@
 pub mod ConversionLaws
 pub mod ConversionLemmas
 pub mod ConversionSound
+pub mod PartLemmas
+pub mod CellLemmas
 pub mod GatherLemmas
 pub mod GrownLemmas
 pub mod LengthLemmas

@@ -1,9 +1,9 @@
 -- Laws of headers that are made ones of version 5. DWARF 5, sections 6.2.4 and 6.2.4.1; DWARF 4, section 6.2.4.
-use Rattle.std.specs.Prelude.{◌≡◌, ◌≤◌, ℕ, List, [], ◌∷◌, Option, Some, option_map}
+use Rattle.std.specs.Prelude.{◌≡◌, ◌≤◌, ℕ, ◌+◌, ◌*◌, List, [], ◌∷◌, length, Option, Some, option_map, unwrap_or}
 use Rattle.dl_num.specs.Laws.{AllBytes}
 use Rattle.dl_table.specs.EntryData.{value_of}
 use Rattle.dl_table.specs.Value.{Value, text}
-use Rattle.dl_field.specs.HeaderData.{HeaderData}
+use Rattle.dl_field.specs.HeaderData.{HeaderData, header_cells}
 use Rattle.dl_field.specs.Layout.{listed_directory, listed_file}
 use Rattle.dl_head.specs.declared.dialect.Dialect.{Dialect}
 use Rattle.dl_head.specs.Header.{IsHeader}
@@ -51,3 +51,10 @@ abbrev pub ReadIsOlder : Type 0
 ReadIsOlder =
     (dialect : Dialect) (h : HeaderData) (w : List ℕ) → IsHeader dialect h w → AllBytes w → (h.params.version ≡ 5 → ⊥)
     → IsOlderHeader h
+
+-- the tables of version 5 hold no more cells than eight times those of the header, one for each byte of the directory, and
+-- seven
+abbrev pub NewCellsAreFew : Type 0
+NewCellsAreFew =
+    (h : HeaderData) (directory : Option (List ℕ)) → IsSoundHeader h
+    → header_cells (to_version_5 h directory) ≤ 8 * header_cells h + length (unwrap_or directory []) + 7

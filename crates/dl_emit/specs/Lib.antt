@@ -8,6 +8,7 @@ pub mod Grown
 pub mod Conversion
 pub mod ConversionLaws
 -- Of contracts inside the crate, and of proofs; no public contract reaches these.
+pub mod Parts
 pub mod Gathered
 pub mod HeadFault
 pub mod Room

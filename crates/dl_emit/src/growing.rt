@@ -1,6 +1,6 @@
 //! The program of a unit, which grows by rows. Section 6.2.5.
 
-ghost use Rattle.std.specs.Prelude.{◌≡◌, ◌≤◌, ◌+◌, ◌++◌, ◌∷◌, [], ℕ, List, Err, length, take, IfOk, IfErr, OnOk, OnErr};
+ghost use Rattle.std.specs.Prelude.{◌≡◌, ◌≤◌, ◌+◌, ◌*◌, ◌++◌, ◌∷◌, [], ℕ, List, Err, length, take, IfOk, IfErr, OnOk, OnErr};
 ghost use Rattle.dl_field.specs.declared.params.Params.{Params};
 ghost use Rattle.dl_field.specs.Layout.{standard_params};
 ghost use Rattle.dl_field.specs.Usable.{IsUsable};
@@ -47,10 +47,11 @@ pub struct Program {
 }
 
 impl Model for Program {
-    ghost use Rattle.std.specs.Prelude.{◌+◌, ◌≤◌, length, take};
+    ghost use Rattle.std.specs.Prelude.{◌+◌, ◌*◌, ◌≤◌, length, take};
     ghost use Rattle.dl_field.specs.Usable.{IsUsable};
     ghost use Rattle.dl_emit.specs.Grown.{ProgramData};
     ghost use Rattle.dl_emit.specs.declared.bytes.TheConstants.{BUFFER_LEN};
+    ghost use Rattle.dl_emit.specs.declared.program.TheConstants.{ROW};
 
     ghost Value = { ProgramData };
 
@@ -64,15 +65,16 @@ impl Model for Program {
       last = take p.held p.last;
     } };
 
-    // Each row has a byte at least.
+    // Each row has a byte at least, and at most ROW.
     ghost invariant = { λ p. IsUsable p.params × (p.rows ≤ length p.first.items + length (take p.held p.last))
-        × (p.held ≤ BUFFER_LEN) };
+        × (p.held ≤ BUFFER_LEN) × (length p.first.items + length (take p.held p.last) ≤ ROW * p.rows) };
 }
 
 impl Program {
     /// Of no row yet, and of no header: `begin` is told the header.
     pub fn new(alloc: Global, order: Order) -> Program
         ensures order { result.order ≡ order }
+        ensures rows { result.rows ≡ 0 }
     {
         Program {
             order,
@@ -114,7 +116,8 @@ impl Program {
         self.held = 0;
     }
 
-    /// A row more, or want of memory for a list of no more bytes than are held, and then it is as before.
+    /// A row more, or want of memory for a list of no more bytes than are held, which are at most `ROW` for each row, and
+    /// then it is as before.
     #[inline(never)]
     pub fn push<M: Memory>(&mut self, memory: &M, row: &Row) -> Result<(), NoMemory>
         ensures grown { (h : Params) (rows : List Row) → IsGrown self.old self.old.order h rows
@@ -122,6 +125,8 @@ impl Program {
         ensures kept { IfErr result (λ _. self.new ≡ self.old) }
         ensures refused { OnErr result
             (IsRefused (M.refuses memory.now) (length self.old.first + length self.old.last)) }
+        ensures most { OnErr result (IsRefused (M.refuses memory.now) (ROW * self.old.rows)) }
+        ensures rows { self.new.rows ≤ self.old.rows + 1 }
         ensures order { self.new.order ≡ self.old.order }
     {
         if self.refused.is_some() {

@@ -1,6 +1,6 @@
 //! Laws of the definitions of what is written, each the contract of a function that does nothing.
 
-ghost use Rattle.dl_emit.specs.ConversionLaws.{NumbersMeanTheSame, ReadIsOlder};
+ghost use Rattle.dl_emit.specs.ConversionLaws.{NewCellsAreFew, NumbersMeanTheSame, ReadIsOlder};
 ghost use Rattle.dl_emit.specs.Laws.{ProgramIsReadAgain, UnitIsReadAgain};
 
 /// The program that is written for rows is read again as a program of the same rows, in either byte
@@ -20,4 +20,10 @@ pub fn unit_is_read_again()
 pub fn numbers_mean_the_same()
     ensures same { NumbersMeanTheSame }
     ensures read { ReadIsOlder }
+{}
+
+/// In version 5 the tables of a header hold no more cells than eight times those that they held before, one for each byte
+/// of the compilation directory, and seven.
+pub fn new_cells_are_few()
+    ensures { NewCellsAreFew }
 {}

@@ -6,10 +6,11 @@ mod conversion;
 mod fault;
 mod growing;
 pub mod laws;
+mod new_tables;
 mod program;
 mod unit;
 
-pub use conversion::into_version_5;
+pub use conversion::{into_version_5, into_version_5_in};
 pub use fault::EmitFault;
 pub use growing::Program;
 pub use unit::{measure, write_unit};

@@ -1,4 +1,6 @@
-use Rattle.std.proofs.Common.{◌∙◌, sym, ap, subst, arith, length-append, length, take}
+use Rattle.std.proofs.Common.{◌∙◌, ◌+◌, ◌≤◌, sym, ap, subst, arith, length-append, length, take}
+use Rattle.std.proofs.lemmas.List.{length-take}
+use Rattle.dl_emit.specs.declared.program.TheConstants.{ROW}
 use Rattle.std.specs.Option.{is_some}
 use Rattle.dl_emit.specs.Grown.{ProgramData, IsGrown}
 use Rattle.dl_emit.specs.Program.{row_operations}
@@ -30,10 +32,14 @@ invariant_of-self-2 g c =
     let more = ap length c.put_row-self-inside.ensures.put in
     let before = length-append inside.first.items (take inside.held inside.last) in
     let between = length-append first last in
-    let after = length-append last (operations_bytes inside.order inside.params operations) in (
+    let after = length-append last (operations_bytes inside.order inside.params operations) in
+    let buffer = c.put_row-self-inside.new.buffer in
+    let few : length (take c.put_row-self-inside.result buffer) ≤ length last + ROW =
+    omega (arith, c.put_row-self-inside.ensures.end, c.in_ok-at.ensures.room, length-take c.put_row-self-inside.result buffer, length-take c.in_ok-at.at inside.last) in (
       c.self.invariant.0,
       omega (arith, c.self.invariant.1, some, same, more, before, between, after),
       omega (arith, c.put_row-self-inside.ensures.end, c.in_ok-at.ensures.room),
+      omega (arith, c.self.invariant.3, few, same, before, between),
     )
 
 pub returns-clause-grown : goal.returns-clause-grown

@@ -1,7 +1,7 @@
 use Rattle.std.proofs.Common.{◌∙◌, sym}
 use Rattle.dl_emit.specs.Conversion.{entries_in, has_number}
 use Rattle.dl_emit.proofs.ConversionLemmas.{any_here, any_later, has_none, has_one}
-use Rattle.dl_emit.proofs.conversion.any_has.Goals as goal
+use Rattle.dl_emit.proofs.new_tables.any_has.Goals as goal
 
 pub returns-then-number-ne0 : goal.returns-then-number-ne0
 returns-then-number-ne0 c =

@@ -2,7 +2,7 @@
 use Rattle.std.proofs.Common.{◌≡◌, drop}
 use Rattle.std.specs.List.{list_any}
 use Rattle.dl_emit.specs.Conversion.{entries_in, has_number}
-use Rattle.dl_emit.proofs.conversion.any_has.Given as goal
+use Rattle.dl_emit.proofs.new_tables.any_has.Given as goal
 
 abbrev pub invariant-loop-i : goal.invariant-loop-i
 invariant-loop-i l =
