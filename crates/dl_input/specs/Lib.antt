@@ -1,2 +1,3 @@
 -- What the public contracts say rests on these, in reading order.
 pub mod Failing
+pub mod Ending

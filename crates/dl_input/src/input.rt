@@ -1,6 +1,7 @@
 //! The input, read through one buffer.
 ghost use Rattle.std.specs.Prelude.{◌≡◌, ◌<◌, ◌≤◌, [], length, take, IfOk, IsErr, OnErr};
 ghost use Rattle.std.specs.Io.KnownBytes.{Consumes, Keeps, IsAtEnd};
+ghost use Rattle.dl_input.specs.Ending.{Ends};
 ghost use Rattle.dl_input.specs.Failing.{Blames};
 
 use crate::source::Source;
@@ -25,6 +26,7 @@ fn read_some<R: Source>(reader: &mut R, buffer: &mut [u8]) -> Result<usize, Read
         n ≡ 0 → 0 < length buffer.new → IsAtEnd (R.remaining reader.new)) }
     ensures err { OnErr result (Keeps (R.remaining reader.old) (R.remaining reader.new)) }
     ensures blames { Blames R.follows R.fails reader.old reader.new (IsErr result) }
+    ensures over { Ends R.over buffer.new reader.new result }
 {
     let mut interrupted = 0;
     loop {
@@ -61,6 +63,7 @@ impl Input {
         ensures short { IfOk result (λ piece. length piece.now ≤ 4096) }
         ensures err { OnErr result (Keeps (R.remaining reader.old) (R.remaining reader.new)) }
         ensures blames { Blames R.follows R.fails reader.old reader.new (IsErr result) }
+        ensures over { IfOk result (λ piece. piece.now ≡ [] → R.over reader.new) }
     {
         let n = read_some(reader, &mut self.buffer)?;
         Ok(&self.buffer[..n])

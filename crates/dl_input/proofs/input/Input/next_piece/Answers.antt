@@ -10,4 +10,5 @@ returns-in_err-n g c =
       short = tt;
       err = c.in_err-n.ensures.err;
       blames = c.in_err-n.ensures.blames;
+      over = tt;
     })
