@@ -1,10 +1,10 @@
 -- What a reader becomes by a read.
-use Rattle.std.proofs.Common.{◌≡◌, inl, inr, refl, ◌∙◌, subst, ℕ, List, Option, Some, None, Result, Ok, Err}
-use Rattle.std.proofs.Common.{IfSome}
+use Rattle.std.proofs.Common.{◌≡◌, ◌<◌, inl, inr, refl, sym, ◌∙◌, subst, length, ℕ, List, Option, Some, None, Result, Ok, Err}
+use Rattle.std.proofs.Common.{IfOk, IfSome}
 use Rattle.std.specs.declared.io.Error.{Error}
 use Rattle.dl_input.specs.Failing.{Goes}
 use Rattle.dl_file.specs.ContentReader.{EndsBy}
-use Rattle.dl_file.specs.Faults.{FollowsBy, IsDamage, IsReadOf, MayFailBy, MayHaveDamage, Tells}
+use Rattle.dl_file.specs.Faults.{FollowsBy, IsDamage, IsReadOf, IsUndamaged, MayFailBy, MayHaveDamage, Tells}
 use Rattle.dl_file.specs.declared.read_fault.ReadFault.{ReadFault}
 use Rattle.dl_file.specs.declared.read_fault.ReadFault.TheVariants.{Read, DamagedStream}
 
@@ -69,3 +69,10 @@ goes_on damage fault Fails old new left (Err error) buffer ends same fails later
       inr (may_fail damage Fails first why (told_why (damage first) (fault new) why tells.1 told)
           (subst (λ (o : Option ReadFault). IfSome o (IsReadOf (Fails first))) tells.1 read)),
     )
+
+-- a read that gave nothing though there was room tells that there is no damage
+pub ends_whole : (known same : Option (Option ℕ)) (left : Option (List ℕ)) (fault : Option ReadFault) (result : Result ℕ Error)
+    (buffer : List ℕ) → EndsBy known left fault result buffer → same ≡ known
+    → IfOk result (λ n. n ≡ 0 → 0 < length buffer → IsUndamaged same)
+ends_whole known same left fault (Ok n) buffer ends is = λ none room. subst IsUndamaged (sym is) (ends none room)
+ends_whole known same left fault (Err error) buffer ends is = tt

@@ -5,7 +5,7 @@ use Rattle.std.specs.declared.io.Error.{Error}
 use Rattle.dl_elf.specs.declared.name.SectionName.{SectionName}
 use Rattle.dl_elf.specs.declared.compression.CompressionHeader.{CompressionHeader}
 use Rattle.dl_elf.specs.Reader.{known_range, reader_remaining, reader_error, ReaderFails}
-use Rattle.dl_file.specs.Faults.{FollowsBy, IsAfter, IsDamage, MayFailBy}
+use Rattle.dl_file.specs.Faults.{FollowsBy, IsAfter, IsDamage, IsUndamaged, MayFailBy}
 use Rattle.dl_file.specs.Inflating.{inflated, damage}
 use Rattle.dl_file.specs.declared.inflated_reader.InflatedReader.{InflatedReader}
 use Rattle.dl_file.specs.declared.read_fault.ReadFault.{ReadFault}
@@ -50,7 +50,7 @@ StreamFails all_bytes fails_with r error = ReaderFails all_bytes fails_with r.at
 -- a read says that the bytes end only where there is no damage, and tells damage only where it is, once no bytes are left
 abbrev pub EndsBy : (damage : Option (Option ℕ)) → (left : Option (List ℕ)) → (fault : Option ReadFault) → Result ℕ Error
     → (buffer : List ℕ) → Type 0
-EndsBy known left fault (Ok n) buffer = n ≡ 0 → 0 < length buffer → IfSome known (λ at. at ≡ None)
+EndsBy known left fault (Ok n) buffer = n ≡ 0 → 0 < length buffer → IsUndamaged known
 EndsBy known left fault (Err error) buffer = IfSome known (λ at. IfSome fault (IsDamage at))
     × IfSome left (λ bytes. IfSome fault (IsAfter bytes))
 
@@ -88,6 +88,10 @@ abbrev pub ContentFollows : {S : Type 0} {g : _} → (S → Option (List ℕ)) �
     → (first : ContentReader S g) → (failed : ℕ) → (now : ContentReader S g) → Type 0
 ContentFollows all_bytes fails_with =
     FollowsBy (content_damage all_bytes) content_fault (ContentFails all_bytes fails_with)
+
+-- where its bytes are over: their stream is whole, where it is known
+abbrev pub ContentOver : {S : Type 0} {g : _} → (S → Option (List ℕ)) → ContentReader S g → Type 0
+ContentOver all_bytes reader = IsUndamaged (content_damage all_bytes reader)
 
 -- a read of it may fail
 abbrev pub ContentMayFail : {S : Type 0} {g : _} → (S → Option (List ℕ)) → (S → Error → Type 0) → ContentReader S g

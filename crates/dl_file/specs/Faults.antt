@@ -45,6 +45,10 @@ pub record FollowsBy {R : Type 0} (damage : R → Option (Option ℕ)) (fault : 
   pub read : IfSome (fault now) (IsReadOf (Fails first))
   pub kept : (failed ≡ 0) ⊎ ((why : ReadFault) × (fault now ≡ Some why))
 
+-- bytes that are known have no damage
+abbrev pub IsUndamaged : (damage : Option (Option ℕ)) → Type 0
+IsUndamaged damage = IfSome damage (λ at. at ≡ None)
+
 -- the bytes are known to be damaged, or they aren't known
 abbrev pub MayHaveDamage : (damage : Option (Option ℕ)) → Type 0
 MayHaveDamage damage = IfSome damage (λ at. ¬ (at ≡ None))

@@ -3,7 +3,7 @@ use Rattle.std.specs.Prelude.{ℕ, List, Option, None, Some, drop}
 use Rattle.std.specs.Io.Cursor.{cursor_inner, cursor_position, cursor_remaining}
 use Rattle.std.specs.declared.io.Error.{Error}
 use Rattle.dl_elf.specs.declared.name.SectionName.{SectionName}
-use Rattle.dl_file.specs.Faults.{FollowsBy, MayFailBy}
+use Rattle.dl_file.specs.Faults.{FollowsBy, IsUndamaged, MayFailBy}
 use Rattle.dl_file.specs.declared.read_fault.ReadFault.{ReadFault}
 use Rattle.dl_file.specs.declared.line_reader.LineReader.{LineReader}
 use Rattle.dl_file.specs.declared.line_reader.LineReader.TheVariants.{File, Held}
@@ -45,6 +45,10 @@ abbrev pub LineReaderFollows : {S : Type 0} {g : _} → (S → Option (List ℕ)
     → (failed : ℕ) → (now : LineReader S g) → Type 0
 LineReaderFollows all_bytes fails_with =
     FollowsBy (line_damage all_bytes) line_fault (LineReaderFails all_bytes fails_with)
+
+-- where its bytes are over: their stream is whole, where it is known
+abbrev pub LineReaderOver : {S : Type 0} {g : _} → (S → Option (List ℕ)) → LineReader S g → Type 0
+LineReaderOver all_bytes reader = IsUndamaged (line_damage all_bytes reader)
 
 -- a read of it may fail
 abbrev pub LineReaderMayFail : {S : Type 0} {g : _} → (S → Option (List ℕ)) → (S → Error → Type 0) → LineReader S g → Type 0

@@ -10,7 +10,7 @@ ghost use Rattle.dl_elf.specs.Compressed.{compression_header};
 ghost use Rattle.dl_file.specs.Answering.{OpensContent};
 ghost use Rattle.dl_file.specs.Faults.{IsReadOf, Tells};
 ghost use Rattle.dl_file.specs.ContentReader.{ContentFails, EndsBy, content_damage, content_fault, content_remaining};
-ghost use Rattle.dl_file.specs.ContentReader.{ContentFollows, ContentMayFail, stream_name};
+ghost use Rattle.dl_file.specs.ContentReader.{ContentFollows, ContentMayFail, ContentOver, stream_name};
 ghost use Rattle.dl_file.specs.LineTable.{HasStream, content};
 ghost use Rattle.dl_memory.specs.Refusals.{IsRefused, WasRefused};
 
@@ -110,6 +110,8 @@ impl<'a, S: ReadAt> Source for ContentReader<'a, S> {
     ghost follows = { ContentFollows S.all_bytes S.fails_with };
 
     ghost fails = { ContentMayFail S.all_bytes S.fails_with };
+
+    ghost over = { ContentOver S.all_bytes };
 
     fn read_next(&mut self, buffer: &mut [u8]) -> io::Result<usize> {
         self.read(buffer)

@@ -7,7 +7,7 @@ ghost use Rattle.std.specs.declared.io.Error.{Error};
 ghost use Rattle.dl_file.specs.Faults.{IsReadOf, Tells};
 ghost use Rattle.dl_file.specs.ContentReader.{EndsBy};
 ghost use Rattle.dl_file.specs.LineReader.{LineReaderFails, line_damage, line_fault, line_held, line_remaining};
-ghost use Rattle.dl_file.specs.LineReader.{LineReaderFollows, LineReaderMayFail, line_stream};
+ghost use Rattle.dl_file.specs.LineReader.{LineReaderFollows, LineReaderMayFail, LineReaderOver, line_stream};
 
 use crate::content_reader::ContentReader;
 use crate::read_fault::ReadFault;
@@ -96,6 +96,8 @@ impl<'a, S: ReadAt> Source for LineReader<'a, S> {
     ghost follows = { LineReaderFollows S.all_bytes S.fails_with };
 
     ghost fails = { LineReaderMayFail S.all_bytes S.fails_with };
+
+    ghost over = { LineReaderOver S.all_bytes };
 
     fn read_next(&mut self, buffer: &mut [u8]) -> io::Result<usize> {
         self.read(buffer)
