@@ -13,3 +13,4 @@ pub mod InfoLemmas
 pub mod WholeLemmas
 pub mod ListedLemmas
 pub mod RefusedLemmas
+pub mod BoundLemmas

@@ -1,5 +1,5 @@
 -- Sections of relocations, places and code, one section after the other. No promise rests on this file.
-use Rattle.std.specs.Prelude.{ℕ, zero, suc, ◌+◌, if◌then◌else◌, List, [], ◌∷◌, ◌++◌, Option, Some, None, option_and_then}
+use Rattle.std.specs.Prelude.{◌≡◌, ◌≤◌, ℕ, zero, suc, ◌+◌, ◌*◌, length, if◌then◌else◌, List, [], ◌∷◌, ◌++◌, Option, Some, None, option_and_then}
 use Rattle.std.specs.Prelude.{Result, Ok, Err}
 use Rattle.dl_elf.specs.declared.section.SectionHeader.{SectionHeader}
 use Rattle.dl_elf.specs.declared.file.Elf.{Elf}
@@ -81,6 +81,15 @@ placed_at e f line i before = placed_if e f line (section_in e.header f i) befor
 abbrev pub placed_upto : Elf → List ℕ → NamedSection → ℕ → Result (List Placed) ElfFault
 placed_upto e f line zero = Ok []
 placed_upto e f line (suc n) = and_then (placed_at e f line (suc n)) (placed_upto e f line n)
+
+-- one section more has this many sections of relocations, each of which adds no more places than this
+abbrev pub GrowsBy : (sections : Option ℕ) (each : ℕ) (before after : List Placed) → Type 0
+GrowsBy sections each before after =
+    (n : ℕ) × (sections ≡ Some n) × (length after ≤ length before + n * each)
+
+-- no more sections of relocations than are read
+abbrev pub AreFew : (sections : Option ℕ) → Type 0
+AreFew sections = (n : ℕ) × (sections ≡ Some n) × (n ≤ 16)
 
 -- ---- code
 

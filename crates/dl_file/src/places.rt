@@ -1,5 +1,5 @@
 //! The places of a line section that relocations change, with the sections of their symbols. System V ABI, chapter 4.
-ghost use Rattle.std.specs.Prelude.{◌≡◌, ◌≤◌, ◌-◌, length, Ok, Some, OnOk, IfOk, IfErr, option_map};
+ghost use Rattle.std.specs.Prelude.{◌≡◌, ◌≤◌, ◌+◌, ◌*◌, ◌-◌, length, Ok, Some, OnOk, IfOk, IfErr, option_map};
 ghost use Rattle.dl_elf.specs.Source.{ForBytes};
 ghost use Rattle.dl_elf.specs.Answers.{IfRead, IfRefused};
 ghost use Rattle.dl_elf.specs.Window.{Shows};
@@ -7,7 +7,7 @@ ghost use Rattle.dl_elf.specs.SectionsHeld.{forward_of};
 ghost use Rattle.dl_elf.specs.Forward.{NoneForward};
 ghost use Rattle.dl_memory.specs.Refusals.{IsRefused, WasRefused};
 ghost use Rattle.dl_file.specs.Answering.{StopsListing, StopsReading};
-ghost use Rattle.dl_file.specs.OneByOne.{placed_at, placed_upto, relocations_upto, wide_at};
+ghost use Rattle.dl_file.specs.OneByOne.{AreFew, GrowsBy, placed_at, placed_upto, relocations_at, relocations_upto, wide_at};
 ghost use Rattle.dl_file.specs.Relocations.{HasRelocations, bytes_in};
 ghost use Rattle.dl_file.specs.Places.{ArePlaces, StopsPlaces, line_places, placed_by, table_in, wide_in, wide_section};
 
@@ -123,6 +123,10 @@ fn push_section<S: ReadAt, M: Memory>(
         (wide_in elf.now f section.now.link) places.old.items) (Unit {0}))) }
     ensures read { IfRead (S.fails_with source.now) result }
     ensures refused { IfRefused (WasRefused (M.refuses memory.now)) result }
+    ensures few { ForBytes (S.all_bytes source.now) (λ f.
+        OnOk result (length places.new.items ≤ length places.old.items + length f)) }
+    ensures most { ForBytes (S.all_bytes source.now) (λ f.
+        IfRefused (IsRefused (M.refuses memory.now) (length places.old.items + length f)) result) }
 {
     let Some(entries) = read_bytes(memory, source, section)? else {
         return Err(ElfFault::Damaged(Part::Relocations(name)));
@@ -171,6 +175,11 @@ fn push_at<S: ReadAt, M: Memory>(
         (StopsListing (placed_at elf.now f line.now at places.old.items) (Unit {0}))) }
     ensures read { IfRead (S.fails_with source.now) result }
     ensures refused { IfRefused (WasRefused (M.refuses memory.now)) result }
+    ensures few { ForBytes (S.all_bytes source.now) (λ f. OnOk result
+        (GrowsBy (relocations_at elf.now f line.now.number at) (length f) places.old.items places.new.items)) }
+    ensures most { ForBytes (S.all_bytes source.now) (λ f. IfRefused
+        ((relocations_at elf.now f line.now.number at ≡ Some 1)
+        × IsRefused (M.refuses memory.now) (length places.old.items + length f)) result) }
 {
     let Some(section) = section_at(source, window, &elf.header, at)? else {
         return Err(ElfFault::Damaged(Part::SectionHeaders));
@@ -193,12 +202,16 @@ fn list_places<S: ReadAt, M: Memory>(
     requires within { first - 1 ≤ elf.now.count - 1 }
     requires none { ForBytes (S.all_bytes source.now) (λ f.
         relocations_upto elf.now f line.now.number (first - 1) ≡ Some 0) }
+    requires sections { ForBytes (S.all_bytes source.now) (λ f.
+        AreFew (relocations_upto elf.now f line.now.number (elf.now.count - 1))) }
     ensures places { ForBytes (S.all_bytes source.now) (λ f. IfOk result (λ v.
         placed_upto elf.now f line.now (elf.now.count - 1) ≡ Ok v.items)) }
     ensures stops { ForBytes (S.all_bytes source.now) (λ f. IfErr result
         (StopsListing (placed_upto elf.now f line.now (elf.now.count - 1)) (Unit {0}))) }
     ensures read { IfRead (S.fails_with source.now) result }
     ensures refused { IfRefused (WasRefused (M.refuses memory.now)) result }
+    ensures most { ForBytes (S.all_bytes source.now)
+        (λ f. IfRefused (IsRefused (M.refuses memory.now) (16 * length f)) result) }
 {
     let mut window = Window::new();
     let mut places = Vec::new(memory.alloc());
@@ -225,6 +238,8 @@ fn line_places<S: ReadAt, M: Memory>(
         (StopsListing (line_places elf.now f line.now) (HasRelocations elf.now f line.now.number))) }
     ensures read { IfRead (S.fails_with source.now) result }
     ensures refused { IfRefused (WasRefused (M.refuses memory.now)) result }
+    ensures most { ForBytes (S.all_bytes source.now)
+        (λ f. IfRefused (IsRefused (M.refuses memory.now) (16 * length f)) result) }
 {
     let relocations = find_relocations(source, elf, sections, line.number)?;
     if relocations.count == 0 {
@@ -243,13 +258,15 @@ fn line_places<S: ReadAt, M: Memory>(
 ///
 /// The faults, of which the first is told: `Read` where a read failed; `NotElf`; and `Damaged` with what lies outside
 /// the file, or where more than 16 sections are of relocations of the line section. Memory is taken where there are
-/// relocations: for the bytes of one section of them at a time, for its symbols, and for the places. Where a growth is
-/// refused the fault is `NoMemory`.
+/// relocations: for the bytes of one section of them at a time, for its symbols, and for the places, of which there are
+/// no more than 16 times the file's bytes. Where a growth is refused the fault is `NoMemory`.
 pub fn find_places<S: ReadAt, M: Memory>(memory: &M, source: &S) -> Result<Vec<Placed>, ElfFault>
     ensures places { ForBytes (S.all_bytes source.now) (λ f. IfOk result (λ v. ArePlaces f (Ok v.items))) }
     ensures stops { ForBytes (S.all_bytes source.now) (λ f. IfErr result (StopsPlaces f)) }
     ensures read { IfRead (S.fails_with source.now) result }
     ensures refused { IfRefused (WasRefused (M.refuses memory.now)) result }
+    ensures most { ForBytes (S.all_bytes source.now)
+        (λ f. IfRefused (IsRefused (M.refuses memory.now) (16 * length f)) result) }
 {
     let elf = open_elf(source)?;
     let sections = find_sections(source, &elf)?;

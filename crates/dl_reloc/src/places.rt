@@ -103,6 +103,7 @@ pub fn push_places<M: Memory>(
 ) -> Result<(), NoMemory>
     ensures places { OnOk result
         (places.new.items ≡ places.old.items ++ placed target.now form entries.now table.now wide.now) }
+    ensures few { OnOk result (length places.new.items ≤ length places.old.items + length entries.now) }
     ensures refused { OnErr result (IsRefused (M.refuses memory.now)
         (length places.old.items + count (entry_size target.now.class form) entries.now)) }
 {
@@ -125,6 +126,7 @@ pub fn push_compact_places<M: Memory>(
 ) -> Result<(), NoMemory>
     ensures places { OnOk result
         (places.new.items ≡ places.old.items ++ placed_compact target.now section.now table.now wide.now) }
+    ensures few { OnOk result (length places.new.items ≤ length places.old.items + length section.now) }
     ensures refused { OnErr result (IsRefused (M.refuses memory.now)
         (length places.old.items + length section.now)) }
 {

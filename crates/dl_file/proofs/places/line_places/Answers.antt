@@ -1,6 +1,7 @@
 use Rattle.std.proofs.Common.{◌≤◌, ◌-◌, ◌∙◌, arith}
 use Rattle.dl_file.specs.OneByOne.{placed_upto}
 use Rattle.dl_file.specs.Places.{line_places}
+use Rattle.dl_file.proofs.BoundLemmas.{are_few}
 use Rattle.dl_file.proofs.PlaceLemmas.{err_map, fault_listed, ok_map, places_listed}
 use Rattle.dl_file.proofs.RelocationLemmas.{some_relocations}
 use Rattle.dl_file.proofs.places.line_places.Goals as goal
@@ -28,3 +29,9 @@ returns-clause-stops g c = λ f is short.
     (λ same. places_listed e f line sections told some few ∙ same)
     (λ needs. some_relocations e f line.number sections told some) stops)
     (c.list_places.ensures.stops f is short)
+
+pub list_places-requires-clause-sections : goal.list_places-requires-clause-sections
+list_places-requires-clause-sections g c = λ f is short.
+    are_few c.args.elf.now f c.args.line.now.number c.in_ok-relocations.relocations.count
+    (c.in_ok-relocations.ensures.found f is short).0 c.if-relocations-eq0.false
+    (omega (arith, c.if-relocations-gt-MOST_RELOCATIONS.false))
