@@ -16,12 +16,10 @@ IsApp-subcommand old sub new A S added o i =
     (added.shape i.1 ∙ ap₂ with_subcommand o.0 (ap (λ (a : App). a.top) i.0), added.globals ∙ ap₂ ◌||◌ o.1 i.1)
 
 -- texts that were copied
-pub texts_copied : {E : Type 0} (clone : Bor (List ℕ) → Bor (List ℕ) → Type 0) (found : List (Bor (List ℕ)))
-    (rows : Option (List Text)) (r : Result (Vec (Bor (List ℕ)) Global) E)
-    → IfOk r (λ v. ((x y : Bor (List ℕ)) → clone x y → y ≡ x) → v.items ≡ found) → Some (map (λ s. s.now) found) ≡ rows
-    → ((x y : Bor (List ℕ)) → clone x y → y ≡ x)
+pub texts_copied : {E : Type 0} (found : List (Bor (List ℕ))) (rows : Option (List Text))
+    (r : Result (Vec (Bor (List ℕ)) Global) E) → IfOk r (λ v. v.items ≡ found) → Some (map (λ s. s.now) found) ≡ rows
     → IfOk r (λ v. map (λ s. s.now) v.items ≡ unwrap_or rows [])
-texts_copied clone found rows (Ok v) copied said same =
-    ap (λ (l : List (Bor (List ℕ))). map (λ s. s.now) l) (copied same)
+texts_copied found rows (Ok v) copied said =
+    ap (λ (l : List (Bor (List ℕ))). map (λ s. s.now) l) copied
     ∙ ap (λ (o : Option (List Text)). unwrap_or o []) said
-texts_copied clone found rows (Err error) copied said same = tt
+texts_copied found rows (Err error) copied said = tt

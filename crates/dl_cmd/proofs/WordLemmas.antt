@@ -1,5 +1,5 @@
 -- Words without a fault ask for a job.
-use Rattle.std.proofs.Common.{◌≡◌, ◌∙◌, ◌&&◌, ◌||◌, Bool, ℕ, true, false, not, List, [], ◌∷◌, Option, Some, None, Result}
+use Rattle.std.proofs.Common.{◌≡◌, ◌∙◌, ◌&&◌, ◌||◌, Bool, ℕ, true, false, not, List, [], ◌∷◌, Option, Some, None, Result, Ok, Err}
 use Rattle.std.proofs.Common.{IsErrAnd, refl, sym, ap, ap₂, subst, codes, is_some, true≢false}
 use Rattle.std.proofs.lemmas.Result.{IfOk-weaker}
 use Rattle.std.specs.Prelude.{⊤, Box, IfOk, find, fold, if◌then◌else◌, option_map, unwrap_or}
@@ -21,7 +21,7 @@ use Rattle.clap.specs.Walk.{subcommand_or_other, to_positional, trailing, value,
 use Rattle.clap.specs.Walk.{finished, settled, word_met}
 use Rattle.clap.specs.declared.error.Error.{Error}
 use Rattle.clap.specs.declared.error.kind.ErrorKind.{ErrorKind}
-use Rattle.clap.specs.declared.error.kind.ErrorKind.TheVariants.{DisplayHelp, InvalidSubcommand}
+use Rattle.clap.specs.declared.error.kind.ErrorKind.TheVariants.{DisplayHelp, InvalidSubcommand, OutOfMemory}
 use Rattle.clap.specs.declared.parser.matches.SubCommand.{SubCommand}
 use Rattle.clap.specs.declared.parser.matches.ArgMatches.TheViews.{out-SubCommand}
 use Rattle.clap.specs.Words.{is_simple, kind_of, subcommand_of, subcommand_rows}
@@ -29,6 +29,7 @@ use Rattle.clap.proofs.FaultLemmas.{failed_up, first_fails}
 use Rattle.clap.proofs.WalkLemmas.{both}
 use Rattle.dl_cmd.specs.CommandLine.{command_line}
 use Rattle.dl_cmd.specs.Job.{Request}
+use Rattle.dl_cmd.specs.Memory.{WantsRefused, clap_refused}
 use Rattle.dl_cmd.specs.Refusals.{refusal_of, word_faults}
 use Rattle.dl_cmd.specs.Words.{request_of, requested}
 
@@ -278,6 +279,11 @@ failed r e app words is kinds err =
     failed_up r e (λ _. word_faults words ≡ []) (word_faults words) err
     (first_fails (fault_of command_line words) _ (kind_of e)
     (subst (λ (a : App). HasKind (fault_of a words) e) is (kinds (rw is refl))))
+
+-- want of memory that clap answers was refused
+pub clap_wants : {T : Type 0} (r : Result T Error) (e : Error) → IsErrAnd r (λ y. y ≡ e) → WantsRefused r
+clap_wants (Ok x) e err = tt
+clap_wants (Err y) e err = λ wants. clap_refused e (subst (λ (z : Error). kind_of z ≡ OutOfMemory) err wants)
 
 -- past a parse the kinds are those of the job
 pub refused_by : {T : Type 0} (r : Result T Error) (words : List Text) (request : Option Request)

@@ -3,5 +3,6 @@ pub mod CommandLine
 pub mod Job
 pub mod Words
 pub mod Refusals
+pub mod Memory
 pub mod Laws
 pub mod Address

@@ -1,16 +1,18 @@
 //! The command line: its subcommands, with their help.
-ghost use Rattle.std.specs.Prelude.{IfOk, codes};
-ghost use Rattle.clap.specs.Words.{App, Rule, with_rule, with_subcommand};
+ghost use Rattle.std.specs.Prelude.{IfOk, OnErr, codes};
+ghost use Rattle.clap.specs.Words.{AddsArg, AddsSubcommand, App, Rule, with_rule, with_subcommand};
 ghost use Rattle.dl_cmd.specs.CommandLine.{IsApp, IsRule, addr_app, check_app, command_line, copy_app, dump_app, find_app};
 ghost use Rattle.dl_cmd.specs.CommandLine.{index_app, top_app, with_addresses, with_input, with_keep_going, with_making};
 ghost use Rattle.dl_cmd.specs.CommandLine.{with_printing, with_settings, with_strings, with_to_5, with_units};
 ghost use Rattle.dl_cmd.specs.CommandLine.{with_units_of_file};
+ghost use Rattle.dl_cmd.specs.Memory.{WasRefused};
 
 use crate::arguments::{
     addr_file, address, address_size, addresses, all, base, big, comp_dir, exe, file, index_file,
     json, letter, line_str, list, made_of, older, op, output, section, strings, switch, version_5,
 };
 use crate::job::Job;
+use crate::library::refused;
 use clap::{Arg, Command};
 use std::alloc::{AllocError, Global};
 
@@ -25,15 +27,38 @@ const WITHOUT_FILE: &str =
 const WITHOUT_ELF_FILE: &str =
     "Where FILE is - the bytes of a section .debug_line are read from standard input, not an ELF file.";
 
+/// The command with one argument more.
+fn take_arg<'a>(command: Command<'a>, arg: Arg<'a>) -> Result<Command<'a>, AllocError>
+    ensures added { IfOk result (λ r. AddsArg command.entry arg.entry r) }
+    ensures refused { OnErr result WasRefused }
+{
+    match command.arg(arg) {
+        Ok(command) => Ok(command),
+        Err(error) => Err(refused(error)),
+    }
+}
+
+/// The command line with one subcommand more.
+fn take_subcommand<'a>(line: Command<'a>, command: Command<'a>) -> Result<Command<'a>, AllocError>
+    ensures added { IfOk result (λ r. AddsSubcommand line.entry command.entry r) }
+    ensures refused { OnErr result WasRefused }
+{
+    match line.subcommand(command) {
+        Ok(line) => Ok(line),
+        Err(error) => Err(refused(error)),
+    }
+}
+
 /// The command with one argument more, where it could be made so far.
 fn with_arg<'a>(
     command: Result<Command<'a>, AllocError>,
     arg: Arg<'a>,
 ) -> Result<Command<'a>, AllocError>
-    ensures { (a : App) (r : Rule) → IfOk command.entry (IsApp a) → IsRule r arg.entry
+    ensures app { (a : App) (r : Rule) → IfOk command.entry (IsApp a) → IsRule r arg.entry
         → IfOk result (IsApp (with_rule a r)) }
+    ensures refused { OnErr command.entry WasRefused → OnErr result WasRefused }
 {
-    command?.arg(arg)
+    take_arg(command?, arg)
 }
 
 /// The command line with one subcommand more, where that could be made.
@@ -41,10 +66,11 @@ fn with_command<'a>(
     line: Command<'a>,
     command: Result<Command<'a>, AllocError>,
 ) -> Result<Command<'a>, AllocError>
-    ensures { (a sub : App) → IsApp a line.entry → IfOk command.entry (IsApp sub)
+    ensures app { (a sub : App) → IsApp a line.entry → IfOk command.entry (IsApp sub)
         → IfOk result (IsApp (with_subcommand a sub.top)) }
+    ensures refused { OnErr command.entry WasRefused → OnErr result WasRefused }
 {
-    line.subcommand(command?)
+    take_subcommand(line, command?)
 }
 
 /// Which units of versions 2 to 4 are read.
@@ -52,7 +78,8 @@ fn add_units<'a>(
     alloc: Global,
     command: Result<Command<'a>, AllocError>,
 ) -> Result<Command<'a>, AllocError>
-    ensures { (a : App) → IfOk command.entry (IsApp a) → IfOk result (IsApp (with_units a)) }
+    ensures app { (a : App) → IfOk command.entry (IsApp a) → IfOk result (IsApp (with_units a)) }
+    ensures refused { OnErr command.entry WasRefused → OnErr result WasRefused }
 {
     add_units_of_file(alloc, with_arg(command, older(alloc)))
 }
@@ -62,7 +89,8 @@ fn add_units_of_file<'a>(
     alloc: Global,
     command: Result<Command<'a>, AllocError>,
 ) -> Result<Command<'a>, AllocError>
-    ensures { (a : App) → IfOk command.entry (IsApp a) → IfOk result (IsApp (with_units_of_file a)) }
+    ensures app { (a : App) → IfOk command.entry (IsApp a) → IfOk result (IsApp (with_units_of_file a)) }
+    ensures refused { OnErr command.entry WasRefused → OnErr result WasRefused }
 {
     let command = with_arg(command, address_size(alloc));
     with_arg(command, version_5(alloc))
@@ -73,7 +101,8 @@ fn add_to_5<'a>(
     alloc: Global,
     command: Result<Command<'a>, AllocError>,
 ) -> Result<Command<'a>, AllocError>
-    ensures { (a : App) → IfOk command.entry (IsApp a) → IfOk result (IsApp (with_to_5 a)) }
+    ensures app { (a : App) → IfOk command.entry (IsApp a) → IfOk result (IsApp (with_to_5 a)) }
+    ensures refused { OnErr command.entry WasRefused → OnErr result WasRefused }
 {
     let to_5 = switch(
         alloc,
@@ -91,7 +120,8 @@ fn add_keep_going<'a>(
     alloc: Global,
     command: Result<Command<'a>, AllocError>,
 ) -> Result<Command<'a>, AllocError>
-    ensures { (a : App) → IfOk command.entry (IsApp a) → IfOk result (IsApp (with_keep_going a)) }
+    ensures app { (a : App) → IfOk command.entry (IsApp a) → IfOk result (IsApp (with_keep_going a)) }
+    ensures refused { OnErr command.entry WasRefused → OnErr result WasRefused }
 {
     let keep_going = switch(
         alloc,
@@ -105,7 +135,8 @@ fn add_input<'a>(
     alloc: Global,
     command: Result<Command<'a>, AllocError>,
 ) -> Result<Command<'a>, AllocError>
-    ensures { (a : App) → IfOk command.entry (IsApp a) → IfOk result (IsApp (with_input a)) }
+    ensures app { (a : App) → IfOk command.entry (IsApp a) → IfOk result (IsApp (with_input a)) }
+    ensures refused { OnErr command.entry WasRefused → OnErr result WasRefused }
 {
     with_arg(with_arg(command, big(alloc)), file(alloc))
 }
@@ -114,7 +145,8 @@ fn add_strings<'a>(
     alloc: Global,
     command: Result<Command<'a>, AllocError>,
 ) -> Result<Command<'a>, AllocError>
-    ensures { (a : App) → IfOk command.entry (IsApp a) → IfOk result (IsApp (with_strings a)) }
+    ensures app { (a : App) → IfOk command.entry (IsApp a) → IfOk result (IsApp (with_strings a)) }
+    ensures refused { OnErr command.entry WasRefused → OnErr result WasRefused }
 {
     let command = with_arg(command, big(alloc));
     let command = with_arg(command, line_str(alloc));
@@ -123,7 +155,8 @@ fn add_strings<'a>(
 }
 
 fn dump<'a>(alloc: Global) -> Result<Command<'a>, AllocError>
-    ensures { IfOk result (IsApp dump_app) }
+    ensures app { IfOk result (IsApp dump_app) }
+    ensures refused { OnErr result WasRefused }
 {
     let command = Command::new(alloc, "dump")
         .before_help(WITHOUT_FILE)
@@ -136,7 +169,8 @@ fn dump<'a>(alloc: Global) -> Result<Command<'a>, AllocError>
 }
 
 fn check<'a>(alloc: Global) -> Result<Command<'a>, AllocError>
-    ensures { IfOk result (IsApp check_app) }
+    ensures app { IfOk result (IsApp check_app) }
+    ensures refused { OnErr result WasRefused }
 {
     let command = Command::new(alloc, "check")
         .before_help(WITHOUT_FILE)
@@ -147,7 +181,8 @@ fn check<'a>(alloc: Global) -> Result<Command<'a>, AllocError>
 }
 
 fn find<'a>(alloc: Global) -> Result<Command<'a>, AllocError>
-    ensures { IfOk result (IsApp find_app) }
+    ensures app { IfOk result (IsApp find_app) }
+    ensures refused { OnErr result WasRefused }
 {
     let command = Command::new(alloc, "find")
         .before_help(WITHOUT_FILE)
@@ -162,7 +197,8 @@ fn find<'a>(alloc: Global) -> Result<Command<'a>, AllocError>
 }
 
 fn copy<'a>(alloc: Global) -> Result<Command<'a>, AllocError>
-    ensures { IfOk result (IsApp copy_app) }
+    ensures app { IfOk result (IsApp copy_app) }
+    ensures refused { OnErr result WasRefused }
 {
     let command = Command::new(alloc, "copy")
         .before_help(WITHOUT_FILE)
@@ -179,7 +215,8 @@ fn add_printing<'a>(
     alloc: Global,
     command: Result<Command<'a>, AllocError>,
 ) -> Result<Command<'a>, AllocError>
-    ensures { (a : App) → IfOk command.entry (IsApp a) → IfOk result (IsApp (with_printing a)) }
+    ensures app { (a : App) → IfOk command.entry (IsApp a) → IfOk result (IsApp (with_printing a)) }
+    ensures refused { OnErr command.entry WasRefused → OnErr result WasRefused }
 {
     let addresses = letter(
         alloc,
@@ -202,7 +239,8 @@ fn add_settings<'a>(
     alloc: Global,
     command: Result<Command<'a>, AllocError>,
 ) -> Result<Command<'a>, AllocError>
-    ensures { (a : App) → IfOk command.entry (IsApp a) → IfOk result (IsApp (with_settings a)) }
+    ensures app { (a : App) → IfOk command.entry (IsApp a) → IfOk result (IsApp (with_settings a)) }
+    ensures refused { OnErr command.entry WasRefused → OnErr result WasRefused }
 {
     let command = add_printing(alloc, command);
     let hex = switch(alloc, "hex", "Read digits without 0x as hexadecimal too");
@@ -222,7 +260,8 @@ fn add_addresses<'a>(
     alloc: Global,
     command: Result<Command<'a>, AllocError>,
 ) -> Result<Command<'a>, AllocError>
-    ensures { (a : App) → IfOk command.entry (IsApp a) → IfOk result (IsApp (with_addresses a)) }
+    ensures app { (a : App) → IfOk command.entry (IsApp a) → IfOk result (IsApp (with_addresses a)) }
+    ensures refused { OnErr command.entry WasRefused → OnErr result WasRefused }
 {
     let command = add_units(alloc, add_settings(alloc, command));
     let command = with_arg(command, comp_dir(alloc));
@@ -236,7 +275,8 @@ fn add_addresses<'a>(
 }
 
 fn addr<'a>(alloc: Global) -> Result<Command<'a>, AllocError>
-    ensures { IfOk result (IsApp addr_app) }
+    ensures app { IfOk result (IsApp addr_app) }
+    ensures refused { OnErr result WasRefused }
 {
     let command = Command::new(alloc, "addr")
         .before_help(WITHOUT_ELF_FILE)
@@ -253,7 +293,8 @@ fn add_making<'a>(
     alloc: Global,
     command: Result<Command<'a>, AllocError>,
 ) -> Result<Command<'a>, AllocError>
-    ensures { (a : App) → IfOk command.entry (IsApp a) → IfOk result (IsApp (with_making a)) }
+    ensures app { (a : App) → IfOk command.entry (IsApp a) → IfOk result (IsApp (with_making a)) }
+    ensures refused { OnErr command.entry WasRefused → OnErr result WasRefused }
 {
     let command = add_keep_going(alloc, with_arg(command, all(alloc)));
     let command = with_arg(command, section(alloc));
@@ -262,7 +303,8 @@ fn add_making<'a>(
 }
 
 fn index<'a>(alloc: Global) -> Result<Command<'a>, AllocError>
-    ensures { IfOk result (IsApp index_app) }
+    ensures app { IfOk result (IsApp index_app) }
+    ensures refused { OnErr result WasRefused }
 {
     let command = Command::new(alloc, "index")
         .about(
@@ -297,7 +339,8 @@ fn program<'a>(alloc: Global) -> Command<'a>
 
 /// The whole command line.
 pub fn make_command_line<'a>(alloc: Global) -> Result<Command<'a>, AllocError>
-    ensures { IfOk result (IsApp command_line) }
+    ensures app { IfOk result (IsApp command_line) }
+    ensures refused { OnErr result WasRefused }
 {
     let line = with_command(program(alloc), addr(alloc))?;
     let line = with_command(line, index(alloc))?;
@@ -308,7 +351,9 @@ pub fn make_command_line<'a>(alloc: Global) -> Result<Command<'a>, AllocError>
 }
 
 /// The subcommand that a job is asked for with, by itself.
-pub fn command_of<'a>(alloc: Global, job: &Job<'_>) -> Result<Command<'a>, AllocError> {
+pub fn command_of<'a>(alloc: Global, job: &Job<'_>) -> Result<Command<'a>, AllocError>
+    ensures refused { OnErr result WasRefused }
+{
     match job {
         Job::Addr(_) => addr(alloc),
         Job::Index(_) => index(alloc),

@@ -6,6 +6,7 @@ mod arguments;
 mod command_line;
 mod job;
 mod laws;
+mod library;
 mod refusal;
 mod words;
 

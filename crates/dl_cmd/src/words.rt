@@ -1,16 +1,18 @@
 //! The words of the command line, and the job that they ask for.
 
-ghost use Rattle.std.specs.Prelude.{◌≡◌, [], Option, IfOk, is_some, map, option_map, true};
+ghost use Rattle.std.specs.Prelude.{◌≡◌, [], Option, IfOk, OnErr, is_some, map, option_map, true};
 ghost use Rattle.std.specs.Option.{option_map_or};
 ghost use Rattle.clap.specs.Words.{FailsBy, found_of, kind_of, rows_of, subcommand_of};
 ghost use Rattle.dl_cmd.specs.CommandLine.{command_line};
 ghost use Rattle.dl_cmd.specs.Job.{addr_words_made, index_words_made, request_made, unit_words_made};
+ghost use Rattle.dl_cmd.specs.Memory.{WantsRefused, WasRefused};
 ghost use Rattle.dl_cmd.specs.Refusals.{refusal_of, word_faults};
 ghost use Rattle.dl_cmd.specs.Words.{addr_words_of, byte_of, file_and_addresses, flag_of, request_of, requested};
 ghost use Rattle.dl_cmd.specs.Words.{index_words_of, text_of, texts_of, unit_words_of, word_status_of};
 
 use crate::command_line::{command_of, make_command_line};
 use crate::job::{AddrWords, IndexWords, Job, UnitWords};
+use crate::library::refused;
 use crate::refusal::{Refusal, why_refused};
 use clap::error::ErrorKind;
 use clap::{ArgMatches, Error};
@@ -37,11 +39,22 @@ fn flag(matches: &ArgMatches<'_>, id: &str) -> bool
     }
 }
 
+fn copied<'a>(alloc: Global, texts: &[&'a str]) -> Result<Vec<&'a str>, AllocError>
+    ensures texts { IfOk result (λ v. v.items ≡ texts.now) }
+    ensures refused { OnErr result WasRefused }
+{
+    match texts.to_vec(alloc) {
+        Ok(copied) => Ok(copied),
+        Err(error) => Err(refused(error)),
+    }
+}
+
 fn texts<'a>(alloc: Global, matches: &ArgMatches<'a>, id: &str) -> Result<Vec<&'a str>, AllocError>
-    ensures { IfOk result (λ v. map (λ s. s.now) v.items ≡ texts_of id.now (rows_of (found_of matches.now))) }
+    ensures texts { IfOk result (λ v. map (λ s. s.now) v.items ≡ texts_of id.now (rows_of (found_of matches.now))) }
+    ensures refused { OnErr result WasRefused }
 {
     match matches.get_strs(id) {
-        Some(found) => found.to_vec(alloc),
+        Some(found) => copied(alloc, found),
         None => Ok(Vec::new(alloc)),
     }
 }
@@ -52,16 +65,19 @@ fn file_and_addresses<'a>(
     first: Option<&'a str>,
     others: Vec<&'a str>,
 ) -> Result<(Option<&'a str>, Vec<&'a str>), AllocError>
-    ensures { IfOk result (λ r. (option_map (λ s. s.now) r.0, map (λ s. s.now) r.1.items)
+    ensures words { IfOk result (λ r. (option_map (λ s. s.now) r.0, map (λ s. s.now) r.1.items)
         ≡ file_and_addresses (option_map (λ s. s.now) exe.entry) (option_map (λ s. s.now) first.entry)
         (map (λ s. s.now) others.entry.items)) }
+    ensures refused { OnErr result WasRefused }
 {
     let (Some(exe), Some(first)) = (exe, first) else {
         return Ok((exe.or(first), others));
     };
     let mut addresses = others;
-    addresses.insert(0, first)?;
-    Ok((Some(exe), addresses))
+    match addresses.insert(0, first) {
+        Ok(()) => Ok((Some(exe), addresses)),
+        Err(error) => Err(refused(error.into())),
+    }
 }
 
 fn unit_words<'a>(matches: &ArgMatches<'a>) -> UnitWords<'a>
@@ -75,7 +91,8 @@ fn unit_words<'a>(matches: &ArgMatches<'a>) -> UnitWords<'a>
 }
 
 fn addr_words<'a>(alloc: Global, matches: &ArgMatches<'a>) -> Result<AddrWords<'a>, AllocError>
-    ensures { IfOk result (λ w. addr_words_made w ≡ addr_words_of (rows_of (found_of matches.now))) }
+    ensures words { IfOk result (λ w. addr_words_made w ≡ addr_words_of (rows_of (found_of matches.now))) }
+    ensures refused { OnErr result WasRefused }
 {
     let others = texts(alloc, matches, "address")?;
     let (file, addresses) = file_and_addresses(
@@ -123,8 +140,9 @@ fn job_of<'a>(
     name: &str,
     matches: &ArgMatches<'a>,
 ) -> Result<Option<Job<'a>>, AllocError>
-    ensures { IfOk result (λ job. option_map request_made job
+    ensures request { IfOk result (λ job. option_map request_made job
         ≡ request_of name.now (rows_of (found_of matches.now))) }
+    ensures refused { OnErr result WasRefused }
 {
     let job = match name {
         "addr" => Job::Addr(addr_words(alloc, matches)?),
@@ -167,17 +185,28 @@ fn job_of<'a>(
 
 /// The error of a job that isn't done, with the usage of its subcommand.
 fn error_of(alloc: Global, job: &Job<'_>, refusal: Refusal) -> Result<Error, AllocError>
-    ensures { IfOk result (λ e. kind_of e ≡ refusal.kind) }
+    ensures kind { IfOk result (λ e. kind_of e ≡ refusal.kind) }
+    ensures refused { OnErr result WasRefused }
 {
     let command = command_of(alloc, job)?;
-    let name = format!(in alloc; "dwline {}", command.get_name())?;
-    let mut command = command.bin_name(name.as_str())?;
-    command.error(refusal.kind, refusal.message)
+    let name = match format!(in alloc; "dwline {}", command.get_name()) {
+        Ok(name) => name,
+        Err(error) => return Err(refused(error)),
+    };
+    let mut command = match command.bin_name(name.as_str()) {
+        Ok(command) => command,
+        Err(error) => return Err(refused(error)),
+    };
+    match command.error(refusal.kind, refusal.message) {
+        Ok(error) => Ok(error),
+        Err(error) => Err(refused(error)),
+    }
 }
 
 /// The job, where its words may stand together.
 fn allowed<'a>(alloc: Global, job: Job<'a>) -> Result<Job<'a>, Error>
     ensures kinds { FailsBy (refusal_of (request_made job.entry)) result }
+    ensures refused { WantsRefused result }
     ensures same { IfOk result (λ r. r ≡ job.entry) }
 {
     match why_refused(&job) {
@@ -193,6 +222,7 @@ fn asked_job<'a>(
     matches: &ArgMatches<'a>,
 ) -> Result<Option<Job<'a>>, Error>
     ensures kinds { FailsBy (option_map_or refusal_of (request_of name.now (rows_of (found_of matches.now))) []) result }
+    ensures refused { WantsRefused result }
     ensures same { IfOk result (λ job. option_map request_made job
         ≡ request_of name.now (rows_of (found_of matches.now))) }
 {
@@ -204,12 +234,14 @@ fn asked_job<'a>(
 
 /// The job that the words ask for, the program's name first. There is one wherever there is no error.
 ///
-/// The error's text says what isn't understood, or is the help that was asked for.
+/// The error's text says what isn't understood, or is the help that was asked for. It is want of memory only where the
+/// standard library or clap was refused some.
 pub fn read_job<'a>(alloc: Global, words: &'a [&'a str]) -> Result<Option<Job<'a>>, Error>
     ensures job { IfOk result (λ job. option_map request_made job
         ≡ requested (subcommand_of command_line (map (λ w. w.now) words.entry.now))) }
     ensures some { IfOk result (λ job. is_some job ≡ true) }
     ensures kinds { FailsBy (word_faults (map (λ w. w.now) words.entry.now)) result }
+    ensures refused { WantsRefused result }
 {
     let matches = make_command_line(alloc)?.try_get_matches_from(words)?;
     match matches.subcommand() {

@@ -1,4 +1,4 @@
 use Rattle.dl_cmd.proofs.command_line.add_units.Goals as goal
 
-pub returns : goal.returns
-returns c = λ a made. c.add_units_of_file.ensures _ (c.with_arg.ensures a _ made c.older.ensures)
+pub returns-clause-app : goal.returns-clause-app
+returns-clause-app c = λ a made. c.add_units_of_file.ensures.app _ (c.with_arg.ensures.app a _ made c.older.ensures)

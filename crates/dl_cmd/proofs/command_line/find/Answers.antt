@@ -2,9 +2,9 @@ use Rattle.std.proofs.Common.{codes, rules}
 use Rattle.clap.specs.Words.{new_app}
 use Rattle.dl_cmd.proofs.command_line.find.Goals as goal
 
-pub returns : goal.returns
-returns c =
-    let one = c.with_arg-command.ensures (new_app (codes "find")) _ (search rules) c.address.ensures in
-    let two = c.with_arg-command-2.ensures _ _ one c.op.ensures in
-    let three = c.with_arg-command-3.ensures _ _ two c.section.ensures in
-    c.add_strings.ensures _ (c.add_units.ensures _ three)
+pub returns-clause-app : goal.returns-clause-app
+returns-clause-app c =
+    let one = c.with_arg-command.ensures.app (new_app (codes "find")) _ (search rules) c.address.ensures in
+    let two = c.with_arg-command-2.ensures.app _ _ one c.op.ensures in
+    let three = c.with_arg-command-3.ensures.app _ _ two c.section.ensures in
+    c.add_strings.ensures.app _ (c.add_units.ensures.app _ three)

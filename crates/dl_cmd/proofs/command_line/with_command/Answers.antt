@@ -7,7 +7,7 @@ use Rattle.dl_cmd.specs.CommandLine.{IsApp}
 use Rattle.dl_cmd.proofs.CommandLineLemmas.{IsApp-subcommand}
 use Rattle.dl_cmd.proofs.command_line.with_command.Goals as goal
 
-pub returns : goal.returns
-returns c = λ a sub app made.
+pub returns-clause-app : goal.returns-clause-app
+returns-clause-app c = λ a sub app made.
     let is = subst (λ (x : Result Command AllocError). IfOk x (IsApp sub)) c.in_ok-command.was made in
-    IfOk-weaker _ _ _ (λ new added. IsApp-subcommand _ _ new _ _ added app is) c.subcommand.ensures
+    IfOk-weaker _ _ _ (λ new added. IsApp-subcommand _ _ new _ _ added app is) c.take_subcommand.ensures.added
