@@ -96,7 +96,7 @@ none_copied made order p none (visit ∷ visits) = none_copied made order (visit
     one (goes offset rows text) (of_end (Some h)) none e =
         ended (unit_of order (made offset h) rows) text offset (refusal (made offset h) rows) e
 
-pub copies_never_read : {M : Type 0} (Refused : M → Type 0) (first : Copier M) (visits : List Visit)
-    → ¬ (copy_story Refused).refuses first visits fault.Read
-copies_never_read Refused first visits =
+pub copies_never_read : {M : Type 0} (refuses : M → ℕ → Type 0) (first : Copier M) (visits : List Visit)
+    → ¬ (copy_story refuses).refuses first visits fault.Read
+copies_never_read refuses first visits =
     none_copied (made_by first.becomes) first.program.order (goes first.unit [] []) (λ e. absurd cc) visits

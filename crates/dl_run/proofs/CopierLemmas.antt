@@ -1,15 +1,19 @@
 -- How a copier goes on, and what stops it.
-use Rattle.dl_run.proofs.Names.{◌++◌, ◌+◌, ◌<◌, ◌∙◌, ◌∷◌, ◌≡◌, [], ap, Appends, Appends-nil, arith, bytes_of_rows}
+use Rattle.dl_memory.specs.Refusals.{IsRefused}
+use Rattle.dl_emit.specs.declared.fault.EmitFault.TheVariants.{RowRange}
+use Rattle.dl_emit.specs.declared.program.TheConstants.{ROW}
+use Rattle.dl_run.proofs.Names.{◌*◌, ◌≤◌, ◌++◌, ◌+◌, ◌<◌, ◌∙◌, ◌∷◌, ◌≡◌, [], ap, Appends, Appends-nil, arith, bytes_of_rows}
 use Rattle.dl_run.proofs.Names.{Copier, copy_story, Copying, EmitFault, Err, fold-append, goes, HasOut-pending}
 use Rattle.dl_run.proofs.Names.{HasPrinted, HasPrinted-flushed, HasPrinted-more, HasPrinted-nothing, header_bytes}
 use Rattle.dl_run.proofs.Names.{header_told, HeaderData, IsGrown, IsGrowth, length, length-append, length-drop, List}
-use Rattle.dl_run.proofs.Names.{made_by, None, of_end, of_header, of_open, of_row, of_version, Ok, Option, Order}
-use Rattle.dl_run.proofs.Names.{Params, Printed, PrintsPart, program_len, ProgramData, refl, refusal, Result, Row}
+use Rattle.dl_run.proofs.Names.{made_by, None, of_end, of_header, of_open, of_row, of_version, Ok, Option, option_map, Order}
+use Rattle.dl_run.proofs.Names.{Params, Printed, PrintsPart, program_len, ProgramData, refl, refusal, Result, Row, row_count}
 use Rattle.dl_run.proofs.Names.{rows_refusal, RunFault, Some, StopsIn, sym, take, TellsOut, TellsOut-front, told_to}
 use Rattle.dl_run.proofs.Names.{unit_of, Visit, visited, visits, Write, ℕ, ⊤}
 use Rattle.dl_run.proofs.Names.fault
 use Rattle.dl_run.proofs.Fronts.{none_is_some, value_same, neither}
 use Rattle.dl_run.proofs.HeadersTold.{header_told-append}
+use Rattle.dl_run.proofs.RowCounts.{growth_more, no_fewer, row_more}
 
 -- ---- the program of the current unit
 
@@ -64,6 +68,13 @@ unit_text p now h rows first last grown accepted same f l =
     let held = bytes_of_rows p h.params rows grown (neither (rows_refusal h.params rows) _ accepted).0 in
     rw (f, l, same, held) refl
 
+-- a program of no row has none
+pub none_yet : (p : ProgramData) (order : Order) (h : Params) → IsGrown p order h [] → p.rows ≡ 0
+none_yet p order h g = by p.refused refl g.refused where
+  by : (o : Option ℕ) → p.refused ≡ o → option_map RowRange o ≡ None → p.rows ≡ 0
+  by None e is = (g.holds e).count
+  by (Some i) e is = absurd cc
+
 -- what stops at a part of a unit stops at the unit
 pub front_stops : (old new : Option (List ℕ)) (before after : Printed) (refused : Option EmitFault) (offset : ℕ)
     (part rest unit : List ℕ) (f : RunFault) → (refused ≡ None → part ++ rest ≡ unit)
@@ -94,14 +105,15 @@ module _ {M : Type 0} {first old : Copier M} {start held : Option (List ℕ)} {v
       → new.memory.now ≡ old.memory.now → new.becomes ≡ old.becomes → new.program.order ≡ old.program.order
       → visited (made_by first.becomes) first.program.order (goes old.unit s.rows s.text) visit
       ≡ goes new.unit rows text
-      → Grows new (visits ++ visit ∷ []) rows → HasPrinted start after text new.printer
-      → Copying first new start after (visits ++ visit ∷ [])
-  copies_on new after visit rows text memory becomes order comes grown printed = record {
+      → new.program.rows ≤ row_count (visits ++ visit ∷ []) → Grows new (visits ++ visit ∷ []) rows
+      → HasPrinted start after text new.printer → Copying first new start after (visits ++ visit ∷ [])
+  copies_on new after visit rows text memory becomes order comes few grown printed = record {
     rows = rows;
     text = text;
     becomes = becomes ∙ s.becomes;
     memory = memory ∙ s.memory;
     order = order ∙ s.order;
+    few = few;
     told = told_more visit ∙ comes;
     grown = grown;
     printed = printed;
@@ -117,30 +129,50 @@ module _ {M : Type 0} {first old : Copier M} {start held : Option (List ℕ)} {v
     becomes = becomes ∙ s.becomes;
     memory = memory ∙ s.memory;
     order = ap (λ (p : ProgramData). p.order) program ∙ s.order;
+    few = rw program s.few;
     told = rw unit s.told;
     grown = rw (becomes, program, unit) s.grown;
     printed = rw printer s.printed;
   }
 
+  -- its program has no more rows than were told
+  pub few_still : (now : ProgramData) (visit : Visit) → now ≡ old.program → now.rows ≤ row_count (visits ++ visit ∷ [])
+  few_still now visit same =
+      omega (arith, s.few, no_fewer visits visit, ap (λ (p : ProgramData). p.rows) same)
+
+  pub few_and_one : (now : ProgramData) (r : Row) → now.rows ≤ old.program.rows + 1
+      → now.rows ≤ row_count (visits ++ of_row r ∷ [])
+  few_and_one now r more = omega (arith, s.few, row_more visits r, more)
+
   -- it stops at a visit
-  pub stops_at_version : (Refused : M → Type 0) (offset version : ℕ)
-      → StopsIn (copy_story Refused) first old start held visits (of_version offset version ∷ [])
+  pub stops_at_version : (refuses : M → ℕ → Type 0) (offset version : ℕ)
+      → StopsIn (copy_story refuses) first old start held visits (of_version offset version ∷ [])
       (fault.ForeignUnit offset)
-  stops_at_version Refused offset version = (
+  stops_at_version refuses offset version = (
     of_version offset version ∷ [],
     [],
     refl,
     (visits, of_version offset version, refl, s, rw (told_more (of_version offset version)) refl),
   )
 
--- a growth was refused at the next visit
-pub stops_for_memory : {M : Type 0} (Refused : M → Type 0) {first new : Copier M} {start after : Option (List ℕ)}
-    {visits : List Visit} → Copying first new start after visits → (visit : Visit)
-    → IsGrowth (Refused new.memory.now) new.becomes visit
-    → StopsIn (copy_story Refused) first new start after visits (visit ∷ []) fault.NoMemory
-stops_for_memory Refused {first} {new} {start} {after} {visits} s visit growth =
-    let reason = rw (s.memory, s.becomes) at growth in
-    (visit ∷ [], [], refl, (visits, visit, refl, s, (visits, visit, refl, reason)))
+-- a growth was refused at the next visit; rows: no more than were told
+pub stops_for_memory : {M : Type 0} (refuses : M → ℕ → Type 0) {first new : Copier M} {start after : Option (List ℕ)}
+    {visits : List Visit} (s : Copying first new start after visits) (visit : Visit) (rows : ℕ) → rows ≤ row_count visits
+    → IsGrowth (IsRefused (refuses new.memory.now) (ROW * rows)) (refuses new.memory.now) new.becomes new.unit visit
+    → StopsIn (copy_story refuses) first new start after visits (visit ∷ []) fault.NoMemory
+stops_for_memory refuses {first} {new} {start} {after} {visits} s visit rows few growth =
+    let grows = growth_more (refuses new.memory.now) new.becomes new.unit visit
+    (λ (r : IsRefused (refuses new.memory.now) (ROW * rows)). (
+    let most : ROW * rows ≤ ROW * row_count visits = omega arith in
+    let fewer : r.0 ≤ ROW * row_count visits = omega (arith, r.1, most) in
+    let more : IsRefused (refuses new.memory.now) (ROW * row_count visits) = (r.0, fewer, r.2) in more
+    )) growth in
+    let reason = rw (s.memory, s.becomes) at grows in (
+      visit ∷ [],
+      [],
+      refl,
+      (visits, visit, refl, s, (visits, visit, refl, (new.unit, s.rows, s.text, s.told, reason))),
+    )
 
 -- a unit ended that has the header h
 module _ {M : Type 0} {first old : Copier M} {start held : Option (List ℕ)} {visits : List Visit}
@@ -167,17 +199,18 @@ module _ {M : Type 0} {first old : Copier M} {start held : Option (List ℕ)} {v
   copies_unit unit_printed =
       let printed = in_its_order (Ok tt) unit_printed in
       copies_on s new after (of_end (Some h)) [] (s.text ++ unit) memory becomes (ap (λ (p : ProgramData). p.order) program)
-      (rw (printed.0, unit_is) refl) (grows_no_more visits (Some h) new) (printed.1 start s.text s.printed)
+      (rw (printed.0, unit_is) refl) (few_still s new.program (of_end (Some h)) program)
+      (grows_no_more visits (Some h) new) (printed.1 start s.text s.printed)
 
-  stops_by : (Refused : M → Type 0) (f : RunFault) → Printing first.program.order its_header (Err f)
-      → StopsIn (copy_story Refused) first new start after visits (of_end (Some h) ∷ []) f
-  stops_by Refused (fault.Write out) printed = (
+  stops_by : (refuses : M → ℕ → Type 0) (f : RunFault) → Printing first.program.order its_header (Err f)
+      → StopsIn (copy_story refuses) first new start after visits (of_end (Some h) ∷ []) f
+  stops_by refuses (fault.Write out) printed = (
     of_end (Some h) ∷ [],
     [],
     refl,
     rw (told_more s (of_end (Some h)), printed.0) (printed.1 start s.text s.printed),
   )
-  stops_by Refused (fault.Emit offset f) printed = (
+  stops_by refuses (fault.Emit offset f) printed = (
     of_end (Some h) ∷ [],
     [],
     refl,
@@ -189,21 +222,22 @@ module _ {M : Type 0} {first old : Copier M} {start held : Option (List ℕ)} {v
       rw (told_more s (of_end (Some h)), printed.1, printed.0) refl,
     ),
   )
-  stops_by Refused f printed = absurd printed
+  stops_by refuses f printed = absurd printed
 
-  pub stops_at_unit : (Refused : M → Type 0) (f : RunFault) → Printing old.program.order std (Err f)
-      → StopsIn (copy_story Refused) first new start after visits (of_end (Some h) ∷ []) f
-  stops_at_unit Refused f printed = stops_by Refused f (in_its_order (Err f) printed)
+  pub stops_at_unit : (refuses : M → ℕ → Type 0) (f : RunFault) → Printing old.program.order std (Err f)
+      → StopsIn (copy_story refuses) first new start after visits (of_end (Some h) ∷ []) f
+  stops_at_unit refuses f printed = stops_by refuses f (in_its_order (Err f) printed)
 
 -- no visit was told yet
-pub begins : {M : Type 0} (first : Copier M) (start : Option (List ℕ)) → first.printer.pending ≡ [] → first.printer.out ≡ 0
-    → Copying first first start start []
-begins first start pending out = record {
+pub begins : {M : Type 0} (first : Copier M) (start : Option (List ℕ)) → first.program.rows ≡ 0
+    → first.printer.pending ≡ [] → first.printer.out ≡ 0 → Copying first first start start []
+begins first start no_row pending out = record {
   rows = [];
   text = [];
   becomes = refl;
   memory = refl;
   order = refl;
+  few = omega (arith, no_row);
   told = refl;
   grown = λ h told. absurd (none_is_some told);
   printed = HasPrinted-nothing start start first.printer (Appends-nil start) pending out;

@@ -1,16 +1,19 @@
 -- What `copy` answers and writes.
-use Rattle.dl_run.proofs.Names.{◌++◌, ◌∙◌, ◌∷◌, ◌≡◌, [], AllByRecursion, append-nil, append_assoc, Appends, AreMade}
+use Rattle.dl_run.proofs.Names.{◌*◌, ◌++◌, ◌∙◌, ◌∷◌, ◌≡◌, ◌≤◌, [], AllByRecursion, ap, append-nil, append_assoc, Appends, AreMade}
 use Rattle.dl_run.proofs.Names.{arith, concat, Copier, CopiesAs, copy_story, Copying, Dialect, EmitFault, ended_as}
 use Rattle.dl_run.proofs.Names.{ends, EndsAs, Err, foreign_in, goes, HasBegun, HasUnits, inl, inr, IsUnit, length}
 use Rattle.dl_run.proofs.Names.{List, Made, made_by, None, of_end, of_version, Ok, Option, Order, Progress, Ran, refl}
-use Rattle.dl_run.proofs.Names.{refusal, Result, Row, RunFault, same_from_push, section_visits, Settled, Some, Sound}
+use Rattle.dl_run.proofs.Names.{refusal, Result, Row, row_count, RunFault, same_from_push, section_visits, Settled, Some, Sound}
 use Rattle.dl_run.proofs.Names.{stop_in, stopped, StopsAt, Summary, sym, take, TellsOut, text_in, told_to, unit_of}
 use Rattle.dl_run.proofs.Names.{units_as, Visit, visited, VisitorStops, WithinUnit, Write, zero-add, ℕ}
 use Rattle.dl_run.proofs.Names.fault
+use Rattle.dl_memory.specs.Refusals.{IsRefused}
+use Rattle.dl_emit.specs.declared.program.TheConstants.{ROW}
 use Rattle.dl_run.proofs.CopierLemmas.{told_more}
 use Rattle.dl_run.proofs.CopyingSections.{StopIs, Now, Heard, heard_of, WantsBy}
 use Rattle.dl_run.proofs.Fronts.{none_is_some, value_same}
 use Rattle.dl_run.proofs.RangeLemmas.{KeepsRanges, too_long}
+use Rattle.dl_run.proofs.RowCounts.{few_rows_before, growth_more}
 use Rattle.dl_run.proofs.SectionLemmas.{has_front}
 
 -- what stops at a visit adds no copy
@@ -25,21 +28,25 @@ stop_adds made order offset rows text own (of_end (Some h)) f e =
       by unit (Some g) e = cc
 stop_adds made order offset rows text own visit f e = cc
 
-module _ {M : Type 0} (Refused : M → Type 0) (dialect : Dialect) (limit : ℕ) (bytes : List ℕ) (left : Option (List ℕ))
+module _ {M : Type 0} (refuses : M → ℕ → Type 0) (dialect : Dialect) (limit : ℕ) (bytes : List ℕ) (left : Option (List ℕ))
     (first new : Copier M) (start now : Option (List ℕ)) (own : first.program.order ≡ dialect.order)
     (ranges : KeepsRanges dialect (made_by first.becomes)) where
   abbrev made : Made
   made = made_by first.becomes
 
-  -- memory is wanted for the copy of these bytes
-  abbrev Wants : List ℕ → Type 0
-  Wants = WantsBy (Refused first.memory.now) first.becomes dialect
+  -- memory was refused, for no more bytes than this
+  abbrev Refused : Type 0
+  Refused = IsRefused (refuses first.memory.now) (ROW * length bytes)
+
+  -- memory is wanted for the copy of the bytes at an offset
+  abbrev Wants : (offset : ℕ) → List ℕ → Type 0
+  Wants = WantsBy Refused (refuses first.memory.now) first.becomes dialect
 
   abbrev Copied : Result Summary RunFault → Type 0
   Copied result = CopiesAs made Wants dialect limit bytes left start now result
 
   abbrev HeardSo : (n : ℕ) (units : List (List ℕ)) (b : List ℕ) (more : List Visit) (text : List ℕ) → Progress → Type 0
-  HeardSo = Heard (Refused first.memory.now) first.becomes made dialect
+  HeardSo = Heard Refused (refuses first.memory.now) first.becomes made dialect
 
   abbrev s : List ℕ
   s = take limit bytes
@@ -47,7 +54,7 @@ module _ {M : Type 0} (Refused : M → Type 0) (dialect : Dialect) (limit : ℕ)
   heard_in : (units : List (List ℕ)) (b : List ℕ) (heard more : List Visit) → AllByRecursion (IsUnit dialect) units
       → section_visits dialect units b ≡ heard ++ more → HeardSo 0 units b more [] (told_to first heard)
   heard_in units b heard more each e =
-      rw own (heard_of (Refused first.memory.now) first.becomes made dialect 0 first.unit (length (concat units)) [] units b heard more each (omega arith) e)
+      rw own (heard_of Refused (refuses first.memory.now) first.becomes made dialect 0 first.unit (length (concat units)) [] units b heard more each (omega arith) e)
 
   -- these units are copied, and their copies are out
   abbrev HasMade : List (List ℕ) → Type 0
@@ -55,7 +62,7 @@ module _ {M : Type 0} (Refused : M → Type 0) (dialect : Dialect) (limit : ℕ)
 
   -- without a fault all units are copied, and b isn't of another version
   all_copied : (units : List (List ℕ)) (b : List ℕ) → AllByRecursion (IsUnit dialect) units
-      → Settled (copy_story Refused) first start now (section_visits dialect units b) (Copying first new start now)
+      → Settled (copy_story refuses) first start now (section_visits dialect units b) (Copying first new start now)
       → (foreign_in dialect b ≡ None) × HasMade units
   all_copied units b each settled =
       let f = heard_in units b (section_visits dialect units b) [] each (simp append-nil) in
@@ -82,7 +89,7 @@ module _ {M : Type 0} (Refused : M → Type 0) (dialect : Dialect) (limit : ℕ)
       )
 
   module _ (units : List (List ℕ)) (b back : List ℕ) (begun : HasBegun dialect s units b back) (f : RunFault)
-      (stops : VisitorStops (copy_story Refused) first new start now (section_visits dialect units b) f) where
+      (stops : VisitorStops (copy_story refuses) first new start now (section_visits dialect units b) f) where
     has : HasUnits dialect s units (b ++ back)
     has = begun.has
 
@@ -97,20 +104,29 @@ module _ {M : Type 0} (Refused : M → Type 0) (dialect : Dialect) (limit : ℕ)
         cc (append_assoc (concat after) b back, append_assoc c tail back) in
         record { has = rw rest at (has_front dialect s units done after (b ++ back) all has); in_unit = within }
 
-    no_memory : Sound dialect b → StopsAt Refused first (stops.before ++ stops.visit ∷ []) fault.NoMemory
+    no_memory : Sound dialect b → StopsAt refuses first (stops.before ++ stops.visit ∷ []) fault.NoMemory
         → Copied (Err fault.NoMemory)
-    no_memory sound (before, visit, same, growth) =
+    no_memory sound (before, visit, same, (offset, rows, text, there, growth)) =
         let h = heard_in units b stops.before (stops.visit ∷ stops.more) has.each stops.whole in
         let is = rw stops.tells.told at h.now in
-        let visits = (same_from_push stops.before before stops.visit visit same).1 in
-        let a = is.2 stops.visit stops.more refl (rw visits growth) begun.in_unit sound in (
+        let visits = same_from_push stops.before before stops.visit visit same in
+        let here : goes new.unit stops.tells.rows stops.tells.text ≡ goes offset rows text =
+        sym stops.tells.told ∙ ap (told_to first) visits.0 ∙ there in
+        let at : new.unit ≡ offset = cc in
+        let few : row_count before ≤ length bytes =
+        rw visits.0 at (few_rows_before dialect limit bytes units b back stops.before (stops.visit ∷ stops.more) has
+        stops.whole) in
+        let grows = growth_more (refuses first.memory.now) first.becomes offset visit
+        (λ (refused : IsRefused (refuses first.memory.now) (ROW * row_count before)).
+        (refused.0, omega (arith, refused.1, few), refused.2)) growth in
+        let a = is.2 stops.visit stops.more refl (rw (visits.1, at) grows) begun.in_unit sound in (
           h.done,
           a.c,
           a.tail ++ back,
           after_units h.done h.after a.c a.tail h.whole a.whole a.within,
           a.sound,
           a.not_foreign,
-          inr a.wants,
+          inr (rw (h.at ∙ zero-add (length (concat h.done))) at a.wants),
           (h.copied, rw is.0 at out_before),
         )
 
@@ -150,7 +166,7 @@ module _ {M : Type 0} (Refused : M → Type 0) (dialect : Dialect) (limit : ℕ)
         by (told_to first heard) (sym (told_more stops.tells stops.visit)) told.now reason where
           by : (p : Progress)
               → visited made first.program.order (goes new.unit stops.tells.rows stops.tells.text) stops.visit ≡ p
-              → Now (Refused first.memory.now) first.becomes made dialect told.place told.after b stops.more (units_as made dialect 0 told.done) p
+              → Now Refused (refuses first.memory.now) first.becomes made dialect told.place told.after b stops.more (units_as made dialect 0 told.done) p
               → stop_in p ≡ Some f → Copied (Err f)
           by (goes offset rows text) at is reason = absurd (none_is_some reason)
           by (stopped text g) at is reason =
@@ -161,7 +177,7 @@ module _ {M : Type 0} (Refused : M → Type 0) (dialect : Dialect) (limit : ℕ)
 
   settled : (units : List (List ℕ)) (b back : List ℕ) (f : RunFault)
       → EndsAs dialect limit bytes left units b back (Err f)
-      → Settled (copy_story Refused) first start now (section_visits dialect units b) (Copying first new start now)
+      → Settled (copy_story refuses) first start now (section_visits dialect units b) (Copying first new start now)
       → Copied (Err f)
   settled units b back fault.NoMemory ends s =
       let (no_version, all) = all_copied units b ends.0.has.each s in
@@ -173,7 +189,7 @@ module _ {M : Type 0} (Refused : M → Type 0) (dialect : Dialect) (limit : ℕ)
   settled units b back f ends s =
       let (no_version, all) = all_copied units b ends.0.each s in (units, b, back, ends, no_version, all)
 
-  pub copies : (result : Result Summary RunFault) → Ran (copy_story Refused) dialect limit bytes left first new start now result
+  pub copies : (result : Result Summary RunFault) → Ran (copy_story refuses) dialect limit bytes left first new start now result
       → Copied result
   copies (Ok summary) (inl (units, ends, is)) = (units, ends, (all_copied units [] ends.0.each is).1)
   copies (Ok summary) (inr (_, _, _, _, is)) = absurd is.tells

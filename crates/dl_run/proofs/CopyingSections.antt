@@ -23,11 +23,11 @@ StopIs made dialect place after b (fault.Emit offset f) =
     × (header_of dialect u ≡ Some h) × (refusal (made offset h) (unit_rows dialect u) ≡ Some f)
 StopIs made dialect place after b other = ⊥
 
--- memory is wanted for the copy of c: for its rows, where it was refused, or for the tables of its header
-abbrev pub WantsBy : (Refused : Type 0) → Becomes → Dialect → List ℕ → Type 0
-WantsBy Refused becomes dialect c =
+-- memory was refused for the copy of c at the offset: for its rows, or for the tables of its header
+abbrev pub WantsBy : (Refused : Type 0) (refuses : ℕ → Type 0) → Becomes → Dialect → (offset : ℕ) → List ℕ → Type 0
+WantsBy Refused refuses becomes dialect offset c =
     ((unit_rows dialect c ≢ []) × Refused)
-    ⊎ (IsUnit dialect c × (h : HeaderData) × (header_of dialect c ≡ Some h) × RenewsTables becomes h)
+    ⊎ (IsUnit dialect c × (h : HeaderData) × (header_of dialect c ≡ Some h) × RenewsTables refuses becomes offset h)
 
 -- of the units that aren't copied, or of b after them, the current bytes are at fault in no way, and memory is wanted
 -- for their copy
@@ -43,17 +43,18 @@ pub record CurrentUnit (Wants : List ℕ → Type 0) (dialect : Dialect) (after 
 -- What visits came to, of which the units that are done give the text. They go on: where all is told no unit is left,
 -- and b isn't of another version; where memory grows next there is a current unit. Or they stopped at what is after
 -- those units.
-abbrev pub Now : (Refused : Type 0) → Becomes → Made → Dialect → (place : ℕ) (after : List (List ℕ)) (b : List ℕ)
-    (more : List Visit) (text : List ℕ) → Progress → Type 0
-Now Refused becomes made dialect place after b more text (goes offset rows own) =
+abbrev pub Now : (Refused : Type 0) (refuses : ℕ → Type 0) → Becomes → Made → Dialect → (place : ℕ)
+    (after : List (List ℕ)) (b : List ℕ) (more : List Visit) (text : List ℕ) → Progress → Type 0
+Now Refused refuses becomes made dialect place after b more text (goes offset rows own) =
     (own ≡ text) × (more ≡ [] → (after ≡ []) × (foreign_in dialect b ≡ None))
-    × ((visit : Visit) (others : List Visit) → more ≡ visit ∷ others → IsGrowth Refused becomes visit
-    → WithinUnit dialect b → Sound dialect b → CurrentUnit (WantsBy Refused becomes dialect) dialect after b)
-Now Refused becomes made dialect place after b more text (stopped own f) =
+    × ((visit : Visit) (others : List Visit) → more ≡ visit ∷ others → IsGrowth Refused refuses becomes offset visit
+    → WithinUnit dialect b → Sound dialect b
+    → CurrentUnit (WantsBy Refused refuses becomes dialect place) dialect after b)
+Now Refused refuses becomes made dialect place after b more text (stopped own f) =
     (own ≡ text) × (WithinUnit dialect b → StopIs made dialect place after b f)
 
 -- of the units some first ones are copied, after this text
-pub record Heard (Refused : Type 0) (becomes : Becomes) (made : Made) (dialect : Dialect) (n : ℕ)
+pub record Heard (Refused : Type 0) (refuses : ℕ → Type 0) (becomes : Becomes) (made : Made) (dialect : Dialect) (n : ℕ)
     (units : List (List ℕ)) (b : List ℕ) (more : List Visit) (text : List ℕ) (p : Progress) : Type 0 where
   pub done : List (List ℕ)
   pub after : List (List ℕ)
@@ -61,7 +62,7 @@ pub record Heard (Refused : Type 0) (becomes : Becomes) (made : Made) (dialect :
   pub copied : AreMade made dialect n done
   pub place : ℕ
   pub at : place ≡ n + length (concat done)
-  pub now : Now Refused becomes made dialect place after b more (text ++ units_as made dialect n done) p
+  pub now : Now Refused refuses becomes made dialect place after b more (text ++ units_as made dialect n done) p
 
 -- ---- what is told of the front of a unit, and that its sequence is open, ends no unit
 
@@ -92,12 +93,12 @@ visits_end_none dialect n c is_open = by (one_of dialect n c) where
   by (inr (inl own)) = rw (own_visits dialect n c own) (refl, rows_end_none (unit_rows dialect c) is_open)
   by (inr (inr none)) = rw (no_visits dialect n c none) (open_ends_none is_open)
 
-module _ (Refused : Type 0) (becomes : Becomes) (dialect : Dialect) (n : ℕ) (c : List ℕ) where
+module _ (Refused : Type 0) (refuses : ℕ → Type 0) (becomes : Becomes) (dialect : Dialect) (n offset : ℕ) (c : List ℕ) where
   -- rows are told where memory grows among the visits of the front of a unit
   growth_rows : (heard : List Visit) (visit : Visit) (others : List Visit) → visits dialect n c ≡ heard ++ visit ∷ others
-      → IsGrowth Refused becomes visit → unit_rows dialect c ≢ []
+      → IsGrowth Refused refuses becomes offset visit → unit_rows dialect c ≢ []
   growth_rows heard visit others at growth none = by (one_of dialect n c) where
-    alone : (w : Visit) (heard : List Visit) → w ∷ [] ≡ heard ++ visit ∷ others → IsGrowth Refused becomes w
+    alone : (w : Visit) (heard : List Visit) → w ∷ [] ≡ heard ++ visit ∷ others → IsGrowth Refused refuses becomes offset w
     alone w [] e = let same : visit ≡ w = cc in rw same at growth
     alone w (x ∷ heard) e = absurd (omega (arith, ap length e, length-append heard (visit ∷ others)))
 
@@ -109,15 +110,15 @@ module _ (Refused : Type 0) (becomes : Becomes) (dialect : Dialect) (n : ℕ) (c
         omega (arith, ap length e, length-append heard (visit ∷ others))
 
   -- what grows without an end is a row, for which memory was refused
-  growth_refused : (visit : Visit) → is_end visit ≡ false → IsGrowth Refused becomes visit → Refused
+  growth_refused : (visit : Visit) → is_end visit ≡ false → IsGrowth Refused refuses becomes offset visit → Refused
   growth_refused (of_row r) no_end growth = growth
   growth_refused (of_end h) no_end growth = absurd cc
   growth_refused visit no_end growth = absurd growth
 
   growth_in_front : (is_open : Bool) (heard : List Visit) (visit : Visit) (others : List Visit)
       → (unit_rows dialect c ≡ [] → is_open ≡ false)
-      → visits dialect n c ++ open_visit is_open ≡ heard ++ visit ∷ others → IsGrowth Refused becomes visit
-      → WantsBy Refused becomes dialect c
+      → visits dialect n c ++ open_visit is_open ≡ heard ++ visit ∷ others → IsGrowth Refused refuses becomes offset visit
+      → WantsBy Refused refuses becomes dialect n c
   growth_in_front is_open heard visit others closed at growth = inl (
     λ none. (let all : visits dialect n c ≡ heard ++ visit ∷ others =
         sym (append-nil (visits dialect n c)) ∙ (rw (closed none) at at) in
@@ -126,22 +127,22 @@ module _ (Refused : Type 0) (becomes : Becomes) (dialect : Dialect) (n : ℕ) (c
   )
 
   -- its end
-  growth_at_end : (h : Option HeaderData) → header_of dialect c ≡ h → IsUnit dialect c
-      → IsGrowth Refused becomes (of_end h) → WantsBy Refused becomes dialect c
-  growth_at_end (Some h) header is growth = inr (is, h, header, growth)
-  growth_at_end None header is growth = absurd growth
+  growth_at_end : offset ≡ n → (h : Option HeaderData) → header_of dialect c ≡ h → IsUnit dialect c
+      → IsGrowth Refused refuses becomes offset (of_end h) → WantsBy Refused refuses becomes dialect n c
+  growth_at_end here (Some h) header is growth = inr (is, h, header, rw here at growth)
+  growth_at_end here None header is growth = absurd growth
 
 -- the end of a unit apart
 regroup : {A : Type 0} (v o : List A) (e : A) (u b : List A)
     → ((v ++ (o ++ e ∷ [])) ++ u) ++ b ≡ (v ++ o) ++ e ∷ (u ++ b)
 regroup v o e u b = simp append_assoc
 
-module _ (Refused : Type 0) (becomes : Becomes) (made : Made) (dialect : Dialect) where
+module _ (Refused : Type 0) (refuses : ℕ → Type 0) (becomes : Becomes) (made : Made) (dialect : Dialect) where
   abbrev NowSo : (place : ℕ) (after : List (List ℕ)) (b : List ℕ) (more : List Visit) (text : List ℕ) → Progress → Type 0
-  NowSo = Now Refused becomes made dialect
+  NowSo = Now Refused refuses becomes made dialect
 
   abbrev HeardSo : (n : ℕ) (units : List (List ℕ)) (b : List ℕ) (more : List Visit) (text : List ℕ) → Progress → Type 0
-  HeardSo = Heard Refused becomes made dialect
+  HeardSo = Heard Refused refuses becomes made dialect
 
   -- a unit doesn't go beyond its end
   unit_within : (u : List ℕ) → IsUnit dialect u → WithinUnit dialect u
@@ -179,8 +180,9 @@ module _ (Refused : Type 0) (becomes : Becomes) (made : Made) (dialect : Dialect
       → Front made dialect n c m text heard x → concat after ++ b ≡ c ++ tail
       → (WithinUnit dialect b → WithinUnit dialect c) → (Sound dialect b → Sound dialect c)
       → (rest ≡ [] → foreign_in dialect c ≡ None → (after ≡ []) × (foreign_in dialect b ≡ None))
-      → ((visit : Visit) (others : List Visit) → x ++ rest ≡ visit ∷ others → IsGrowth Refused becomes visit
-      → WantsBy Refused becomes dialect c)
+      → ((visit : Visit) (others : List Visit) → x ++ rest ≡ visit ∷ others → (offset : ℕ) (rows : List Row)
+      → comes_to made dialect.order (goes m [] text) heard ≡ goes offset rows text
+      → IsGrowth Refused refuses becomes offset visit → WantsBy Refused refuses becomes dialect n c)
       → NowSo n after b (x ++ rest) text (comes_to made dialect.order (goes m [] text) heard)
   in_front n m text after b c tail heard x rest (at_version v is) whole within sound last wants =
       rw is (refl, λ in_unit. (c, tail, v.0, whole, refl, within in_unit, v.1))
@@ -202,7 +204,7 @@ module _ (Refused : Type 0) (becomes : Becomes) (made : Made) (dialect : Dialect
       within = within in_unit;
       sound = sound is_sound;
       not_foreign = own;
-      wants = wants visit others next growth;
+      wants = wants visit others next now rows is growth;
     },
   )
 
@@ -217,8 +219,8 @@ module _ (Refused : Type 0) (becomes : Becomes) (made : Made) (dialect : Dialect
       let front = front_of made dialect n b false m text heard more (rw append-nil e_n) in
       let now = in_front n m text [] b b [] heard more [] front (sym (append-nil b)) (λ within. within) (λ sound. sound)
       (λ nothing own. (refl, own))
-      (λ visit others next growth. growth_in_front Refused becomes dialect n b false heard visit others (λ none. refl)
-      (append-nil (visits dialect n b) ∙ e_n ∙ ap (λ (l : List Visit). heard ++ l) (sym (append-nil more) ∙ next)) growth) in
+      (λ visit others next offset rows is growth. growth_in_front Refused refuses becomes dialect n offset b false heard
+      visit others (λ none. refl) (append-nil (visits dialect n b) ∙ e_n ∙ ap (λ (l : List Visit). heard ++ l) (sym (append-nil more) ∙ next)) growth) in
       none_done (rw append-nil at now)
   heard_of n m k text (u ∷ units) b heard more all at e =
       by (fronts_of own_part end_is rest heard more
@@ -290,16 +292,28 @@ module _ (Refused : Type 0) (becomes : Becomes) (made : Made) (dialect : Dialect
         closed : (rows : List Row) → rows ≡ [] → ends_open rows ≡ false
         closed rows none = rw none refl
 
+        -- at its end the offset is that of this unit
+        at_end : (offset : ℕ) (rows : List Row) → comes_to made dialect.order (goes m [] text) own_part ≡ goes offset rows text
+            → Foreign dialect n u ⊎ Own dialect n u → offset ≡ n
+        at_end offset rows is (inl v) =
+            let stops = append-nil own_part in
+            absurd (let none = rw stops at (foreign_front made dialect n u is_open m text v []) in cc)
+        at_end offset rows is (inr own) = let goes_there = own_front made dialect n u is_open m text own in cc
+
         -- memory that is wanted next is so for this unit
         in_unit : (x : List Visit) → own_part ≡ heard ++ x → (visit : Visit) (others : List Visit)
-            → x ++ end_is ∷ rest ≡ visit ∷ others → IsGrowth Refused becomes visit → WantsBy Refused becomes dialect u
-        in_unit [] half visit others next growth =
+            → x ++ end_is ∷ rest ≡ visit ∷ others → (offset : ℕ) (rows : List Row)
+            → comes_to made dialect.order (goes m [] text) heard ≡ goes offset rows text
+            → IsGrowth Refused refuses becomes offset visit → WantsBy Refused refuses becomes dialect n u
+        in_unit [] half visit others next offset rows is growth =
             let same : visit ≡ end_is = cc in
-            growth_at_end Refused becomes dialect n u (header_of dialect u) refl all.0 (rw same at growth)
-        in_unit (w ∷ x) half visit others next growth =
+            let whole : own_part ≡ heard = half ∙ append-nil heard in
+            growth_at_end Refused refuses becomes dialect n offset u (at_end offset rows (rw whole is) kind)
+            (header_of dialect u) refl all.0 (rw same at growth)
+        in_unit (w ∷ x) half visit others next offset rows is growth =
             let same : w ≡ visit = cc in
-            growth_in_front Refused becomes dialect n u is_open heard visit x (closed (unit_rows dialect u))
-            (rw same at half) growth
+            growth_in_front Refused refuses becomes dialect n offset u is_open heard visit x
+            (closed (unit_rows dialect u)) (rw same at half) growth
 
         by : ((x : List Visit) × (heard ≡ own_part ++ end_is ∷ x) × (rest ≡ x ++ more))
             ⊎ ((x : List Visit) × (own_part ≡ heard ++ x) × (more ≡ x ++ end_is ∷ rest)) → Later

@@ -36,6 +36,7 @@ pub mod DumpingLemmas
 pub mod CheckingLemmas
 pub mod PassingLemmas
 pub mod RangeLemmas
+pub mod RowCounts
 pub mod CopyingVisits
 pub mod CopyingSections
 pub mod CopyingAnswers

@@ -111,10 +111,10 @@ pub use Rattle.dl_dirs.specs.Compilation.{directory_by}
 pub use Rattle.dl_run.specs.Checking.{check_story}
 pub use Rattle.dl_run.specs.Commands.{AreCopied, AreMade, Checks, copied_unit, copied_units, Copies, CopiesAs}
 pub use Rattle.dl_run.specs.Commands.{CopiesBy, Dumps, Finds, found_text, IsCopied, IsFound, IsMade, Made}
-pub use Rattle.dl_run.specs.Commands.{NoneAnswers, to_5, unit_as, units_as, WantsForRows, IsOlder}
+pub use Rattle.dl_run.specs.Commands.{NoneAnswers, to_5, unit_as, units_as, WantsFor5, WantsForRows}
 pub use Rattle.dl_run.specs.CopyLaws.{AreNewer, CopiesAreNewer, CopiesAreUnits, IsAnew, IsNewer}
 pub use Rattle.dl_run.specs.Copying.{comes_to, copy_story, Copying, ended_as, goes, IsGrowth, made_by, Progress, RenewsTables}
-pub use Rattle.dl_run.specs.Copying.{stop_in, stopped, StopsAt, text_in, told_to, visited}
+pub use Rattle.dl_run.specs.Copying.{row_count, stop_in, stopped, StopsAt, text_in, told_to, visited}
 pub use Rattle.dl_run.specs.Dumping.{dump_story, HasDumped}
 pub use Rattle.dl_run.specs.Finding.{answer_under, find_story, finds, HasFound, Search, search_of, Seeks, seeks, seen}
 pub use Rattle.dl_run.specs.Finding.{text_found}

@@ -3,11 +3,12 @@ use Rattle.dl_run.proofs.Names.{◌++◌, ◌+◌, ◌∙◌, ◌∷◌, ◌≡�
 use Rattle.dl_run.proofs.Names.{◌⊎◌, AreMade, arith, Bool, concat, CopiesAs, CopyIsFront, CopyTo5IsFront, Dialect, directory_by}
 use Rattle.dl_run.proofs.Names.{EmitFault, EndsAs, Err, foreign_in, foreign_is_not_refused, foreign_known}
 use Rattle.dl_run.proofs.Names.{foreign_no_header, foreign_on, fronts, HasBegun, HasUnits, header_in, header_of}
-use Rattle.dl_run.proofs.Names.{header_on, HeaderData, inl, inr, IsMade, IsOfBytes, IsOlder, IsUnit, length, length-append}
+use Rattle.dl_run.proofs.Names.{header_on, HeaderData, inl, inr, IsMade, IsOfBytes, IsUnit, length, length-append}
 use Rattle.dl_run.proofs.Names.{List, Made, nil_from_length, None, Ok, OneCopy, OneCopying, OneCopyingTo5, OneCopyTo5}
 use Rattle.dl_run.proofs.Names.{Option, refl, refusal, refused_in_header, Result, RunFault, Some, Summary, sym, take}
-use Rattle.dl_run.proofs.Names.{TellsOut, to_5, TooLong, true, unit_rows, units_as, WantsForRows, Write, zero-add, ℕ}
+use Rattle.dl_run.proofs.Names.{TellsOut, to_5, TooLong, true, unit_rows, units_as, WantsFor5, WantsForRows, Write, zero-add, ℕ}
 use Rattle.dl_run.proofs.Names.fault
+use Rattle.dl_dirs.specs.declared.compilation.CompilationDirectories.{CompilationDirectories}
 use Rattle.dl_run.proofs.CopyingAnswers.{copies}
 use Rattle.dl_run.proofs.EventLemmas.{header_parts}
 use Rattle.dl_run.proofs.Fronts.{none_is_some, value_same}
@@ -68,7 +69,7 @@ module _ (made : Made) (dialect : Dialect) (limit : ℕ) (bytes : List ℕ) wher
       (units : List (List ℕ)) × AreMade made dialect 0 units × Appends start now (units_as made dialect 0 units)
       × Stops units result
 
-  copied_of : (Wants : List ℕ → Type 0) (left start now : Option (List ℕ)) (result : Result Summary RunFault)
+  copied_of : (Wants : ℕ → List ℕ → Type 0) (left start now : Option (List ℕ)) (result : Result Summary RunFault)
       → IsOfBytes result → CopiesAs made Wants dialect limit bytes left start now result → Copied start now result
   copied_of Wants left start now (Ok summary) of (units, ends, out) =
       (units, out.0, out.1, at_end (left, [], [], of, ends, refl))
@@ -191,7 +192,7 @@ module _ (made : Made) (dialect : Dialect) (limit : ℕ) (bytes : List ℕ) wher
       cc (fewer.1, nothing, append-nil units)
 
 -- where what becomes of headers is known
-module _ (made : Made) (Wants Wants2 : List ℕ → Type 0) (dialect : Dialect) (limit : ℕ) (bytes : List ℕ)
+module _ (made : Made) (Wants Wants2 : ℕ → List ℕ → Type 0) (dialect : Dialect) (limit : ℕ) (bytes : List ℕ)
     (left left2 start start2 now now2 : Option (List ℕ)) where
   one_answer : (result result2 : Result Summary RunFault) → IsOfBytes result → IsOfBytes result2
       → CopiesAs made Wants dialect limit bytes left start now result
@@ -230,38 +231,42 @@ module _ (made : Made) (Wants Wants2 : List ℕ → Type 0) (dialect : Dialect) 
 abbrev Refused : (ℕ → Bool) → ℕ → Type 0
 Refused test k = test k ≡ true
 
-abbrev ForRows : (ℕ → Bool) → Dialect → List ℕ → Type 0
-ForRows test = WantsForRows (Refused test)
+abbrev ForRows : (ℕ → Bool) → Dialect → (bytes : List ℕ) (offset : ℕ) → List ℕ → Type 0
+ForRows test dialect bytes offset b = WantsForRows (Refused test) dialect bytes b
 
-abbrev For5 : (ℕ → Bool) → Dialect → List ℕ → Type 0
-For5 test dialect b = ForRows test dialect b ⊎ IsOlder dialect b
+abbrev For5 : (ℕ → Bool) → CompilationDirectories → Dialect → (bytes : List ℕ) (offset : ℕ) → List ℕ → Type 0
+For5 test directories dialect bytes offset b =
+    ForRows test dialect bytes offset b ⊎ WantsFor5 (Refused test) (directory_by directories) dialect offset b
 
 pub one_copying : OneCopying
 one_copying r r2 dialect limit bytes left left2 start start2 now now2 result result2 of of2 copies copies2 =
-    one_answer standard (ForRows r dialect) (ForRows r2 dialect) dialect limit bytes left left2 start start2 now now2
-    result result2 of of2 (copies_as dialect (Refused r) limit bytes left start now result copies)
+    one_answer standard (ForRows r dialect bytes) (ForRows r2 dialect bytes) dialect limit bytes left left2 start start2
+    now now2 result result2 of of2 (copies_as dialect (Refused r) limit bytes left start now result copies)
     (copies_as dialect (Refused r2) limit bytes left2 start2 now2 result2 copies2)
 
 pub one_copy : OneCopy
 one_copy r r2 dialect limit bytes left left2 start start2 now now2 result result2 of of2 copies copies2 =
-    one_text standard (ForRows r dialect) (ForRows r2 dialect) dialect limit bytes left left2 start start2 now now2
-    result result2 of of2 (copies_as dialect (Refused r) limit bytes left start now result copies)
+    one_text standard (ForRows r dialect bytes) (ForRows r2 dialect bytes) dialect limit bytes left left2 start start2
+    now now2 result result2 of of2 (copies_as dialect (Refused r) limit bytes left start now result copies)
     (copies_as dialect (Refused r2) limit bytes left2 start2 now2 result2 copies2)
 
 pub copy_is_front : CopyIsFront
 copy_is_front r r2 dialect limit bytes left left2 start start2 now now2 out result2 of2 copies copies2 =
-    text_is_front standard (ForRows r dialect) (ForRows r2 dialect) dialect limit bytes left left2 start start2 now now2
-    out result2 of2 (copies_as dialect (Refused r) limit bytes left start now (Err (fault.Write out)) copies)
+    text_is_front standard (ForRows r dialect bytes) (ForRows r2 dialect bytes) dialect limit bytes left left2 start
+    start2 now now2 out result2 of2 (copies_as dialect (Refused r) limit bytes left start now (Err (fault.Write out)) copies)
     (copies_as dialect (Refused r2) limit bytes left2 start2 now2 result2 copies2)
 
 pub one_copying_to_5 : OneCopyingTo5
-one_copying_to_5 r r2 directories dialect =
-    one_answer (to_5 (directory_by directories)) (For5 r dialect) (For5 r2 dialect) dialect
+one_copying_to_5 r r2 directories dialect limit bytes =
+    one_answer (to_5 (directory_by directories)) (For5 r directories dialect bytes) (For5 r2 directories dialect bytes)
+    dialect limit bytes
 
 pub one_copy_to_5 : OneCopyTo5
-one_copy_to_5 r r2 directories dialect =
-    one_text (to_5 (directory_by directories)) (For5 r dialect) (For5 r2 dialect) dialect
+one_copy_to_5 r r2 directories dialect limit bytes =
+    one_text (to_5 (directory_by directories)) (For5 r directories dialect bytes) (For5 r2 directories dialect bytes)
+    dialect limit bytes
 
 pub copy_to_5_is_front : CopyTo5IsFront
-copy_to_5_is_front r r2 directories dialect =
-    text_is_front (to_5 (directory_by directories)) (For5 r dialect) (For5 r2 dialect) dialect
+copy_to_5_is_front r r2 directories dialect limit bytes =
+    text_is_front (to_5 (directory_by directories)) (For5 r directories dialect bytes)
+    (For5 r2 directories dialect bytes) dialect limit bytes

@@ -1,21 +1,22 @@
 -- What the commands answer and write. bytes: what was read from a reader, which has `left` left. start, now: what the
 -- writer held at first, and holds now. None: it isn't known.
-use Rattle.std.specs.Prelude.{⊤, ◌≡◌, ◌≢◌, ◌⊎◌, ℕ, ◌+◌, List, [], ◌∷◌, ◌++◌, length, take, flat_map, Option, Some, None}
+use Rattle.std.specs.Prelude.{⊤, ◌≡◌, ◌≢◌, ◌⊎◌, ℕ, ◌+◌, ◌*◌, List, [], ◌∷◌, ◌++◌, length, take, flat_map, Option, Some, None}
 use Rattle.std.specs.Prelude.{Result, Ok, Err}
 use Rattle.std.specs.List.{AllByRecursion, concat}
 use Rattle.std.specs.Option.{option_copied, option_map_or}
 use Rattle.std.specs.Io.KnownBytes.{Appends, Keeps}
-use Rattle.dl_memory.specs.Refusals.{WasRefused}
+use Rattle.dl_memory.specs.Refusals.{IsRefused}
 use Rattle.dl_head.specs.declared.dialect.Dialect.{Dialect}
 use Rattle.dl_head.specs.Built.{with_standard_opcodes}
 use Rattle.dl_head.specs.Header.{foreign_in}
-use Rattle.dl_field.specs.HeaderData.{HeaderData}
+use Rattle.dl_field.specs.HeaderData.{HeaderData, header_cells}
 use Rattle.dl_rows.specs.declared.row.Row.{Row}
 use Rattle.dl_rows.specs.LineUnit.{IsUnit, unit_rows}
 use Rattle.dl_rows.specs.Runs.{Sound}
 use Rattle.dl_look.specs.declared.place.Place.{Place}
 use Rattle.dl_look.specs.Answer.{answer}
 use Rattle.dl_emit.specs.declared.fault.EmitFault.TheVariants.{TooLong}
+use Rattle.dl_emit.specs.declared.program.TheConstants.{ROW}
 use Rattle.dl_emit.specs.Conversion.{to_version_5}
 use Rattle.dl_emit.specs.WrittenUnit.{unit_of, refusal}
 use Rattle.dl_run.specs.declared.fault.RunFault.{RunFault}
@@ -117,9 +118,9 @@ IsCopied dialect u =
 abbrev pub AreCopied : Dialect → List (List ℕ) → Type 0
 AreCopied dialect units = AllByRecursion (IsCopied dialect) units
 
--- memory was refused for the copy of b's rows
-abbrev pub WantsForRows : (refuses : ℕ → Type 0) → Dialect → List ℕ → Type 0
-WantsForRows refuses dialect b = (unit_rows dialect b ≢ []) × WasRefused refuses
+-- memory was refused for the copy of b's rows, for no more bytes than ROW for each byte that was read
+abbrev pub WantsForRows : (refuses : ℕ → Type 0) → Dialect → (bytes b : List ℕ) → Type 0
+WantsForRows refuses dialect bytes b = (unit_rows dialect b ≢ []) × IsRefused refuses (ROW * length bytes)
 
 -- these units are copied, and their copies are out
 abbrev pub HasCopied : (are : List (List ℕ) → Type 0) (text : List (List ℕ) → List ℕ) → List (List ℕ)
@@ -129,9 +130,10 @@ HasCopied are text units start now = are units × Appends start now (text units)
 -- Copies of all units, or of those before the fault. A unit of a version that isn't read is a fault, also where it is
 -- cut off, and so is a whole unit whose copy would be too long. The fault's offset is that of the unit.
 -- are: these units have copies; text: the copies; made: what becomes of a unit's header; Wants: memory is wanted for the
--- copy of these bytes, the front of a unit or one
+-- copy of the bytes at an offset, the front of a unit or one
 abbrev pub CopiesBy : (are : List (List ℕ) → Type 0) (text : List (List ℕ) → List ℕ) → Made
-    → (Wants : List ℕ → Type 0) → Dialect → (limit : ℕ) (bytes : List ℕ) (left start now : Option (List ℕ)) → Result Summary RunFault → Type 0
+    → (Wants : (offset : ℕ) → List ℕ → Type 0) → Dialect → (limit : ℕ) (bytes : List ℕ) (left start now : Option (List ℕ))
+    → Result Summary RunFault → Type 0
 CopiesBy are text made Wants dialect limit bytes left start now (Ok summary) =
     (units : List (List ℕ)) × EndsAs dialect limit bytes left units [] [] (Ok summary)
     × HasCopied are text units start now
@@ -149,7 +151,7 @@ CopiesBy are text made Wants dialect limit bytes left start now (Err (fault.Emit
 CopiesBy are text made Wants dialect limit bytes left start now (Err fault.NoMemory) =
     (units : List (List ℕ)) × (b : List ℕ) × (back : List ℕ) × HasBegun dialect (take limit bytes) units b back
     × Sound dialect b × (foreign_in dialect b ≡ None)
-    × (RefusesCell dialect b back ⊎ Wants b) × HasCopied are text units start now
+    × (RefusesCell dialect b back ⊎ Wants (length (concat units)) b) × HasCopied are text units start now
 CopiesBy are text made Wants dialect limit bytes left start now (Err (fault.Write out)) =
     (units : List (List ℕ)) × (back : List ℕ) × HasUnits dialect (take limit bytes) units back × are units
     × TellsOut start now (text units) (fault.Write out)
@@ -164,7 +166,7 @@ abbrev pub Copies : (refuses : ℕ → Type 0) → Dialect → (limit : ℕ) (by
     → Result Summary RunFault → Type 0
 Copies refuses dialect limit bytes left start now result =
     CopiesBy (AreCopied dialect) (copied_units dialect) (λ offset h. with_standard_opcodes h)
-    (WantsForRows refuses dialect) dialect limit bytes left start now result
+    (λ offset b. WantsForRows refuses dialect bytes b) dialect limit bytes left start now result
 
 -- ---- copies under headers that are made by the offsets of their units
 
@@ -188,7 +190,7 @@ AreMade made dialect offset [] = ⊤
 AreMade made dialect offset (u ∷ units) = IsMade made dialect offset u × AreMade made dialect (offset + length u) units
 
 -- the units of a section, each under the header that is made of its own
-abbrev pub CopiesAs : Made → (Wants : List ℕ → Type 0) → Dialect → (limit : ℕ) (bytes : List ℕ)
+abbrev pub CopiesAs : Made → (Wants : (offset : ℕ) → List ℕ → Type 0) → Dialect → (limit : ℕ) (bytes : List ℕ)
     (left start now : Option (List ℕ)) → Result Summary RunFault → Type 0
 CopiesAs made Wants dialect limit bytes left start now result =
     CopiesBy (AreMade made dialect 0) (units_as made dialect 0) made Wants dialect limit bytes left start now result
@@ -199,13 +201,20 @@ CopiesAs made Wants dialect limit bytes left start now result =
 abbrev pub to_5 : (directories : ℕ → Option (List ℕ)) → Made
 to_5 directories offset h = with_standard_opcodes (to_version_5 h (directories offset))
 
--- u is a unit of another version than 5, for whose header tables are made
-abbrev pub IsOlder : Dialect → List ℕ → Type 0
-IsOlder dialect u =
-    IsUnit dialect u × (h : HeaderData) × (header_of dialect u ≡ Some h) × (h.params.version ≢ 5)
+-- the header isn't of version 5, and memory was refused for the tables that are made of it, for no more items than these
+-- have cells
+abbrev pub WantsTables : (refuses : ℕ → Type 0) (directories : ℕ → Option (List ℕ)) (offset : ℕ) → HeaderData → Type 0
+WantsTables refuses directories offset h =
+    (h.params.version ≢ 5) × IsRefused refuses (header_cells (to_5 directories offset h))
+
+-- u is a unit, and memory was refused for the tables of its header
+abbrev pub WantsFor5 : (refuses : ℕ → Type 0) (directories : ℕ → Option (List ℕ)) → Dialect → (offset : ℕ) → List ℕ → Type 0
+WantsFor5 refuses directories dialect offset u =
+    IsUnit dialect u × (h : HeaderData) × (header_of dialect u ≡ Some h) × WantsTables refuses directories offset h
 
 abbrev pub CopiesTo5 : (refuses : ℕ → Type 0) (directories : ℕ → Option (List ℕ)) → Dialect → (limit : ℕ)
     (bytes : List ℕ) (left start now : Option (List ℕ)) → Result Summary RunFault → Type 0
 CopiesTo5 refuses directories dialect limit bytes left start now result =
-    CopiesAs (to_5 directories) (λ b. WantsForRows refuses dialect b ⊎ IsOlder dialect b) dialect limit bytes left start
-    now result
+    CopiesAs (to_5 directories)
+    (λ offset b. WantsForRows refuses dialect bytes b ⊎ WantsFor5 refuses directories dialect offset b)
+    dialect limit bytes left start now result

@@ -1,17 +1,19 @@
 -- What `copy` and `copy_to_5` are told and write. No promise rests on this file.
-use Rattle.std.specs.Prelude.{◌≡◌, ◌≢◌, ℕ, List, [], ◌∷◌, ◌++◌, Option, Some, None, fold}
+use Rattle.std.specs.Prelude.{◌≡◌, ◌+◌, ◌*◌, ◌≤◌, ℕ, List, [], ◌∷◌, ◌++◌, Option, Some, None, fold}
 use Rattle.dl_num.specs.declared.fixed.Order.{Order}
+use Rattle.dl_memory.specs.Refusals.{IsRefused}
 use Rattle.dl_head.specs.Built.{with_standard_opcodes}
 use Rattle.dl_dirs.specs.Compilation.{directory_by}
 use Rattle.dl_field.specs.HeaderData.{HeaderData}
 use Rattle.dl_rows.specs.declared.row.Row.{Row}
 use Rattle.dl_emit.specs.declared.fault.EmitFault.{EmitFault}
+use Rattle.dl_emit.specs.declared.program.TheConstants.{ROW}
 use Rattle.dl_emit.specs.Grown.{IsGrown}
 use Rattle.dl_emit.specs.WrittenUnit.{unit_of, refusal}
 use Rattle.dl_run.specs.declared.copying.Becomes.{Becomes}
 use Rattle.dl_run.specs.declared.copying.Becomes.TheVariants as becomes
 use Rattle.dl_run.specs.declared.copying.Copier.{Copier}
-use Rattle.dl_run.specs.Commands.{Made, to_5}
+use Rattle.dl_run.specs.Commands.{Made, to_5, WantsTables}
 use Rattle.dl_run.specs.declared.fault.RunFault.{RunFault}
 use Rattle.dl_run.specs.declared.fault.RunFault.TheVariants as fault
 use Rattle.dl_print.specs.Output.{HasPrinted}
@@ -23,6 +25,12 @@ abbrev pub offset_after : ℕ → List Visit → ℕ
 offset_after offset [] = offset
 offset_after offset (of_header n h ∷ visits) = offset_after n visits
 offset_after offset (visit ∷ visits) = offset_after offset visits
+
+-- how many rows visits tell
+abbrev pub row_count : List Visit → ℕ
+row_count [] = 0
+row_count (of_row r ∷ visits) = row_count visits + 1
+row_count (visit ∷ visits) = row_count visits
 
 -- ---- what visits come to
 
@@ -76,34 +84,41 @@ pub record Copying {M : Type 0} (first now : Copier M) (start held : Option (Lis
   pub becomes : now.becomes ≡ first.becomes
   pub memory : now.memory.now ≡ first.memory.now
   pub order : now.program.order ≡ first.program.order
+  pub few : now.program.rows ≤ row_count visits
   pub told : told_to first visits ≡ goes now.unit rows text
   pub grown : (h : HeaderData) → header_told None visits ≡ Some h
       → IsGrown now.program now.program.order (made_by now.becomes now.unit h).params rows
   pub printed : HasPrinted start held text now.printer
 
--- the tables of the header are made anew
-abbrev pub RenewsTables : Becomes → HeaderData → Type 0
-RenewsTables becomes.Itself h = ⊥
-RenewsTables (becomes.Version5 directories) h = h.params.version ≢ 5
+-- memory was refused for the tables of the header of the unit at the offset, which are made anew
+abbrev pub RenewsTables : (refuses : ℕ → Type 0) → Becomes → (offset : ℕ) → HeaderData → Type 0
+RenewsTables refuses becomes.Itself offset h = ⊥
+RenewsTables refuses (becomes.Version5 directories) offset h = WantsTables refuses (directory_by directories) offset h
 
--- memory grows: for a row, where it was refused; or for the tables of the header of a unit that is whole
-abbrev pub IsGrowth : (Refused : Type 0) → Becomes → Visit → Type 0
-IsGrowth Refused becomes (of_row r) = Refused
-IsGrowth Refused becomes (of_end (Some h)) = RenewsTables becomes h
-IsGrowth Refused becomes other = ⊥
+-- memory was refused: for a row; or for the tables of the header of a unit that is whole, at the offset
+abbrev pub IsGrowth : (Refused : Type 0) (refuses : ℕ → Type 0) → Becomes → (offset : ℕ) → Visit → Type 0
+IsGrowth Refused refuses becomes offset (of_row r) = Refused
+IsGrowth Refused refuses becomes offset (of_end (Some h)) = RenewsTables refuses becomes offset h
+IsGrowth Refused refuses becomes offset other = ⊥
+
+-- a growth was refused at the visit after these
+abbrev pub IsGrowthAfter : {M : Type 0} → (refuses : M → ℕ → Type 0) (first : Copier M) (before : List Visit) → Visit → Type 0
+IsGrowthAfter refuses first before visit =
+    (offset : ℕ) × (rows : List Row) × (text : List ℕ) × (told_to first before ≡ goes offset rows text)
+    × IsGrowth (IsRefused (refuses first.memory.now) (ROW * row_count before)) (refuses first.memory.now) first.becomes
+    offset visit
 
 -- a growth is refused at the last visit
-abbrev pub StopsAt : {M : Type 0} → (Refused : M → Type 0) (first : Copier M) (visits : List Visit) → RunFault → Type 0
-StopsAt Refused first visits fault.NoMemory =
-    (before : List Visit) × (visit : Visit) × (visits ≡ before ++ visit ∷ [])
-    × IsGrowth (Refused first.memory.now) first.becomes visit
-StopsAt Refused first visits f = stop_in (told_to first visits) ≡ Some f
+abbrev pub StopsAt : {M : Type 0} → (refuses : M → ℕ → Type 0) (first : Copier M) (visits : List Visit) → RunFault → Type 0
+StopsAt refuses first visits fault.NoMemory =
+    (before : List Visit) × (visit : Visit) × (visits ≡ before ++ visit ∷ []) × IsGrowthAfter refuses first before visit
+StopsAt refuses first visits f = stop_in (told_to first visits) ≡ Some f
 
 -- unit after unit
-abbrev pub copy_story : {M : Type 0} → (Refused : M → Type 0) → Story (Copier M)
-copy_story Refused = record {
+abbrev pub copy_story : {M : Type 0} → (refuses : M → ℕ → Type 0) → Story (Copier M)
+copy_story refuses = record {
   text = λ first visits. text_in (told_to first visits);
   tells = Copying;
   is_done = λ first new start now visits. ⊥;
-  refuses = StopsAt Refused;
+  refuses = StopsAt refuses;
 }

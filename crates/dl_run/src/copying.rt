@@ -19,7 +19,7 @@ use crate::fault::RunFault;
 use crate::options::{Options, SECTION_LIMIT};
 use crate::section::{Visitor, read_units};
 use dl_dirs::CompilationDirectories;
-use dl_emit::{EmitFault, Program, into_version_5};
+use dl_emit::{EmitFault, Program, into_version_5_in};
 use dl_head::{Dialect, Header};
 use dl_input::Source;
 use dl_memory::{Memory, NoMemory};
@@ -27,7 +27,6 @@ use dl_num::Order;
 use dl_output::Destination;
 use dl_print::{Printer, Summary, WriteFault};
 use dl_rows::{Flow, Row};
-use std::alloc::{AllocError, Global};
 use std::io;
 use std::io::Write;
 
@@ -90,14 +89,14 @@ impl Becomes<'_> {
     }
 
     /// What becomes of the header of the unit at this offset.
-    fn make(&self, alloc: Global, offset: u64, header: Header) -> Result<Header, AllocError>
+    fn make<M: Memory>(&self, memory: &M, offset: u64, header: Header) -> Result<Header, NoMemory>
         ensures value { IfOk result (λ made. made ≡ made_by self.now offset header) }
-        ensures tables { OnErr result (RenewsTables self.now header) }
+        ensures tables { OnErr result (RenewsTables (M.refuses memory.now) self.now offset header) }
     {
         match self {
             Becomes::Itself => Ok(header.with_standard_opcodes()),
             Becomes::Version5(directories) => {
-                let header = into_version_5(alloc, header, directories.of(offset))?;
+                let header = into_version_5_in(memory, header, directories.of(offset))?;
                 Ok(header.with_standard_opcodes())
             }
         }
@@ -119,10 +118,9 @@ struct Copier<'a, 'm, M> {
 }
 
 impl<W: Destination, M: Memory> Visitor<W> for Copier<'_, '_, M> {
-    ghost use Rattle.dl_memory.specs.Refusals.{WasRefused};
     ghost use Rattle.dl_run.specs.Copying.{copy_story};
 
-    ghost story = { copy_story (λ memory. WasRefused (M.refuses memory)) };
+    ghost story = { copy_story M.refuses };
 
     fn header(&mut self, _output: &mut W, offset: u64, header: &Header) -> Result<(), RunFault> {
         self.unit = offset;
@@ -150,7 +148,7 @@ impl<W: Destination, M: Memory> Visitor<W> for Copier<'_, '_, M> {
         let Some(header) = header else {
             return Ok(Flow::On);
         };
-        let Ok(made) = self.becomes.make(self.memory.alloc(), self.unit, header) else {
+        let Ok(made) = self.becomes.make(self.memory, self.unit, header) else {
             return Err(RunFault::NoMemory);
         };
         self.write(output, &made)?;
@@ -168,6 +166,7 @@ impl<'a, 'm, M: Memory> Copier<'a, 'm, M> {
         ensures memory { result.memory.now ≡ memory.now }
         ensures becomes { result.becomes ≡ becomes.entry }
         ensures order { result.program.order ≡ order }
+        ensures no_row { result.program.rows ≡ 0 }
         ensures nothing_pending { result.printer.pending ≡ [] }
         ensures nothing_out { result.printer.out ≡ 0 }
     {

@@ -1,4 +1,3 @@
-use Rattle.dl_memory.specs.Refusals.{WasRefused}
 use Rattle.dl_run.proofs.Names.{Appends-nil, directory_by, made_by}
 use Rattle.dl_run.proofs.CopierLemmas.{begins}
 use Rattle.dl_run.proofs.CopyingAnswers.{copies}
@@ -11,7 +10,7 @@ returns g c =
     let options = c.args.options.now in
     let copier = c.new-copier in
     let read = c.read_units.ensures.ran in
-    let ran = read.2 (begins copier.result _ copier.ensures.nothing_pending copier.ensures.nothing_out)
+    let ran = read.2 (begins copier.result _ copier.ensures.no_row copier.ensures.nothing_pending copier.ensures.nothing_out)
     (Appends-nil _) in
     let keeps : KeepsRanges options.dialect (made_by copier.result.becomes) =
     rw copier.ensures.becomes (to_5_keeps options.dialect (directory_by c.args.directories)) in record {
@@ -19,16 +18,16 @@ returns g c =
         read.0,
         read.1,
         rw (copier.ensures.memory, copier.ensures.becomes) at
-            (copies (λ memory. WasRefused (g.M.Memory.refuses memory)) _ _ _ _ copier.result _ _ _ copier.ensures.order keeps _ ran),
+            (copies g.M.Memory.refuses _ _ _ _ copier.result _ _ _ copier.ensures.order keeps _ ran),
       );
       blames = blames_where c.read_units.ensures.blames (λ e. (
         record {
-          tells = begins copier.result _ copier.ensures.nothing_pending copier.ensures.nothing_out;
+          tells = begins copier.result _ copier.ensures.no_row copier.ensures.nothing_pending copier.ensures.nothing_out;
           out = Appends-nil _;
-          never = copies_never_read (λ memory. WasRefused (g.M.Memory.refuses memory)) copier.result;
+          never = copies_never_read g.M.Memory.refuses copier.result;
         },
         e,
       ));
       blames_writer = c.read_units.ensures.blames_writer
-          (begins copier.result _ copier.ensures.nothing_pending copier.ensures.nothing_out) (Appends-nil _);
+          (begins copier.result _ copier.ensures.no_row copier.ensures.nothing_pending copier.ensures.nothing_out) (Appends-nil _);
     }
