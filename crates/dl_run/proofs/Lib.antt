@@ -26,6 +26,7 @@ pub mod FeedLemmas
 pub mod WorkLemmas
 pub mod ReadLemmas
 pub mod BlameLemmas
+pub mod EndLemmas
 pub mod TellingLemmas
 pub mod TellingVisits
 pub mod AroundTelling

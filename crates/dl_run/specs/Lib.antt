@@ -5,6 +5,7 @@ pub mod Strings
 pub mod Section
 pub mod Visiting
 pub mod Blaming
+pub mod Ending
 pub mod Around
 pub mod InMemory
 pub mod AroundInMemory

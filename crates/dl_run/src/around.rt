@@ -2,7 +2,8 @@
 
 ghost use Rattle.dl_input.specs.Failing.{Blames};
 ghost use Rattle.dl_run.specs.Blaming.{BlamesWriter, NeverBlames};
-ghost use Rattle.std.specs.Prelude.{◌≡◌, ◌≤◌, ◌<◌, ◌+◌, ◌^◌, ◌++◌, [], ◌∷◌, ℕ, List, Option, Some, Ok, drop, length};
+ghost use Rattle.dl_run.specs.Ending.{WantsNoMore, WhereWhole};
+ghost use Rattle.std.specs.Prelude.{◌≡◌, ◌≤◌, ◌<◌, ◌+◌, ◌^◌, ◌++◌, ◌⊎◌, [], ◌∷◌, ℕ, List, Option, Some, Ok, drop, length};
 ghost use Rattle.std.specs.Io.KnownBytes.{Appends, Consumes};
 ghost use Rattle.dl_head.specs.declared.dialect.Dialect.{Dialect};
 ghost use Rattle.dl_head.specs.Header.{unit_len};
@@ -217,6 +218,10 @@ pub fn read_units_around<R: Source, W: Destination, V: AroundDamage<W>>(
     ensures blames_writer { V.story.tells visitor.old visitor.old (W.contents output.old) (W.contents output.old) []
         → Appends (W.contents output.old) (W.contents output.old) (V.story.text visitor.old [])
         → BlamesWriter W.fails result }
+    ensures over { V.story.tells visitor.old visitor.old (W.contents output.old) (W.contents output.old) []
+        → Appends (W.contents output.old) (W.contents output.old) (V.story.text visitor.old [])
+        → WhereWhole (R.over input.new
+        ⊎ WantsNoMore V.story visitor.old visitor.new (W.contents output.old) (W.contents output.new)) result }
 {
     let mut units = UnitsAround::new(alloc, options.dialect);
     read_pieces_around(&mut units, input, output, options, visitor)
@@ -242,6 +247,10 @@ fn read_pieces_around<R: Source, W: Destination, V: AroundDamage<W>>(
     ensures blames_writer { V.story.tells visitor.old visitor.old (W.contents output.old) (W.contents output.old) []
         → Appends (W.contents output.old) (W.contents output.old) (V.story.text visitor.old [])
         → BlamesWriter W.fails result }
+    ensures over { V.story.tells visitor.old visitor.old (W.contents output.old) (W.contents output.old) []
+        → Appends (W.contents output.old) (W.contents output.old) (V.story.text visitor.old [])
+        → WhereWhole (R.over input.new
+        ⊎ WantsNoMore V.story visitor.old visitor.new (W.contents output.old) (W.contents output.new)) result }
 {
     let mut buffer = Input::new();
     let mut left = options.limit;

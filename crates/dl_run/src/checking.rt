@@ -2,7 +2,8 @@
 
 ghost use Rattle.dl_input.specs.Failing.{Blames};
 ghost use Rattle.dl_run.specs.Blaming.{BlamesWriter};
-ghost use Rattle.std.specs.Prelude.{◌≡◌, ◌≤◌, [], ℕ, List};
+ghost use Rattle.dl_run.specs.Ending.{WhereWhole};
+ghost use Rattle.std.specs.Prelude.{◌≡◌, ◌≤◌, [], ℕ, List, OnOk};
 ghost use Rattle.std.specs.Io.KnownBytes.{Consumes};
 ghost use Rattle.dl_run.specs.AroundCommands.{ChecksAround};
 ghost use Rattle.dl_run.specs.Commands.{Checks};
@@ -79,6 +80,7 @@ pub fn check<R: Source, W: Destination>(
     ensures blames { Blames R.follows R.fails input.old input.new
         (result ≡ Err RunFault.Read) }
     ensures blames_writer { BlamesWriter W.fails result }
+    ensures over { OnOk result (R.over input.new) }
 {
     let mut checker = Checker {
         damages: &mut NoneTold,
@@ -110,6 +112,7 @@ pub fn check_around<R: Source, W: Destination, D: DamageSink>(
     ensures blames { Blames R.follows R.fails input.old input.new
         ((D.hears damages.old damages.old []) × (result ≡ Err RunFault.Read)) }
     ensures blames_writer { D.hears damages.old damages.old [] → BlamesWriter W.fails result }
+    ensures over { D.hears damages.old damages.old [] → WhereWhole (R.over input.new) result }
 {
     let mut checker = Checker { damages };
     let survey = read_units_around(alloc, input, output, options, &mut checker)?;

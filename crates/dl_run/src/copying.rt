@@ -1,7 +1,7 @@
 //! The commands that write all units anew.
 
 ghost use Rattle.dl_input.specs.Failing.{Blames};
-ghost use Rattle.std.specs.Prelude.{◌≡◌, ◌≤◌, ◌++◌, ℕ, List, [], None, IfOk, OnErr};
+ghost use Rattle.std.specs.Prelude.{◌≡◌, ◌≤◌, ◌++◌, ℕ, List, [], None, IfOk, OnErr, OnOk};
 ghost use Rattle.dl_run.specs.Blaming.{BlamesWriter};
 ghost use Rattle.std.specs.Io.KnownBytes.{Consumes};
 ghost use Rattle.dl_rows.specs.declared.row.Row.{Row};
@@ -303,6 +303,7 @@ pub fn copy<M: Memory, R: Source, W: Destination>(
     ensures blames { Blames R.follows R.fails input.old input.new
         (result ≡ Err RunFault.Read) }
     ensures blames_writer { BlamesWriter W.fails result }
+    ensures over { OnOk result (R.over input.new) }
 {
     let mut copier = Copier::new(memory, options.dialect.order, Becomes::Itself);
     let own = Options {
@@ -332,6 +333,7 @@ pub fn copy_to_5<M: Memory, R: Source, W: Destination>(
     ensures blames { Blames R.follows R.fails input.old input.new
         (result ≡ Err RunFault.Read) }
     ensures blames_writer { BlamesWriter W.fails result }
+    ensures over { OnOk result (R.over input.new) }
 {
     let becomes = Becomes::Version5(directories);
     let mut copier = Copier::new(memory, options.dialect.order, becomes);

@@ -89,6 +89,7 @@ pub fn find<R: Source, W: Destination>(
     ensures blames { Blames R.follows R.fails input.old input.new
         (result ≡ Err RunFault.Read) }
     ensures blames_writer { BlamesWriter W.fails result }
+    ensures over { result ≡ Err RunFault.NotFound → R.over input.new }
 {
     let strings = StringSections::new(options.debug_line_str, options.debug_str);
     let mut seeker = Seeker {

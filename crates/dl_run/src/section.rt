@@ -2,6 +2,7 @@
 
 ghost use Rattle.dl_input.specs.Failing.{Blames};
 ghost use Rattle.dl_run.specs.Blaming.{BlamesWriter, NeverBlames};
+ghost use Rattle.dl_run.specs.Ending.{WantsNoMore};
 ghost use Rattle.std.specs.Prelude.{◌≡◌, ◌≤◌, ◌<◌, ◌+◌, ◌^◌, ◌++◌, ◌∷◌, ◌⊎◌, [], ℕ, List, Option, length, take, IfOk};
 ghost use Rattle.std.specs.Prelude.{OnOk};
 ghost use Rattle.dl_num.specs.declared.fixed.Order.{Order};
@@ -396,6 +397,10 @@ pub fn read_units<R: Source, W: Destination, V: Visitor<W>>(
     ensures blames_writer { V.story.tells visitor.old visitor.old (W.contents output.old) (W.contents output.old) []
         → Appends (W.contents output.old) (W.contents output.old) (V.story.text visitor.old [])
         → BlamesWriter W.fails result }
+    ensures over { V.story.tells visitor.old visitor.old (W.contents output.old) (W.contents output.old) []
+        → Appends (W.contents output.old) (W.contents output.old) (V.story.text visitor.old [])
+        → OnOk result (R.over input.new
+        ⊎ WantsNoMore V.story visitor.old visitor.new (W.contents output.old) (W.contents output.new)) }
 {
     let mut units = SectionUnits::new(alloc, options.dialect);
     read_pieces(&mut units, input, output, options, visitor)
@@ -422,6 +427,10 @@ fn read_pieces<R: Source, W: Destination, V: Visitor<W>>(
     ensures blames_writer { V.story.tells visitor.old visitor.old (W.contents output.old) (W.contents output.old) []
         → Appends (W.contents output.old) (W.contents output.old) (V.story.text visitor.old [])
         → BlamesWriter W.fails result }
+    ensures over { V.story.tells visitor.old visitor.old (W.contents output.old) (W.contents output.old) []
+        → Appends (W.contents output.old) (W.contents output.old) (V.story.text visitor.old [])
+        → OnOk result (R.over input.new
+        ⊎ WantsNoMore V.story visitor.old visitor.new (W.contents output.old) (W.contents output.new)) }
 {
     let mut buffer = Input::new();
     let mut left = options.limit;

@@ -1,6 +1,6 @@
 //! A string section, read whole.
 ghost use Rattle.dl_input.specs.Failing.{Blames};
-ghost use Rattle.std.specs.Prelude.{◌≡◌, ◌≤◌, ℕ, List, length, MatchResult};
+ghost use Rattle.std.specs.Prelude.{◌≡◌, ◌≤◌, ℕ, List, length, MatchResult, OnOk};
 ghost use Rattle.std.specs.Io.KnownBytes.{Consumes, IsAtEnd};
 ghost use Rattle.dl_run.specs.Strings.{StopsReading};
 
@@ -23,6 +23,7 @@ pub fn read_strings<M: Memory, R: Source>(
         (StopsReading (M.refuses memory.now) limit bs) }
     ensures blames { Blames R.follows R.fails input.old input.new
         (result ≡ Err RunFault.Read) }
+    ensures over { OnOk result (R.over input.new) }
 {
     let mut bytes = Vec::new(memory.alloc());
     let mut buffer = Input::new();

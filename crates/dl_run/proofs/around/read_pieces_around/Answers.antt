@@ -1,10 +1,11 @@
-use Rattle.std.proofs.Common.{[], ◌++◌, length, arith, refl, sym, ◌∙◌}
+use Rattle.std.proofs.Common.{[], ◌++◌, inl, inr, length, arith, refl, sym, ◌∙◌}
 use Rattle.std.proofs.lemmas.Result.{err_from_is_err_and}
 use Rattle.std.proofs.lemmas.Bool.{eqb-true}
 use Rattle.std.proofs.lemmas.List.{nil_from_length}
 use Rattle.std.proofs.KnownBytes.{Consumes-nil}
 use Rattle.dl_run.proofs.AroundPieces.{at_end, begins, no_more, reads_on, stops, too_long}
 use Rattle.dl_run.proofs.BlameLemmas.{blames_next, none_fed, same_fault}
+use Rattle.dl_run.proofs.EndLemmas.{stops_fed}
 use Rattle.dl_run.proofs.around.read_pieces_around.Goals as goal
 
 pub pieces-init : goal.pieces-init
@@ -32,6 +33,7 @@ returns-then-is_empty g c =
           (omega (arith, so.within), c.in-Ok.ensures.end none) (omega (arith, c.requires.limit, so.within)) is);
       blames = blames_next _ c.pieces.invariant.follows c.next_piece.ensures.blames (λ e. absurd cc);
       blames_writer = λ tells out. tt;
+      over = λ tells out whole. inl (c.in-Ok.ensures.over none);
     }
 
 pub returns-in_err-feed : goal.returns-in_err-feed
@@ -49,6 +51,7 @@ returns-in_err-feed g c =
           c.args.visitor.now (g.W.Write.contents c.args.output.now) (so.told e.0.tells e.0.out)) (same_fault _ e.1)));
       blames_writer = λ tells out. c.in_err-feed.ensures.blames_writer c.args.options.now.dialect so.t
           c.args.visitor.now (g.W.Write.contents c.args.output.now) (so.told tells out);
+      over = λ tells out. tt;
     })
 
 pub returns-in-Stop : goal.returns-in-Stop
@@ -60,6 +63,11 @@ returns-in-Stop g c =
           c.args.visitor.now (g.W.Write.contents c.args.output.now) is) c.survey.ensures;
       blames = blames_next _ c.pieces.invariant.follows c.next_piece.ensures.blames (λ e. absurd cc);
       blames_writer = λ tells out. tt;
+      over = λ tells out whole. inr (stops_fed g.V.Visitor.story c.args.visitor.now c.feed.new.visitor
+          (g.W.Write.contents c.args.output.now) (g.W.Write.contents c.feed.new.output) c.args.options.now.dialect
+          (so.t ++ c.front-within.result.now) c.feed.new.self c.in-Stop.is c.survey.ensures
+          (c.in_ok-feed.ensures.fed c.args.options.now.dialect so.t c.args.visitor.now
+          (g.W.Write.contents c.args.output.now) (so.told tells out)) whole);
     }
 
 pub returns-then-within-piece : goal.returns-then-within-piece
@@ -71,6 +79,7 @@ returns-then-within-piece g c =
           c.args.visitor.now (g.W.Write.contents c.args.output.now) is) c.if-within-piece.true;
       blames = blames_next _ c.pieces.invariant.follows c.next_piece.ensures.blames (λ e. absurd cc);
       blames_writer = λ tells out. tt;
+      over = λ tells out. tt;
     }
 
 pub pieces-preserved : goal.pieces-preserved

@@ -1,6 +1,7 @@
 use Rattle.dl_run.proofs.Names.{[], Appends-nil, err_from_is_err_and, HasPrinted-out, summary_line}
 use Rattle.dl_run.proofs.CheckingLemmas.{begins, failed, line_lost, line_out, nothing_printed}
 use Rattle.dl_run.proofs.BlameLemmas.{blames_where}
+use Rattle.dl_run.proofs.EndLemmas.{only_left}
 use Rattle.dl_run.proofs.checking.check.Goals as goal
 
 pub returns-in_err-summary : goal.returns-in_err-summary
@@ -10,6 +11,7 @@ returns-in_err-summary g c =
       ran = failed _ _ _ _ _ _ _ _ _ tt _ c.in_err-summary.ensures.ran;
       blames = blames_where c.in_err-summary.ensures.blames (λ e. (record { tells = begins tt; out = Appends-nil _; never = λ visits no. no }, e));
       blames_writer = c.in_err-summary.ensures.blames_writer (begins tt) (Appends-nil _);
+      over = tt;
     })
 
 pub returns-in_err-summary-2 : goal.returns-in_err-summary-2
@@ -23,6 +25,7 @@ returns-in_err-summary-2 g c =
           (c.in_err-summary-2.ensures.printed _ [] nothing);
       blames = blames_where c.in_ok-summary.ensures.blames (λ e. absurd cc);
       blames_writer = c.in_err-summary-2.ensures.blames;
+      over = tt;
     })
 
 pub returns-in_err-flush : goal.returns-in_err-flush
@@ -37,6 +40,7 @@ returns-in_err-flush g c =
           (c.in_ok-summary-2.ensures.printed _ [] nothing));
       blames = blames_where c.in_ok-summary.ensures.blames (λ e. absurd cc);
       blames_writer = c.in_err-flush.ensures.blames;
+      over = tt;
     })
 
 pub returns : goal.returns
@@ -53,4 +57,5 @@ returns g c =
           (HasPrinted-out start now line c.flush.new.self printed c.in_ok-flush.ensures.empty);
       blames = blames_where c.in_ok-summary.ensures.blames (λ e. absurd cc);
       blames_writer = tt;
+      over = only_left (λ done. done.1) (c.in_ok-summary.ensures.over (begins tt) (Appends-nil _));
     }

@@ -2,6 +2,7 @@ use Rattle.dl_run.proofs.Names.{[], Appends-nil, err_from_is_err_and, HasPrinted
 use Rattle.dl_print.specs.Text.{survey_line}
 use Rattle.dl_run.proofs.CheckingLemmas.{begins, counts_lost, counts_out, failed_around}
 use Rattle.dl_run.proofs.BlameLemmas.{blames_where}
+use Rattle.dl_run.proofs.EndLemmas.{only_left}
 use Rattle.dl_run.proofs.checking.check_around.Goals as goal
 
 pub returns-in_err-survey : goal.returns-in_err-survey
@@ -11,6 +12,7 @@ returns-in_err-survey g c =
       ran = failed_around _ _ _ _ _ _ _ _ _ _ (search) _ c.in_err-survey.ensures.ran;
       blames = blames_where c.in_err-survey.ensures.blames (λ e. (record { tells = begins e.0; out = Appends-nil _; never = λ visits no. no }, e.1));
       blames_writer = λ hears. c.in_err-survey.ensures.blames_writer (begins hears) (Appends-nil _);
+      over = λ hears. tt;
     })
 
 pub returns-in_err-survey-2 : goal.returns-in_err-survey-2
@@ -23,6 +25,7 @@ returns-in_err-survey-2 g c =
           (HasPrinted-nothing _ _ new.result out new.ensures.nothing_pending new.ensures.nothing_out)));
       blames = blames_where c.in_ok-survey.ensures.blames (λ e. absurd cc);
       blames_writer = λ hears. c.in_err-survey-2.ensures.blames;
+      over = λ hears. tt;
     })
 
 pub returns-in_err-flush : goal.returns-in_err-flush
@@ -36,6 +39,7 @@ returns-in_err-flush g c =
           (HasPrinted-nothing _ _ new.result out new.ensures.nothing_pending new.ensures.nothing_out))));
       blames = blames_where c.in_ok-survey.ensures.blames (λ e. absurd cc);
       blames_writer = λ hears. c.in_err-flush.ensures.blames;
+      over = λ hears. tt;
     })
 
 pub returns : goal.returns
@@ -51,4 +55,5 @@ returns g c =
           c.in_ok-flush.ensures.empty));
       blames = blames_where c.in_ok-survey.ensures.blames (λ e. absurd cc);
       blames_writer = λ hears. tt;
+      over = λ hears whole. only_left (λ done. done.1) (c.in_ok-survey.ensures.over (begins hears) (Appends-nil _) whole);
     }

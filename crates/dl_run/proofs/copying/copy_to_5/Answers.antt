@@ -3,6 +3,7 @@ use Rattle.dl_run.proofs.CopierLemmas.{begins}
 use Rattle.dl_run.proofs.CopyingAnswers.{copies}
 use Rattle.dl_run.proofs.RangeLemmas.{KeepsRanges, to_5_keeps}
 use Rattle.dl_run.proofs.BlameLemmas.{blames_where, copies_never_read}
+use Rattle.dl_run.proofs.EndLemmas.{only_over}
 use Rattle.dl_run.proofs.copying.copy_to_5.Goals as goal
 
 pub returns : goal.returns
@@ -30,4 +31,6 @@ returns g c =
       ));
       blames_writer = c.read_units.ensures.blames_writer
           (begins copier.result _ copier.ensures.no_row copier.ensures.nothing_pending copier.ensures.nothing_out) (Appends-nil _);
+      over = only_over (g.R.Source.over c.read_units.new.input) c.read_units.result (c.read_units.ensures.over
+          (begins copier.result _ copier.ensures.no_row copier.ensures.nothing_pending copier.ensures.nothing_out) (Appends-nil _));
     }

@@ -1,6 +1,7 @@
 use Rattle.dl_run.proofs.Names.{Appends-nil, HasPrinted-nothing, refl}
 use Rattle.dl_run.proofs.DumpingLemmas.{dumps}
 use Rattle.dl_run.proofs.BlameLemmas.{blames_where}
+use Rattle.dl_run.proofs.EndLemmas.{only_over}
 use Rattle.dl_run.proofs.dumping.dump.Goals as goal
 
 pub returns : goal.returns
@@ -22,4 +23,6 @@ returns g c =
       ));
       blames_writer = c.read_units.ensures.blames_writer
           (record { strings = refl; damages = refl; heard = tt; printed = nothing }) (Appends-nil start);
+      over = only_over (g.R.Source.over c.read_units.new.input) c.read_units.result (c.read_units.ensures.over
+          (record { strings = refl; damages = refl; heard = tt; printed = nothing }) (Appends-nil start));
     }

@@ -1,6 +1,7 @@
 use Rattle.dl_run.proofs.Names.{Appends-nil, HasPrinted-nothing, refl}
 use Rattle.dl_run.proofs.DumpingLemmas.{dumps_around}
 use Rattle.dl_run.proofs.BlameLemmas.{blames_where}
+use Rattle.dl_run.proofs.EndLemmas.{only_where}
 use Rattle.dl_run.proofs.dumping.dump_around.Goals as goal
 
 pub returns : goal.returns
@@ -26,4 +27,6 @@ returns g c =
       ));
       blames_writer = λ none. c.read_units_around.ensures.blames_writer
           (record { strings = refl; damages = refl; heard = none; printed = nothing }) (Appends-nil start);
+      over = λ none. only_where (g.R.Source.over c.read_units_around.new.input) c.read_units_around.result (c.read_units_around.ensures.over
+          (record { strings = refl; damages = refl; heard = none; printed = nothing }) (Appends-nil start));
     }

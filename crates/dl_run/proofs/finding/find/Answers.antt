@@ -1,9 +1,11 @@
 use Rattle.dl_look.specs.declared.finder.Finder.{Finder}
 use Rattle.dl_print.specs.declared.output.string_sections.StringSections.{StringSections}
-use Rattle.dl_run.proofs.Names.{Appends-nil, err_from_is_err_and, false, Place, Printed, refl, Seeker}
+use Rattle.dl_run.proofs.Names.{◌≡◌, ◌∙◌, Appends-nil, err_from_is_err_and, false, find_story, Place, Printed, refl, Seeker, true}
+use Rattle.std.proofs.Common.{sym}
 use Rattle.dl_run.proofs.SeekerLemmas.{begins}
 use Rattle.dl_run.proofs.FindingAnswers.{failed, found, not_found}
-use Rattle.dl_run.proofs.BlameLemmas.{blames_where}
+use Rattle.dl_run.proofs.BlameLemmas.{blames_where, same_fault}
+use Rattle.dl_run.proofs.EndLemmas.{none_unfound, only_left, unfound}
 use Rattle.dl_run.proofs.finding.find.Goals as goal
 
 -- the seeker that reads the section
@@ -25,6 +27,7 @@ returns-in_err-summary g c =
         e,
       ));
       blames_writer = c.in_err-summary.ensures.blames_writer begun (Appends-nil _);
+      over = λ e. absurd (none_unfound find_story first _ _ _ _ _ _ _ _ (λ visits no. no) (read.2 begun (Appends-nil _)) (unfound _ e));
     })
 
 pub returns-then-seeker : goal.returns-then-seeker
@@ -40,6 +43,7 @@ returns-then-seeker g c =
       );
       blames = blames_where c.in_ok-summary.ensures.blames (λ e. absurd cc);
       blames_writer = tt;
+      over = λ e. absurd (cc e);
     }
 
 pub returns-else-seeker : goal.returns-else-seeker
@@ -55,4 +59,6 @@ returns-else-seeker g c =
       );
       blames = blames_where c.in_ok-summary.ensures.blames (λ e. absurd cc);
       blames_writer = tt;
+      over = λ e. only_left (λ done. (let bad : true ≡ false = sym done.1.found ∙ c.if-seeker.false in cc bad))
+          (c.in_ok-summary.ensures.over begun (Appends-nil _));
     }

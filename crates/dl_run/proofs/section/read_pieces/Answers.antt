@@ -1,4 +1,4 @@
-use Rattle.std.proofs.Common.{[], ◌++◌, length, arith, refl, sym, ◌∙◌}
+use Rattle.std.proofs.Common.{[], ◌++◌, inl, inr, length, arith, refl, sym, ◌∙◌}
 use Rattle.std.proofs.lemmas.Result.{err_from_is_err_and}
 use Rattle.std.proofs.lemmas.Bool.{eqb-true}
 use Rattle.std.proofs.lemmas.List.{nil_from_length}
@@ -6,6 +6,7 @@ use Rattle.std.proofs.KnownBytes.{Consumes-nil}
 use Rattle.dl_run.proofs.SectionLemmas.{none_begins, none_refused, nothing_before}
 use Rattle.dl_run.proofs.ReadLemmas.{failed_read, at_end, stops, wants_no_more, too_long, reads_on}
 use Rattle.dl_run.proofs.BlameLemmas.{blames_next, finished_blames, none_finished, none_worked, same_fault}
+use Rattle.dl_run.proofs.EndLemmas.{on_ok, stops_worked}
 use Rattle.dl_run.proofs.section.read_pieces.Goals as goal
 
 pub pieces-init : goal.pieces-init
@@ -36,6 +37,7 @@ returns-in_default g c =
           (g.R.Read.remaining c.next_piece.new.reader) c.in_default.ensures.err;
       blames = blames_next _ (λ first is. l.invariant.follows first is) c.in_default.ensures.blames (λ e. refl);
       blames_writer = λ tells out. tt;
+      over = λ tells out. tt;
     }
 
 pub returns-then-is_empty : goal.returns-then-is_empty
@@ -64,6 +66,9 @@ returns-then-is_empty g c =
           (c.finish.ensures c.args.options.now.dialect (nothing_before c.args.options.now.dialect) l.invariant.so.t
           told.units told.b told.are told.none told.sound
           (omega (arith, c.requires.limit, l.invariant.so.within)));
+      over = λ tells out. on_ok c.finish.result (inl (c.in-Ok.ensures.over
+          (nil_from_length c.in-Ok.piece.now (eqb-true (length c.in-Ok.piece.now) 0 (sym c.is_empty.ensures
+          ∙ c.if-is_empty.true)))));
     }
 
 pub returns-in_err-work_through : goal.returns-in_err-work_through
@@ -96,6 +101,7 @@ returns-in_err-work_through g c =
           (nothing_before c.args.options.now.dialect) l.invariant.so.t told.units told.b
           c.args.visitor.now (g.W.Write.contents c.args.output.now) told.are
           (omega (arith, c.requires.limit, l.invariant.so.within, c.front-within.ensures.short)) told.settled.tells;
+      over = λ tells out. tt;
     })
 
 pub returns-in-Stop : goal.returns-in-Stop
@@ -114,6 +120,14 @@ returns-in-Stop g c =
           (omega (arith, c.requires.limit, l.invariant.so.within, c.front-within.ensures.short)) told.settled.tells);
       blames = blames_next _ (λ first is. l.invariant.follows first is) c.next_piece.ensures.blames (λ e. absurd cc);
       blames_writer = λ tells out. tt;
+      over = λ tells out.
+          let told = l.invariant.so.told tells out in
+          inr (stops_worked g.V.Visitor.story c.args.visitor.now c.work_through.new.visitor (g.W.Write.contents c.args.output.now)
+          (g.W.Write.contents c.work_through.new.output) (nothing_before c.args.options.now.dialect)
+          (l.invariant.so.t ++ c.front-within.result.now) c.work_through.new.units c.in-Stop.is
+          (c.in_ok-work_through.ensures.worked c.args.options.now.dialect (nothing_before c.args.options.now.dialect)
+          l.invariant.so.t told.units told.b c.args.visitor.now (g.W.Write.contents c.args.output.now) told.are
+          (omega (arith, c.requires.limit, l.invariant.so.within, c.front-within.ensures.short)) told.settled.tells));
     }
 
 pub returns-then-within-piece : goal.returns-then-within-piece
@@ -133,6 +147,7 @@ returns-then-within-piece g c =
           c.if-within-piece.true;
       blames = blames_next _ (λ first is. l.invariant.follows first is) c.next_piece.ensures.blames (λ e. absurd cc);
       blames_writer = λ tells out. tt;
+      over = λ tells out. tt;
     }
 
 pub pieces-preserved : goal.pieces-preserved

@@ -14,6 +14,7 @@ returns-then-limit-len g c =
         omega (arith, c.if-limit-len.true, c.len.ensures, l.bytes.ok.0, length-append l.bytes.items piece),
       );
       blames = blames_next _ l.invariant.follows c.next_piece.ensures.blames (λ e. absurd cc);
+      over = tt;
     }
 
 pub returns-in_default-extend_from_slice : goal.returns-in_default-extend_from_slice
@@ -37,6 +38,7 @@ returns-in_default-extend_from_slice g c =
         ),
       );
       blames = blames_next _ l.invariant.follows c.next_piece.ensures.blames (λ e. absurd cc);
+      over = tt;
     }
 
 pub returns-in_default-clause-blames : goal.returns-in_default-clause-blames
