@@ -19,8 +19,10 @@ pub mod PartLemmas
 pub mod ReadLemmas
 pub mod RegionLemmas
 pub mod RiseLemmas
+pub mod RoomLemmas
 pub mod StretchLemmas
 pub mod TableLemmas
+pub mod GrowthLemmas
 pub mod TellLemmas
 pub mod TextLemmas
 pub mod TotalLemmas

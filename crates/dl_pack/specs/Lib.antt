@@ -6,6 +6,7 @@ pub mod Columns
 pub mod Tables
 pub mod IndexOf
 pub mod Faults
+pub mod Room
 pub mod Telling
 pub mod Laws
 -- For what a value stands; public contracts name this, and don't rest on how it is said.

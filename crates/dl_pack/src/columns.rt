@@ -1,7 +1,7 @@
 //! The numbers of columns, and how numbers are put.
 
-ghost use Rattle.std.specs.Prelude.{◌≡◌, ◌-◌, ◌<◌, ◌≤◌, ◌^◌, ◌++◌, IfOk, OnErr, vec_len, replicate};
-ghost use Rattle.dl_memory.specs.Refusals.{WasRefused};
+ghost use Rattle.std.specs.Prelude.{◌≡◌, ◌+◌, ◌-◌, ◌<◌, ◌≤◌, ◌^◌, ◌++◌, IfOk, OnErr, length, vec_len, replicate};
+ghost use Rattle.dl_memory.specs.Refusals.{IsRefused};
 ghost use Rattle.dl_num.specs.Fixed.{little_bytes};
 ghost use Rattle.dl_index.specs.Columns.{size_of};
 ghost use Rattle.dl_index.specs.Layout.{rounded};
@@ -78,7 +78,7 @@ pub fn put_number<M: Memory>(
 ) -> Result<(), NoMemory>
     requires { size ≤ 8 }
     ensures put { IfOk result (λ _. out.new.items ≡ out.old.items ++ little_bytes size number) }
-    ensures refused { OnErr result (WasRefused (M.refuses memory.now)) }
+    ensures refused { OnErr result (IsRefused (M.refuses memory.now) (length out.old.items + size)) }
 {
     let bytes = number.to_le_bytes();
     match memory.extend_from_slice(out, &bytes[..size]) {
@@ -90,16 +90,17 @@ pub fn put_number<M: Memory>(
 /// Puts some bytes.
 pub fn put_slice<M: Memory>(memory: &M, out: &mut Vec<u8>, slice: &[u8]) -> Result<(), NoMemory>
     ensures put { IfOk result (λ _. out.new.items ≡ out.old.items ++ slice.now) }
-    ensures refused { OnErr result (WasRefused (M.refuses memory.now)) }
+    ensures refused { OnErr result (IsRefused (M.refuses memory.now) (length out.old.items + length slice.now)) }
 {
-    memory.extend_from_slice(out, slice)
+    memory.extend_from_slice(out, slice)?;
+    Ok(())
 }
 
 /// Puts this many bytes of 0.
 pub fn put_zeros<M: Memory>(memory: &M, out: &mut Vec<u8>, count: usize) -> Result<(), NoMemory>
     requires { count ≤ 44 }
     ensures put { IfOk result (λ _. out.new.items ≡ out.old.items ++ replicate count 0) }
-    ensures refused { OnErr result (WasRefused (M.refuses memory.now)) }
+    ensures refused { OnErr result (IsRefused (M.refuses memory.now) (length out.old.items + count)) }
 {
     let zeros = [0; 44];
     put_slice(memory, out, &zeros[..count])?;
@@ -111,9 +112,10 @@ pub fn pad<M: Memory>(memory: &M, out: &mut Vec<u8>, start: usize) -> Result<(),
     requires { start ≤ vec_len out.old }
     ensures put { IfOk result (λ _. out.new.items ≡ out.old.items
         ++ replicate (rounded (vec_len out.old - start) - (vec_len out.old - start)) 0) }
-    ensures refused { OnErr result (WasRefused (M.refuses memory.now)) }
+    ensures refused { OnErr result (IsRefused (M.refuses memory.now) (length out.old.items + 7)) }
 {
     let len = out.len() - start;
     let rest = (len + 7) / 8 * 8 - len;
-    put_zeros(memory, out, rest)
+    put_zeros(memory, out, rest)?;
+    Ok(())
 }

@@ -1,7 +1,7 @@
 //! The header of an index.
 
-ghost use Rattle.std.specs.Prelude.{◌≡◌, ◌++◌, ◌<◌, ◌≤◌, ◌^◌, IfOk, OnErr, length, drop, vec_len};
-ghost use Rattle.dl_memory.specs.Refusals.{WasRefused};
+ghost use Rattle.std.specs.Prelude.{◌≡◌, ◌+◌, ◌*◌, ◌++◌, ◌<◌, ◌≤◌, ◌^◌, IfOk, OnErr, length, drop, vec_len};
+ghost use Rattle.dl_memory.specs.Refusals.{IsRefused};
 ghost use Rattle.dl_crc.specs.Crc32.{crc_32};
 ghost use Rattle.dl_pack.specs.Columns.{column_bytes};
 ghost use Rattle.dl_pack.specs.IndexOf.{header_front, header_back, header_with, header_of, whole_of};
@@ -43,7 +43,7 @@ pub struct Described {
 /// Puts numbers of eight bytes.
 fn put_numbers<M: Memory>(memory: &M, out: &mut Vec<u8>, numbers: &[u64]) -> Result<(), NoMemory>
     ensures put { IfOk result (λ _. out.new.items ≡ out.old.items ++ column_bytes 8 numbers.now) }
-    ensures refused { OnErr result (WasRefused (M.refuses memory.now)) }
+    ensures refused { OnErr result (IsRefused (M.refuses memory.now) (length out.old.items + 8 * length numbers.now)) }
 {
     for number in numbers {
         put_number(memory, out, 8, *number)?;
@@ -55,7 +55,7 @@ fn put_numbers<M: Memory>(memory: &M, out: &mut Vec<u8>, numbers: &[u64]) -> Res
 fn put_front<M: Memory>(memory: &M, out: &mut Vec<u8>, header: &Header) -> Result<(), NoMemory>
     ensures put { IfOk result (λ _. out.new.items ≡ out.old.items
         ++ header_front header.now.flags header.now.numbers header.now.widths header.now.sum) }
-    ensures refused { OnErr result (WasRefused (M.refuses memory.now)) }
+    ensures refused { OnErr result (IsRefused (M.refuses memory.now) (length out.old.items + 76)) }
 {
     put_slice(memory, out, b"dlineidx")?;
     put_number(memory, out, 4, 1)?;
@@ -71,7 +71,7 @@ fn put_front<M: Memory>(memory: &M, out: &mut Vec<u8>, header: &Header) -> Resul
 fn put_back<M: Memory>(memory: &M, out: &mut Vec<u8>, build_id: &[u8]) -> Result<(), NoMemory>
     requires { length build_id.now ≤ 32 }
     ensures put { IfOk result (λ _. out.new.items ≡ out.old.items ++ header_back build_id.now) }
-    ensures refused { OnErr result (WasRefused (M.refuses memory.now)) }
+    ensures refused { OnErr result (IsRefused (M.refuses memory.now) (length out.old.items + 48)) }
 {
     put_number(memory, out, 1, build_id.len() as u64)?;
     put_slice(memory, out, &[0, 0, 0])?;
@@ -90,7 +90,7 @@ fn header_with<M: Memory>(
     requires { length build_id.now ≤ 32 }
     ensures made { IfOk result (λ bytes. bytes.items
         ≡ header_with (header_front header.now.flags header.now.numbers header.now.widths header.now.sum) build_id.now sum) }
-    ensures refused { OnErr result (WasRefused (M.refuses memory.now)) }
+    ensures refused { OnErr result (IsRefused (M.refuses memory.now) (128)) }
 {
     let mut bytes = Vec::new(memory.alloc());
     put_front(memory, &mut bytes, header)?;
@@ -111,7 +111,7 @@ fn header_bytes<M: Memory>(
     ensures sum { IfOk result (λ _.
         crc_32 (header_with (header_front header.now.flags header.now.numbers header.now.widths header.now.sum) build_id.now 0)
         < 2 ^ 32) }
-    ensures refused { OnErr result (WasRefused (M.refuses memory.now)) }
+    ensures refused { OnErr result (IsRefused (M.refuses memory.now) (128)) }
 {
     let summed = header_with(memory, header, build_id, 0)?;
     let sum = crc_32(summed.as_slice());
@@ -130,7 +130,7 @@ pub fn fill_header<M: Memory>(
     ensures whole { IfOk result (λ _. let d = described.now in bytes.new.items
         ≡ whole_of d.flags d.base d.count d.files d.texts d.text_bytes d.widths build_id.now (drop 128 bytes.old.items)) }
     ensures sums { IfOk result (λ _. SumsFit bytes.new.items) }
-    ensures refused { OnErr result (WasRefused (M.refuses memory.now)) }
+    ensures refused { OnErr result (IsRefused (M.refuses memory.now) (128)) }
 {
     let header = Header {
         flags: described.flags,

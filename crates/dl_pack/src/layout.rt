@@ -1,7 +1,7 @@
 //! Where the columns of an index stand, and the bits of is_stmt.
 
-ghost use Rattle.std.specs.Prelude.{◌≡◌, ℕ, ◌+◌, ◌<◌, ◌≤◌, ◌^◌, ◌++◌, IfOk, OnErr, List, None, length, map, replicate, vec_capacity};
-ghost use Rattle.dl_memory.specs.Refusals.{WasRefused};
+ghost use Rattle.std.specs.Prelude.{◌≡◌, ℕ, ◌+◌, ◌*◌, ◌<◌, ◌≤◌, ◌^◌, ◌++◌, IfOk, OnErr, List, None, length, map, replicate, vec_capacity};
+ghost use Rattle.dl_memory.specs.Refusals.{IsRefused};
 ghost use Rattle.std.specs.List.{flat_map};
 ghost use Rattle.dl_index.specs.Columns.{size_of};
 ghost use Rattle.dl_index.specs.Layout.{rounded};
@@ -51,7 +51,8 @@ pub fn with_columns<M: Memory, T: Stretches>(
         → NumbersFit (base_of list) (order_of totals.now.files.files) list) }
     ensures few { IfOk result (λ _. (list : List each.Stretch) → T.stands stretches.now list
         → totals.now.starts.count ≡ length list) }
-    ensures refused { OnErr result (WasRefused (M.refuses memory.now)) }
+    ensures len { IfOk result (λ put. length put.0.items ≤ 171 + 41 * totals.now.starts.count) }
+    ensures refused { OnErr result (IsRefused (M.refuses memory.now) (171 + 41 * totals.now.starts.count)) }
 {
     let mut writer = laid_out(memory, totals)?;
     stretches.tell(&mut writer);
@@ -73,7 +74,8 @@ fn laid_out<'a, M: Memory>(memory: &M, totals: &'a Totals) -> Result<ColumnWrite
     ensures files { IfOk result (λ w. w.files.now ≡ totals.now.files.files) }
     ensures few { IfOk result (λ _. totals.now.starts.count < 0xffffffffffffffff) }
     ensures fits { IfOk result (λ _. TotalsFit totals.now) }
-    ensures refused { OnErr result (WasRefused (M.refuses memory.now)) }
+    ensures len { IfOk result (λ w. length w.bytes.items ≤ 171 + 41 * totals.now.starts.count) }
+    ensures refused { OnErr result (IsRefused (M.refuses memory.now) (171 + 41 * totals.now.starts.count)) }
 {
     let places = places_of(128, totals);
     let mut bytes = header_room(memory, places.end)?;
@@ -113,6 +115,7 @@ fn header_room<M: Memory>(memory: &M, end: usize) -> Result<Vec<u8>, NoMemory>
 fn places_of(len: usize, totals: &Totals) -> Places
     ensures laid { result.end < 2 ^ 63 → AreLaid result len totals.now }
     ensures room { len ≤ result.end }
+    ensures most { result.end ≤ len + 41 * totals.now.starts.count + 43 }
 {
     let count = totals.starts.count;
     let start = Cursor {
@@ -141,6 +144,7 @@ fn places_of(len: usize, totals: &Totals) -> Places
 fn cursor_after(before: Cursor, count: usize, greatest: u64) -> Cursor
     ensures place { result.next < 2 ^ 63 → result.next ≡ before.next + room_of count (size_of before.width) }
     ensures behind { before.next ≤ result.next }
+    ensures most { result.next ≤ before.next + 8 * count + 7 }
     ensures few { result.next < 2 ^ 63 → count < 2 ^ 63 }
     ensures width { size_of result.width ≡ least_size greatest }
 {
@@ -154,6 +158,7 @@ fn cursor_after(before: Cursor, count: usize, greatest: u64) -> Cursor
 fn place_after(column: Cursor, count: usize) -> usize
     ensures place { result < 2 ^ 63 → result ≡ column.next + room_of count (size_of column.width) }
     ensures behind { column.next ≤ result }
+    ensures most { result ≤ column.next + 8 * count + 7 }
     ensures few { result < 2 ^ 63 → count < 2 ^ 63 }
 {
     column
@@ -165,6 +170,7 @@ fn place_after(column: Cursor, count: usize) -> usize
 fn rounded_up(len: usize) -> usize
     ensures rounded { result < 2 ^ 63 → result ≡ rounded len }
     ensures large { 2 ^ 63 ≤ len → 2 ^ 63 ≤ result }
+    ensures most { result ≤ len + 7 }
 {
     len.saturating_add(7) / 8 * 8
 }

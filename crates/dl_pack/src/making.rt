@@ -1,13 +1,14 @@
 //! The bytes of an index.
 
-ghost use Rattle.std.specs.Prelude.{◌≡◌, ℕ, ◌<◌, ◌≤◌, ◌++◌, List, [], None, length, map, IfOk, IfErr, OnErr};
-ghost use Rattle.dl_memory.specs.Refusals.{WasRefused};
+ghost use Rattle.std.specs.Prelude.{◌≡◌, ℕ, ◌+◌, ◌*◌, ◌<◌, ◌≤◌, ◌++◌, List, [], None, Err, length, map, IfOk, IfErr, OnErr};
+ghost use Rattle.dl_memory.specs.Refusals.{IsRefused, WasRefused};
 ghost use Rattle.std.specs.List.{All, flat_map};
 ghost use Rattle.dl_stretch.specs.declared.stretch.Stretch as each;
 ghost use Rattle.dl_pack.specs.IndexOf.{files_told, file_order, text_place, file_places, text_order};
 ghost use Rattle.dl_pack.specs.IndexOf.{tables_by, index_of};
 ghost use Rattle.dl_pack.specs.Faults.{AreTooMany, PackFails, TextsFail, TotalsFail};
 ghost use Rattle.dl_pack.specs.Columns.{padded};
+ghost use Rattle.dl_pack.specs.Room.{index_room, tables_room};
 ghost use Rattle.dl_pack.specs.Tables.{texts_at, total_len};
 ghost use Rattle.dl_pack.specs.Numbering.{mentioned};
 ghost use Rattle.dl_pack.specs.Mentioned.{order_of, count_of};
@@ -39,6 +40,7 @@ fn totals_of<M: Memory, T: Stretches>(
     ensures good { IfOk result (λ totals. totals.files.fault ≡ None) }
     ensures some { IfOk result (λ _. (list : List each.Stretch) × T.stands stretches.now list) }
     ensures fails { IfErr result (TotalsFail (M.refuses memory.now) (files_of names.now) (T.stands stretches.now)) }
+    ensures refused { result ≡ Err PackFault.NoMemory → IsRefused (M.refuses memory.now) (length (files_of names.now)) }
 {
     let Ok(files) = Mentions::new(memory, names.file_count()) else {
         return Err(PackFault::NoMemory);
@@ -100,6 +102,7 @@ fn texts_named<M: Memory>(
     ensures order { IfOk result (λ texts. order_of texts ≡ text_order (files_of names.now) (order_of files.now)) }
     ensures known { IfOk result (λ _. AreKnown (files_of names.now) (length (texts_of names.now)) (order_of files.now)) }
     ensures fails { IfErr result (TextsFail (M.refuses memory.now) (files_of names.now) (order_of files.now)) }
+    ensures refused { result ≡ Err PackFault.NoMemory → IsRefused (M.refuses memory.now) (length (texts_of names.now)) }
 {
     let Ok(mut texts) = Mentions::new(memory, names.text_count()) else {
         return Err(PackFault::NoMemory);
@@ -121,7 +124,8 @@ fn put_tables<M: Memory>(
     ensures total { IfOk result (λ total. total ≡ total_len (texts_at (texts_of names.now) (order_of texts.now))) }
     ensures put { IfOk result (λ _. bytes.new.items ≡ bytes.old.items
         ++ flat_map padded (tables_by (order_of files.now) (order_of texts.now) (files_of names.now) (texts_of names.now))) }
-    ensures refused { OnErr result (WasRefused (M.refuses memory.now)) }
+    ensures refused { OnErr result (IsRefused (M.refuses memory.now) (length bytes.old.items
+        + tables_room (order_of files.now) (order_of texts.now) (texts_of names.now))) }
 {
     put_files(memory, bytes, names, files, texts)?;
     let total = put_text_table(memory, bytes, names, texts)?;
@@ -150,7 +154,8 @@ fn made<M: Memory, T: Stretches>(
         → GivenFits (file_order list) (text_order (files_of names.now) (file_order list)) list (files_of names.now)
         (texts_of names.now)) }
     ensures sums { IfOk result (λ bytes. SumsFit bytes.items) }
-    ensures refused { OnErr result (WasRefused (M.refuses memory.now)) }
+    ensures refused { OnErr result (IsRefused (M.refuses memory.now) (171 + 41 * totals.now.starts.count
+        + tables_room (order_of totals.now.files.files) (order_of texts.now) (texts_of names.now))) }
 {
     let files = &totals.files.files;
     let (mut bytes, widths) = with_columns(memory, totals, stretches)?;
@@ -194,6 +199,8 @@ pub fn index_bytes<M: Memory, T: Stretches>(
     ensures tells { IfOk result (λ bytes. (list : List each.Stretch) → T.stands stretches.now list → StretchesRise list
         → stretches_in bytes.items ≡ map (named_stretch (named_files names.now)) list) }
     ensures fails { IfErr result (PackFails (M.refuses memory.now) build_id.now (files_of names.now) (T.stands stretches.now)) }
+    ensures refused { result ≡ Err PackFault.NoMemory → (list : List each.Stretch) → T.stands stretches.now list
+        → IsRefused (M.refuses memory.now) (index_room list (files_of names.now) (texts_of names.now)) }
 {
     if build_id.len() > 32 {
         return Err(PackFault::BuildId);

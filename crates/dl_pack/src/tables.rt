@@ -1,7 +1,7 @@
 //! The tables of files and of texts of an index.
 
-ghost use Rattle.std.specs.Prelude.{◌≡◌, ◌<◌, ◌≤◌, ◌^◌, ◌++◌, IfOk, OnErr, map, min, get_or, length, []};
-ghost use Rattle.dl_memory.specs.Refusals.{WasRefused};
+ghost use Rattle.std.specs.Prelude.{◌≡◌, ◌+◌, ◌*◌, ◌<◌, ◌≤◌, ◌^◌, ◌++◌, IfOk, OnErr, map, min, get_or, length, []};
+ghost use Rattle.dl_memory.specs.Refusals.{IsRefused};
 ghost use Rattle.std.specs.List.{concat, flat_map};
 ghost use Rattle.dl_pack.specs.Columns.{padded};
 ghost use Rattle.dl_pack.specs.Tables.{text_number, file_bytes, no_file, text_entries};
@@ -29,7 +29,7 @@ fn put_file<M: Memory>(
     file: FileTexts,
 ) -> Result<(), NoMemory>
     ensures put { IfOk result (λ _. out.new.items ≡ out.old.items ++ file_bytes (order_of texts.now) file) }
-    ensures refused { OnErr result (WasRefused (M.refuses memory.now)) }
+    ensures refused { OnErr result (IsRefused (M.refuses memory.now) (length out.old.items + 24)) }
 {
     put_number(memory, out, 8, file.unit)?;
     let first = text_number(texts, file.texts[0]);
@@ -52,7 +52,7 @@ fn put_file_table<M: Memory>(
 ) -> Result<(), NoMemory>
     ensures put { IfOk result (λ _. out.new.items ≡ out.old.items
         ++ file_table (files_of names.now) (order_of files.now) (order_of texts.now)) }
-    ensures refused { OnErr result (WasRefused (M.refuses memory.now)) }
+    ensures refused { OnErr result (IsRefused (M.refuses memory.now) (length out.old.items + 24 * length (order_of files.now))) }
 {
     for file in files.order() {
         put_file(memory, out, texts, names.file_at(*file))?;
@@ -70,11 +70,12 @@ pub fn put_files<M: Memory>(
 ) -> Result<(), NoMemory>
     ensures put { IfOk result (λ _. out.new.items ≡ out.old.items
         ++ padded (file_table (files_of names.now) (order_of files.now) (order_of texts.now))) }
-    ensures refused { OnErr result (WasRefused (M.refuses memory.now)) }
+    ensures refused { OnErr result (IsRefused (M.refuses memory.now) (length out.old.items + 24 * length (order_of files.now) + 7)) }
 {
     let start = out.len();
     put_file_table(memory, out, names, files, texts)?;
-    pad(memory, out, start)
+    pad(memory, out, start)?;
+    Ok(())
 }
 
 /// Puts for each text that was mentioned its place among their bytes, and its length; answers how many bytes they have,
@@ -89,8 +90,8 @@ fn put_entries<M: Memory>(
         ≡ min (total_len (texts_at (texts_of names.now) (order_of texts.now))) 0xffffffffffffffff) }
     ensures put { IfOk result (λ _. total_len (texts_at (texts_of names.now) (order_of texts.now)) < 2 ^ 64
         → out.new.items ≡ out.old.items ++ text_entries 0 (texts_at (texts_of names.now) (order_of texts.now))) }
-    ensures longer { IfOk result (λ _. length out.old.items ≤ length out.new.items) }
-    ensures refused { OnErr result (WasRefused (M.refuses memory.now)) }
+    ensures longer { IfOk result (λ _. length out.new.items ≡ length out.old.items + 16 * length (order_of texts.now)) }
+    ensures refused { OnErr result (IsRefused (M.refuses memory.now) (length out.old.items + 16 * length (order_of texts.now))) }
 {
     let mut place = 0u64;
     for text in texts.order() {
@@ -115,7 +116,8 @@ pub fn put_text_table<M: Memory>(
     ensures put { IfOk result (λ _. total_len (texts_at (texts_of names.now) (order_of texts.now)) < 2 ^ 64
         → out.new.items ≡ out.old.items
         ++ padded (text_entries 0 (texts_at (texts_of names.now) (order_of texts.now)))) }
-    ensures refused { OnErr result (WasRefused (M.refuses memory.now)) }
+    ensures longer { IfOk result (λ _. length out.new.items ≤ length out.old.items + 16 * length (order_of texts.now) + 7) }
+    ensures refused { OnErr result (IsRefused (M.refuses memory.now) (length out.old.items + 16 * length (order_of texts.now) + 7)) }
 {
     let start = out.len();
     let total = put_entries(memory, out, names, texts)?;
@@ -132,7 +134,8 @@ fn put_bytes<M: Memory>(
 ) -> Result<(), NoMemory>
     ensures put { IfOk result (λ _. out.new.items ≡ out.old.items
         ++ concat (texts_at (texts_of names.now) (order_of texts.now))) }
-    ensures refused { OnErr result (WasRefused (M.refuses memory.now)) }
+    ensures refused { OnErr result (IsRefused (M.refuses memory.now) (length out.old.items
+        + length (concat (texts_at (texts_of names.now) (order_of texts.now))))) }
 {
     for text in texts.order() {
         memory.extend_from_slice(out, names.text_at(*text))?;
@@ -150,7 +153,8 @@ pub fn put_texts<M: Memory>(
     ensures put { IfOk result (λ _. out.new.items ≡ out.old.items
         ++ padded (concat (texts_at (texts_of names.now) (order_of texts.now)))) }
     ensures few { IfOk result (λ _. total_len (texts_at (texts_of names.now) (order_of texts.now)) < 2 ^ 63) }
-    ensures refused { OnErr result (WasRefused (M.refuses memory.now)) }
+    ensures refused { OnErr result (IsRefused (M.refuses memory.now) (length out.old.items
+        + length (concat (texts_at (texts_of names.now) (order_of texts.now))) + 7)) }
 {
     let start = out.len();
     put_bytes(memory, out, names, texts)?;

@@ -1,6 +1,7 @@
 use Rattle.std.proofs.Common.{◌≡◌, ◌++◌, ◌-◌, ℕ, Bool, List, length, take, replicate, arith, ap, sym, ◌∙◌, refl, []}
 use Rattle.std.specs.Prelude.{if◌then◌else◌}
 use Rattle.std.proofs.lemmas.List.{take_all, length-replicate}
+use Rattle.dl_memory.proofs.RefusalLemmas.{wants_list}
 use Rattle.dl_index.specs.Columns.{size_of}
 use Rattle.dl_pack.specs.Written.{room_of, bits_room, bits_in}
 use Rattle.dl_pack.proofs.BitPlaces.{bits_none}
@@ -34,3 +35,12 @@ returns-clause-fresh g c =
           (bits_room n) more (bits_none (bits_room n))
           (omega (arith, h.start, h.file, h.line, h.column, h.discriminator, h.bits, h.end, was));
     }
+
+pub returns-in_err-bytes-clause-refused : goal.returns-in_err-bytes-clause-refused
+returns-in_err-bytes-clause-refused g c =
+    wants_list _ _ _ _ (omega (arith, c.places_of-places.ensures.most)) c.in_err-bytes.ensures.refused
+
+pub returns-clause-len : goal.returns-clause-len
+returns-clause-len g c =
+    let len = rw c.if-is_err.ensures.negation at c.resize.ensures.len in
+    omega (arith, len, c.resize.new.self.ok.0, c.places_of-places.ensures.most)

@@ -6,6 +6,7 @@ use Rattle.dl_pack.specs.Columns.{columns_of, padded, part_by, statement_bytes}
 use Rattle.dl_pack.specs.IndexOf.{base_of}
 use Rattle.dl_pack.specs.Mentioned.{order_of}
 use Rattle.dl_pack.specs.Writing.{Written, AreWritten}
+use Rattle.dl_pack.proofs.GrowthLemmas.{columns_len}
 use Rattle.dl_pack.proofs.LaidLemmas.{counted, numbers_fit, put_all, widths_all}
 use Rattle.dl_pack.proofs.WriterLemmas.{written_none}
 use Rattle.dl_pack.proofs.layout.with_columns.Goals as goal
@@ -73,3 +74,18 @@ returns-clause-widths g c = λ list stands. (
     ∷ []) c.size-5.ensures
     ∙ widths_all t all.0 list all.1 c.requires.good first c.in_ok-writer.ensures.widths now front
     c.in_ok-writer.ensures.base c.in_ok-writer.ensures.files few w)
+
+pub returns-clause-len : goal.returns-clause-len
+returns-clause-len g c =
+    let list = c.tell.ensures.0 in
+    let put = returns-clause-put g c list c.tell.ensures.1 in
+    let order = order_of c.args.totals.now.files.files in
+    omega (
+      arith,
+      ap length put,
+      length-replicate {A = ℕ} 128 0,
+      length-append (replicate {A = ℕ} 128 0)
+          (flat_map padded (map (part_by (base_of list) order list) columns_of) ++ padded (statement_bytes list)),
+      columns_len (base_of list) order list,
+      returns-clause-few g c list c.tell.ensures.1,
+    )

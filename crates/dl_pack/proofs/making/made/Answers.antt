@@ -1,6 +1,7 @@
 use Rattle.std.proofs.Common.{◌≡◌, ◌<◌, ◌^◌, ◌++◌, ℕ, ap, ◌∙◌, sym, replicate, length, map, rules, subst, arith, length-append, refl}
 use Rattle.std.specs.List.{flat_map}
 use Rattle.std.specs.Prelude.{if◌then◌else◌}
+use Rattle.dl_memory.proofs.RefusalLemmas.{wants_fewer}
 use Rattle.dl_pack.specs.Columns.{columns_of, padded, width_by}
 use Rattle.dl_pack.specs.Fits.{NumbersFit, AreKnown}
 use Rattle.dl_pack.specs.IndexOf.{base_of, text_order, tables_by, index_by, body_by}
@@ -70,3 +71,13 @@ returns-clause-fits g c = λ list stands. (
       total = subst (λ o. total_len (texts_at texts o) < 2 ^ 64) (c.requires.order ∙ ap (text_order files) is)
           (subst (λ n. n < 2 ^ 64) c.in_ok-text_bytes.ensures.total (omega arith));
     })
+
+pub returns-in_err-bytes-clause-refused : goal.returns-in_err-bytes-clause-refused
+returns-in_err-bytes-clause-refused g c = wants_fewer _ _ _ _ (omega arith) c.in_err-bytes.ensures.refused
+
+pub returns-in_err-text_bytes-clause-refused : goal.returns-in_err-text_bytes-clause-refused
+returns-in_err-text_bytes-clause-refused g c =
+    wants_fewer _ _ _ _ (omega (arith, c.in_ok-bytes.ensures.len)) c.in_err-text_bytes.ensures.refused
+
+pub returns-in_err-fill_header-clause-refused : goal.returns-in_err-fill_header-clause-refused
+returns-in_err-fill_header-clause-refused g c = wants_fewer _ _ _ _ (omega arith) c.in_err-fill_header.ensures.refused

@@ -1,4 +1,5 @@
-use Rattle.std.proofs.Common.{◌∙◌, sym, subst, length, []}
+use Rattle.std.proofs.Common.{◌≡◌, ◌∙◌, ap, sym, subst, length, [], Some}
+use Rattle.dl_pack.specs.declared.fault.PackFault.TheVariants as fault
 use Rattle.dl_pack.specs.Mentioned.{order_of}
 use Rattle.dl_pack.specs.Shown.{files_of}
 use Rattle.dl_pack.specs.Totals.{Totalled, OrderOr}
@@ -23,3 +24,14 @@ returns-in-None-clause-totals g c = λ list stands. (
     let all = told.3 c.new-totals.result [] (λ m z. z) n
     (subst (λ m. Totalled m c.new-totals.result []) (c.in-Ok.ensures.made.1 ∙ c.file_count.ensures) c.new-totals.ensures) in
     subst (Totalled n c.tell.new.sink) (sym (told.2 list stands)) all)
+
+pub returns-in-Some-clause-refused : goal.returns-in-Some-clause-refused
+returns-in-Some-clause-refused g c is =
+    let n = length (files_of c.args.names.now) in
+    let told = c.tell.ensures in
+    let now = c.tell.new.sink in
+    let all = told.3 c.new-totals.result [] (λ m z. z) n
+    (subst (λ m. Totalled m c.new-totals.result []) (c.in-Ok.ensures.made.1 ∙ c.file_count.ensures) c.new-totals.ensures) in
+    let same : c.in-Some.fault ≡ fault.NoMemory = cc in
+    absurd (subst (λ o. OrderOr o n (order_of now.files.files) told.0)
+    (sym c.fault.ensures ∙ c.in-Some.is ∙ ap (λ f. Some f) same) all.files.order)

@@ -1,4 +1,4 @@
-use Rattle.std.proofs.Common.{◌≡◌, ◌<◌, ◌≤◌, ◌^◌, ◌++◌, length, min, take}
+use Rattle.std.proofs.Common.{◌≡◌, ◌+◌, ◌*◌, ◌<◌, ◌^◌, ◌++◌, length, min, take}
 use Rattle.dl_pack.specs.Shown.{texts_of}
 use Rattle.dl_pack.specs.Tables.{texts_at, text_entries, total_len}
 use Rattle.dl_pack.specs.Mentioned.{order_of}
@@ -9,5 +9,5 @@ invariant-loop-text g l = record {
   place : l.place ≡ min (total_len (texts_at (texts_of l.names) (take l.text-index (order_of l.texts)))) 0xffffffffffffffff;
   out : total_len (texts_at (texts_of l.names) (take l.text-index (order_of l.texts))) < 2 ^ 64 → l.out.items ≡ l.fn.out.items
       ++ text_entries 0 (texts_at (texts_of l.names) (take l.text-index (order_of l.texts)));
-  longer : length l.fn.out.items ≤ length l.out.items;
+  longer : length l.out.items ≡ length l.fn.out.items + 16 * l.text-index;
 }
