@@ -1,18 +1,20 @@
 -- Readers of the sections of a file, and what stops the reading of one.
 use Rattle.std.proofs.Common.{◌≡◌, ◌∙◌, ℕ, ◌+◌, List, length, Option, None, Some, arith, inl, inr}
-use Rattle.std.proofs.Common.{refl, ap, sym, subst, length-append, append-nil, ◌<◌, Result, Err, Vec, Global}
+use Rattle.std.proofs.Common.{refl, ap, sym, subst, length-append, append-nil, ◌<◌, ◌≤◌, Result, Err, Vec, Global}
 use Rattle.std.specs.Io.KnownBytes.{Consumes, IsAtEnd}
-use Rattle.std.specs.Prelude.{◌⊎◌, ◌++◌}
+use Rattle.std.specs.Prelude.{◌⊎◌, ◌++◌, [], drop, take}
+use Rattle.std.proofs.Common.{length-drop}
+use Rattle.std.proofs.lemmas.List.{nil_from_length, take_all}
 use Rattle.dl_elf.specs.declared.name.SectionName.{SectionName}
 use Rattle.std.specs.Prelude.{IfSome, option_map}
 use Rattle.std.specs.declared.io.Error.{Error}
-use Rattle.dl_input.specs.Failing.{Blames, Failed}
+use Rattle.dl_input.specs.Failing.{Became, Blames, Failed}
 use Rattle.dl_file.specs.ContentReader.{content_remaining, stream_name}
-use Rattle.dl_file.specs.ContentReader.{ContentFails, ContentFollows, ContentMayFail, content_damage, content_fault}
-use Rattle.dl_file.specs.Faults.{FailsOnly, FollowsBy, IsDamage, IsReadOf, MayFailBy}
+use Rattle.dl_file.specs.ContentReader.{ContentFails, ContentFollows, ContentMayFail, ContentOver, content_damage, content_fault}
+use Rattle.dl_file.specs.Faults.{FailsOnly, FollowsBy, IsDamage, IsReadOf, IsUndamaged, MayFailBy}
 use Rattle.dl_file.proofs.DamageLemmas.{plain_damage}
 use Rattle.dl_file.specs.LineReader.{line_damage, line_fault, line_remaining, line_stream}
-use Rattle.dl_file.specs.LineReader.{LineReaderFails, LineReaderFollows, LineReaderMayFail}
+use Rattle.dl_file.specs.LineReader.{LineReaderFails, LineReaderFollows, LineReaderMayFail, LineReaderOver}
 use Rattle.dl_file.specs.LineTable.{Content, Gives, GivesLine, GivesOption, Inflated, Plain}
 use Rattle.dl_file.specs.declared.content_reader.ContentReader.{ContentReader}
 use Rattle.dl_file.specs.declared.content_reader.ContentReader.TheVariants.{Plain as PlainReader, Inflated as InflatedReader}
@@ -22,7 +24,7 @@ use Rattle.dl_file.specs.declared.line_reader.LineReader.{LineReader}
 use Rattle.dl_head.specs.declared.dialect.Dialect.{Dialect}
 use Rattle.dl_memory.specs.Refusals.{IsRefused}
 use Rattle.dl_object.specs.Kept.{Rises}
-use Rattle.dl_object.specs.Section.{WantsCell}
+use Rattle.dl_object.specs.Section.{Keeps, WantsCell}
 use Rattle.dl_reloc.specs.declared.placed.Placed.{Placed}
 use Rattle.dl_run.specs.Strings.{StopsReading}
 use Rattle.dl_run.specs.declared.fault.RunFault.{RunFault}
@@ -34,7 +36,7 @@ use Rattle.dl_open.specs.declared.strings.TheConstants.{STRINGS_LIMIT}
 use Rattle.dl_open.specs.Files.{FileStops}
 use Rattle.dl_elf.specs.declared.fault.ElfFault.{ElfFault}
 use Rattle.dl_open.specs.Stops.{IsAt, IsReadFault, IsTold, StopsAs, StopsAt, Stream}
-use Rattle.dl_open.specs.Tables.{KeepingStops, SectionStops, bytes_of, stream_of}
+use Rattle.dl_open.specs.Tables.{HasNoDamage, IsHeld, KeepingStops, SectionStops, bytes_of, stream_of}
 
 -- a reader of a line section has the bytes that are known
 pub reader_known : {S : Type 0} {g : _} (all_bytes : S → Option (List ℕ)) (fails_with : S → Error → Type 0)
@@ -175,6 +177,35 @@ content_told all_bytes fails_with fails old new (Inflated name bytes damage) giv
     blamed (content_damage all_bytes) content_fault (ContentFails all_bytes fails_with) fails old new
     (Inflated name bytes damage) gives.1 gives.2 gives.4 blames told
 
+-- ---- the stream of a section is whole
+
+-- of a reader that became another one, whose bytes are over
+undamaged_after : {R : Type 0} (damage : R → Option (Option ℕ)) (fault : R → Option ReadFault) (Fails : R → Error → Type 0)
+    (old new : R) (at : Option ℕ) → damage old ≡ Some at → fault old ≡ None
+    → ((first : R) → Became (FollowsBy damage fault Fails) first old → Became (FollowsBy damage fault Fails) first new)
+    → IsUndamaged (damage new) → at ≡ None
+undamaged_after damage fault Fails old new at known none became over =
+    let so = (became old (0, follows_itself damage fault Fails old none)).1 in
+    subst IsUndamaged (so.same ∙ known) over
+
+pub line_whole : {S : Type 0} {g : _} {B : Type 0} (all_bytes : S → Option (List ℕ)) (fails_with : S → Error → Type 0)
+    (fails : Error → Type 0) (old new : LineReader S g) (content : Content) → GivesLine all_bytes fails_with fails old content
+    → Blames (LineReaderFollows all_bytes fails_with) (LineReaderMayFail all_bytes fails_with) old new B
+    → LineReaderOver all_bytes new → HasNoDamage content
+line_whole all_bytes fails_with fails old new (Plain bytes) gives blames over = tt
+line_whole all_bytes fails_with fails old new (Inflated name bytes damage) gives blames over =
+    undamaged_after (line_damage all_bytes) line_fault (LineReaderFails all_bytes fails_with) old new damage gives.1 gives.2
+    (λ first is. (blames first is).0) over
+
+content_whole : {S : Type 0} {g : _} {B : Type 0} (all_bytes : S → Option (List ℕ)) (fails_with : S → Error → Type 0)
+    (fails : Error → Type 0) (old new : ContentReader S g) (content : Content) → Gives all_bytes fails_with fails old content
+    → Blames (ContentFollows all_bytes fails_with) (ContentMayFail all_bytes fails_with) old new B
+    → ContentOver all_bytes new → HasNoDamage content
+content_whole all_bytes fails_with fails old new (Plain bytes) gives blames over = tt
+content_whole all_bytes fails_with fails old new (Inflated name bytes damage) gives blames over =
+    undamaged_after (content_damage all_bytes) content_fault (ContentFails all_bytes fails_with) old new damage gives.1 gives.2
+    (λ first is. (blames first is).0) over
+
 -- ---- a string section
 
 -- what stops the reading of bytes stops that of a section of which they are the first
@@ -229,7 +260,7 @@ section_stops {S} {g} refuses all_bytes fails_with fails path section reader new
     by None gives = absurd gives
     by (Some c) gives = (c, refl, of c gives)
 
--- ---- what is left of a line section
+-- ---- all bytes of a section
 
 -- bytes that were read up to the end are all
 pub all_read : (whole : List ℕ) (left : Option (List ℕ)) (bs : List ℕ) → Consumes (Some whole) left bs → IsAtEnd left
@@ -237,6 +268,32 @@ pub all_read : (whole : List ℕ) (left : Option (List ℕ)) (bs : List ℕ) →
 all_read whole None bs consumes at_end = absurd consumes
 all_read whole (Some rest) bs consumes at_end =
     sym (consumes ∙ (ap (λ (l : List ℕ). bs ++ l) at_end ∙ append-nil bs))
+
+-- all bytes of a section were read
+pub section_held : {S : Type 0} {g : _} {B : Type 0} (all_bytes : S → Option (List ℕ)) (fails_with : S → Error → Type 0)
+    (fails : Error → Type 0) (section : Option (ContentReader S g)) (reader new : ContentReader S g) (content : Option Content)
+    (items : List ℕ) → section ≡ Some reader → GivesOption all_bytes fails_with fails section content
+    → (bs : List ℕ) × Consumes (content_remaining all_bytes reader) (content_remaining all_bytes new) bs
+    × ((items ≡ bs) × (length bs ≤ STRINGS_LIMIT) × IsAtEnd (content_remaining all_bytes new))
+    → Blames (ContentFollows all_bytes fails_with) (ContentMayFail all_bytes fails_with) reader new B
+    → ContentOver all_bytes new → IsHeld content (Some items)
+section_held {S} {g} all_bytes fails_with fails section reader new content items is gives (bs, consumes, (are, few, ended)) blames over =
+    by content (subst (λ (o : Option (ContentReader S g)). GivesOption all_bytes fails_with fails o content) is gives)
+  where
+    short : length items ≤ STRINGS_LIMIT
+    short = subst (λ (l : List ℕ). length l ≤ STRINGS_LIMIT) (sym are) few
+
+    known : (bytes : List ℕ) → content_remaining all_bytes reader ≡ Some bytes → Some items ≡ Some bytes
+    known bytes own = ap (λ (l : List ℕ). Some l) (are ∙ all_read bytes (content_remaining all_bytes new) bs
+        (subst (λ (r : Option (List ℕ)). Consumes r (content_remaining all_bytes new) bs) own consumes) ended)
+
+    by : (content : Option Content) → GivesOption all_bytes fails_with fails (Some reader) content → IsHeld content (Some items)
+    by None gives = absurd gives
+    by (Some (Plain bytes)) gives = (known bytes gives.0, short, tt)
+    by (Some (Inflated name bytes damage)) gives =
+        (known bytes gives.0, short, content_whole all_bytes fails_with fails reader new (Inflated name bytes damage) gives blames over)
+
+-- ---- what is left of a line section
 
 -- memory is refused for what is left of them
 pub keeping_refused : (refuses : ℕ → Type 0) (fails : Error → Type 0) (path : List ℕ) (dialect : Dialect) (part : Part) (content : Content) (items bs slice : List ℕ)
@@ -250,3 +307,24 @@ keeping_refused refuses fails path dialect part content items bs slice places st
       subst (λ (b : List ℕ). ((Rises part.places.items → ⊥) × IsRefused refuses (length part.places.items)) ⊎ WantsCell dialect b) (viewed ∙ (read ∙ whole)) own,
       at,
     )
+
+-- a slice of a list was written, which is the list
+written_back : (items slice new : List ℕ) (len : ℕ) → slice ≡ items → length new ≡ length slice → len ≡ length items
+    → take len (new ++ drop (length new) items) ≡ new
+written_back items slice new len viewed kept long =
+    let same = ap length viewed in
+    let none : drop (length new) items ≡ [] =
+    nil_from_length (drop (length new) items) (omega (arith, length-drop (length new) items, same, kept)) in
+    ap (λ (r : List ℕ). take len (new ++ r)) none
+    ∙ (ap (λ (l : List ℕ). take len l) (append-nil new) ∙ take_all len new (omega (arith, same, kept, long)))
+
+-- what is left of a section is left of all its bytes
+pub kept_of_all : (dialect : Dialect) (places own : List Placed) (section : ℕ) (content : Content) (items bs slice new : List ℕ)
+    (len : ℕ) → bs ≡ bytes_of content → items ≡ bs → slice ≡ items → own ≡ places → length new ≡ length slice
+    → len ≡ length items → Keeps dialect own section 0 slice new
+    → Keeps dialect places section 0 (bytes_of content) (take len (new ++ drop (length new) items))
+kept_of_all dialect places own section content items bs slice new len whole read viewed placed same long keeps =
+    subst (λ (z : List ℕ). Keeps dialect places section 0 (bytes_of content) z)
+    (sym (written_back items slice new len viewed same long))
+    (subst (λ (b : List ℕ). Keeps dialect places section 0 b new) (viewed ∙ (read ∙ whole))
+    (subst (λ (p : List Placed). Keeps dialect p section 0 slice new) placed keeps))

@@ -1,13 +1,13 @@
 -- The sequences of an object file among which addresses are looked up: those of one section. System V ABI, chapter 4,
 -- "Sections". f: the bytes of a file; e: the file as it is opened; name: the section that the words name; part: the
 -- sequences of one section, or all.
-use Rattle.std.specs.Prelude.{◌≡◌, ◌≢◌, ◌⊎◌, ℕ, Bool, true, false, List, [], Option, Some, None, Ok, Err}
+use Rattle.std.specs.Prelude.{◌≡◌, ◌≢◌, ◌⊎◌, ◌*◌, ℕ, length, Bool, true, false, List, [], Option, Some, None, Ok, Err}
 use Rattle.std.specs.declared.io.Error.{Error}
 use Rattle.dl_elf.specs.declared.file.Elf.{Elf}
 use Rattle.dl_elf.specs.declared.fault.ElfFault.TheVariants.{Read, NoMemory}
 use Rattle.dl_elf.specs.Sections.{opened}
 use Rattle.dl_elf.specs.Numbered.{code_section, section_number}
-use Rattle.dl_memory.specs.Refusals.{WasRefused}
+use Rattle.dl_memory.specs.Refusals.{IsRefused}
 use Rattle.dl_file.specs.Places.{ArePlaces, TakesPlaces}
 use Rattle.dl_reloc.specs.declared.placed.Placed.{Placed}
 use Rattle.dl_open.specs.declared.object_part.Part.{Part}
@@ -41,7 +41,8 @@ IsPart f is_object name None = (name ≡ None) × (HasPlaces f is_object [] ⊎ 
 
 abbrev pub RefusesPlaces : (refuses : ℕ → Type 0) (fails : Error → Type 0) (f : List ℕ) (is_object : Bool) → FileFault → Type 0
 RefusesPlaces refuses fails f is_object (ElfOf (Read error)) = fails error
-RefusesPlaces refuses fails f is_object (ElfOf NoMemory) = (is_object ≡ true) × TakesPlaces f × WasRefused refuses
+RefusesPlaces refuses fails f is_object (ElfOf NoMemory) =
+    (is_object ≡ true) × TakesPlaces f × IsRefused refuses (16 * length f)
 RefusesPlaces refuses fails f is_object (ElfOf fault) = (is_object ≡ true) × ArePlaces f (Err fault)
 RefusesPlaces refuses fails f is_object other = ⊥
 

@@ -47,9 +47,14 @@ abbrev pub bytes_of : Content → List ℕ
 bytes_of (Plain bytes) = bytes
 bytes_of (Inflated name bytes damage) = bytes
 
--- these are the bytes of a section, where it is there
+-- the section's stream is whole, where it is inflated: the bytes are all that it inflates to
+abbrev pub HasNoDamage : Content → Type 0
+HasNoDamage (Plain bytes) = ⊤
+HasNoDamage (Inflated name bytes damage) = damage ≡ None
+
+-- these are all bytes of a section, where it is there
 abbrev pub IsHeld : Option Content → Option (List ℕ) → Type 0
-IsHeld content held = (held ≡ option_map bytes_of content) × Fits held
+IsHeld content held = (held ≡ option_map bytes_of content) × Fits held × IfSome content HasNoDamage
 
 -- s is both sections, whole
 pub record IsWhole (line_str str : Option Content) (s : Strings) : Type 0 where
@@ -94,9 +99,10 @@ file_dialect units t = class_dialect units t.order t.class
 
 -- ---- the sequences of one section of an object file
 
--- what is left of the section's bytes
+-- what is left of all bytes of the section
 abbrev pub IsKept : Dialect → Part → Content → (kept : List ℕ) → Type 0
-IsKept dialect part content kept = Keeps dialect part.places.items part.section 0 (bytes_of content) kept
+IsKept dialect part content kept =
+    Keeps dialect part.places.items part.section 0 (bytes_of content) kept × HasNoDamage content
 
 -- they can't be read whole, or memory is refused: for a header, or for no more places than these, which don't rise
 abbrev pub KeepingStops : (refuses : ℕ → Type 0) (fails : Error → Type 0) (path : List ℕ) → Dialect → Part → Content → FileStop
