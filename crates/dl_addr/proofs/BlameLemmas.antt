@@ -7,13 +7,14 @@ use Rattle.dl_run.specs.declared.around.Survey.{Survey}
 use Rattle.dl_run.specs.declared.fault.RunFault.{RunFault}
 use Rattle.dl_run.specs.declared.fault.RunFault.TheVariants as fault
 use Rattle.dl_run.specs.Blaming.{BlamesWriter}
+use Rattle.dl_run.specs.Ending.{WhereWhole}
 use Rattle.dl_run.specs.Section.{Visit}
 use Rattle.dl_run.proofs.BlameLemmas.{same_answer}
 use Rattle.dl_addr.specs.declared.question.Found.{Found}
 use Rattle.dl_addr.specs.declared.locating.Locator.{Locator}
 use Rattle.dl_addr.specs.Locating.{StopsAt}
 use Rattle.dl_addr.specs.Printing.{told, told_around}
-use Rattle.std.specs.Prelude.{List}
+use Rattle.std.specs.Prelude.{List, None, OnOk, IfOk}
 
 -- memory is wanted, and no read failed
 pub never_read : {M : Type 0} {Refused : M → Type 0} (first : Locator M) (visits : List Visit)
@@ -45,3 +46,16 @@ pub told_around_writer : (fails : Type 0) (ended : Result Survey RunFault) (prin
 told_around_writer fails ended (Err lost) read lines = lines
 told_around_writer fails (Ok survey) (Ok found) read lines = tt
 told_around_writer fails (Err f) (Ok found) read lines = read
+
+-- where all is told the reading ended well
+pub told_over : (P : Type 0) (ended : Result Summary RunFault) (printed : Result Found WriteFault) → OnOk ended P
+    → OnOk (told ended printed) P
+told_over P ended (Err lost) over = tt
+told_over P (Ok summary) (Ok found) over = over
+told_over P (Err f) (Ok found) over = tt
+
+pub told_around_over : (P : Type 0) (ended : Result Survey RunFault) (printed : Result Found WriteFault) → WhereWhole P ended
+    → IfOk (told_around ended printed) (λ around. around.damaged ≡ None → P)
+told_around_over P ended (Err lost) over = tt
+told_around_over P (Ok survey) (Ok found) over = over
+told_around_over P (Err f) (Ok found) over = tt

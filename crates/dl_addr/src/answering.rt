@@ -1,7 +1,7 @@
 //! The command that answers addresses with locations.
 
 ghost use Rattle.std.specs.Prelude.{◌≡◌, ◌≤◌, ◌+◌, ℕ, List, [], Option, Some, IfOk, OnErr, if◌then◌else◌, map, option_map};
-ghost use Rattle.std.specs.Prelude.{length, slice_get};
+ghost use Rattle.std.specs.Prelude.{None, OnOk, length, slice_get};
 ghost use Rattle.dl_memory.specs.Refusals.{IsRefused};
 ghost use Rattle.std.specs.Io.KnownBytes.{Consumes};
 ghost use Rattle.dl_input.specs.Failing.{Blames};
@@ -51,6 +51,7 @@ pub fn addr<M: Memory, R: Source, W: Destination>(
         (R.remaining input.new) (W.contents output.old) (W.contents output.new) result }
     ensures blames { Blames R.follows R.fails input.old input.new (result ≡ Err RunFault.Read) }
     ensures blames_writer { BlamesWriter W.fails result }
+    ensures over { OnOk result (R.over input.new) }
 {
     let strings = StringSections::new(options.debug_line_str, options.debug_str);
     let Ok(mut locator) = locator_of(memory, &strings, question) else {
@@ -91,6 +92,7 @@ pub fn addr_around<M: Memory, R: Source, W: Destination>(
         options.now.limit bs (R.remaining input.new) (W.contents output.old) (W.contents output.new) result }
     ensures blames { Blames R.follows R.fails input.old input.new (result ≡ Err RunFault.Read) }
     ensures blames_writer { BlamesWriter W.fails result }
+    ensures over { IfOk result (λ around. around.damaged ≡ None → R.over input.new) }
 {
     let strings = StringSections::new(options.debug_line_str, options.debug_str);
     let Ok(mut locator) = locator_of(memory, &strings, question) else {

@@ -6,7 +6,8 @@ use Rattle.dl_addr.specs.Commands.{Locates}
 use Rattle.dl_addr.specs.Knowing.{Knows}
 use Rattle.dl_addr.proofs.AnsweringLemmas.{is_told}
 use Rattle.dl_run.proofs.BlameLemmas.{blames_where}
-use Rattle.dl_addr.proofs.BlameLemmas.{never_read, told_read, told_writer}
+use Rattle.dl_run.proofs.EndLemmas.{only_over}
+use Rattle.dl_addr.proofs.BlameLemmas.{never_read, told_over, told_read, told_writer}
 use Rattle.dl_addr.proofs.answering.addr.Goals as goal
 
 pub returns-clause-ran : goal.returns-clause-ran
@@ -51,3 +52,9 @@ returns-clause-blames_writer g c =
     rw c.told.ensures (told_writer _ c.read_units-ended.result c.print_all-printed.result
     (c.read_units-ended.ensures.blames_writer (c.in-Ok.ensures.begins (g.W.Write.contents c.args.output.now)) (Appends-nil _))
     c.print_all-printed.ensures.blames_writer)
+
+pub returns-clause-over : goal.returns-clause-over
+returns-clause-over g c =
+    rw c.told.ensures (told_over (g.R.Source.over c.read_units-ended.new.input) c.read_units-ended.result c.print_all-printed.result
+    (only_over (g.R.Source.over c.read_units-ended.new.input) c.read_units-ended.result
+    (c.read_units-ended.ensures.over (c.in-Ok.ensures.begins (g.W.Write.contents c.args.output.now)) (Appends-nil _))))

@@ -5,7 +5,8 @@ use Rattle.dl_run.specs.Commands.{strings_in}
 use Rattle.dl_addr.specs.Knowing.{Knows}
 use Rattle.dl_addr.proofs.AroundAnswers.{is_told_around}
 use Rattle.dl_run.proofs.BlameLemmas.{blames_where}
-use Rattle.dl_addr.proofs.BlameLemmas.{never_read, told_around_read, told_around_writer}
+use Rattle.dl_run.proofs.EndLemmas.{only_where}
+use Rattle.dl_addr.proofs.BlameLemmas.{never_read, told_around_over, told_around_read, told_around_writer}
 use Rattle.dl_addr.proofs.answering.addr_around.Goals as goal
 
 pub returns-clause-ran : goal.returns-clause-ran
@@ -49,3 +50,9 @@ returns-clause-blames_writer g c =
     rw c.told_around.ensures (told_around_writer _ c.read_units_around-ended.result c.print_all-printed.result
     (c.read_units_around-ended.ensures.blames_writer (c.in-Ok.ensures.begins (g.W.Write.contents c.args.output.now)) (Appends-nil _))
     c.print_all-printed.ensures.blames_writer)
+
+pub returns-clause-over : goal.returns-clause-over
+returns-clause-over g c =
+    rw c.told_around.ensures (told_around_over (g.R.Source.over c.read_units_around-ended.new.input) c.read_units_around-ended.result c.print_all-printed.result
+    (only_where (g.R.Source.over c.read_units_around-ended.new.input) c.read_units_around-ended.result
+    (c.read_units_around-ended.ensures.over (c.in-Ok.ensures.begins (g.W.Write.contents c.args.output.now)) (Appends-nil _))))
