@@ -1,5 +1,5 @@
 -- What stops the work over a file before its line table is read: a fault of the file, or that a section of it is too long.
-use Rattle.std.proofs.Common.{◌≡◌, ℕ, List, Option, subst, sym}
+use Rattle.std.proofs.Common.{ℕ, List, Option, subst, sym}
 use Rattle.dl_elf.specs.declared.name.SectionName.{SectionName}
 use Rattle.dl_file.specs.declared.read_fault.ReadFault.{ReadFault}
 use Rattle.dl_head.specs.declared.dialect.Dialect.{Dialect}

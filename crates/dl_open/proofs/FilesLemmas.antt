@@ -1,7 +1,6 @@
 -- Files of which nothing is known.
-use Rattle.std.proofs.Common.{◌≡◌, ◌≤◌, ℕ, List, length, Option, None, Result, Ok, Err, Vec, Global, subst, sym}
+use Rattle.std.proofs.Common.{◌≡◌, ◌≤◌, ℕ, List, length, None, Result, Ok, Err, Vec, Global, subst, sym}
 use Rattle.std.specs.Prelude.{MatchResult, pos}
-use Rattle.std.specs.declared.io.Error.{Error}
 use Rattle.dl_run.specs.Strings.{StopsReading}
 use Rattle.dl_run.specs.declared.fault.RunFault.{RunFault}
 use Rattle.dl_run.specs.declared.fault.RunFault.TheVariants as fault

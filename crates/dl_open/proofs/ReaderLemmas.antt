@@ -1,6 +1,6 @@
 -- Readers of the sections of a file, and what stops the reading of one.
 use Rattle.std.proofs.Common.{◌≡◌, ◌∙◌, ℕ, ◌+◌, List, length, Option, None, Some, arith, inl, inr}
-use Rattle.std.proofs.Common.{refl, ap, sym, subst, length-append, append-nil, ◌<◌, ◌≤◌, Result, Err, Vec, Global}
+use Rattle.std.proofs.Common.{refl, ap, sym, subst, length-append, append-nil, ◌≤◌, Result, Err, Vec, Global}
 use Rattle.std.specs.Io.KnownBytes.{Consumes, IsAtEnd}
 use Rattle.std.specs.Prelude.{◌⊎◌, ◌++◌, [], drop, take}
 use Rattle.std.proofs.Common.{length-drop}
