@@ -1,5 +1,5 @@
 -- When the bytes of a reader are over.
-use Rattle.std.proofs.Common.{◌≡◌, inl, inr, ℕ, List, [], ◌∷◌, ◌++◌, Option, Some, None, Result, Ok, Err, subst, sym, ap, ◌∙◌}
+use Rattle.std.proofs.Common.{◌≡◌, inl, inr, ℕ, List, [], ◌∷◌, ◌++◌, Option, None, Result, Ok, Err, subst, sym, ap, ◌∙◌}
 use Rattle.std.specs.Prelude.{◌⊎◌, OnOk}
 use Rattle.dl_head.specs.declared.dialect.Dialect.{Dialect}
 use Rattle.dl_rows.specs.declared.sink.Flow.{Flow}
@@ -11,9 +11,9 @@ use Rattle.dl_run.specs.declared.around.UnitsAround.{UnitsAround}
 use Rattle.dl_run.specs.declared.fault.RunFault.{RunFault}
 use Rattle.dl_run.specs.declared.fault.RunFault.TheVariants as fault
 use Rattle.dl_run.specs.declared.section.SectionUnits.{SectionUnits}
-use Rattle.dl_run.specs.Around.{Block, Rest, begun, broken, cut_off, bytes_of, damaged_units, faults_in, faults_of, survey_of}
+use Rattle.dl_run.specs.Around.{begun, broken, cut_off, damaged_units, faults_in}
 use Rattle.dl_run.specs.Ending.{WantsNoMore, WhereWhole}
-use Rattle.dl_run.specs.GoingOn.{AroundFed, HasNoLength, surveyed}
+use Rattle.dl_run.specs.GoingOn.{AroundFed, surveyed}
 use Rattle.dl_run.specs.Section.{Visit}
 use Rattle.dl_run.specs.UnitsRead.{Before, Worked, visits_since}
 use Rattle.dl_run.specs.Visiting.{Ran, Story}

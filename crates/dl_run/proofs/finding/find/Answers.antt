@@ -4,7 +4,7 @@ use Rattle.dl_run.proofs.Names.{◌≡◌, ◌∙◌, Appends-nil, err_from_is_e
 use Rattle.std.proofs.Common.{sym}
 use Rattle.dl_run.proofs.SeekerLemmas.{begins}
 use Rattle.dl_run.proofs.FindingAnswers.{failed, found, not_found}
-use Rattle.dl_run.proofs.BlameLemmas.{blames_where, same_fault}
+use Rattle.dl_run.proofs.BlameLemmas.{blames_where}
 use Rattle.dl_run.proofs.EndLemmas.{none_unfound, only_left, unfound}
 use Rattle.dl_run.proofs.finding.find.Goals as goal
 
