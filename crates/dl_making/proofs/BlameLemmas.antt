@@ -1,10 +1,12 @@
 -- Which reads are blamed, and which writes.
-use Rattle.std.proofs.Common.{◌≡◌, None, [], List, ℕ, Option, Result, Ok, Err, inl, inr, sym, ◌∙◌}
+use Rattle.std.proofs.Common.{◌≡◌, None, [], List, ℕ, Option, Result, Ok, Err, inl, inr, subst, sym, ◌∙◌}
+use Rattle.std.specs.Prelude.{OnOk}
 use Rattle.std.proofs.KnownBytes.{Appends-nil}
 use Rattle.std.specs.Global.{Vec}
 use Rattle.dl_run.specs.declared.fault.RunFault.{RunFault}
 use Rattle.dl_run.specs.declared.fault.RunFault.TheVariants as fault
 use Rattle.dl_run.specs.Blaming.{BlamesWriter, NeverBlames}
+use Rattle.dl_run.specs.Ending.{WhereWhole}
 use Rattle.dl_head.specs.declared.dialect.Dialect.{Dialect}
 use Rattle.dl_print.specs.declared.summary.Summary.{Summary}
 use Rattle.dl_print.specs.ValueText.{Strings}
@@ -32,6 +34,22 @@ pub made_read : {A : Type 0} (ended : Result A RunFault) (index : Result (Vec �
 made_read ended (Ok index) start now result (inl written) e = sym written.0 ∙ e
 made_read ended (Ok index) start now result (inr (lost, is, tells)) e = absurd cc
 made_read ended (Err refused) start now result made e = let is = made.0 in absurd cc
+
+-- success that is told is that of the making
+pub made_over : (P : Type 0) (ended : Result Summary RunFault) (index : Result (Vec ℕ) NoMemory) (start now : Option (List ℕ))
+    (result : Result Summary RunFault) → WritesMade ended index start now result → OnOk ended P → OnOk result P
+made_over P ended (Ok index) start now result (inl written) over =
+    subst (λ (r : Result Summary RunFault). OnOk r P) (sym written.0) over
+made_over P ended (Ok index) start now result (inr (lost, is, tells)) over =
+    subst (λ (r : Result Summary RunFault). OnOk r P) (sym is) tt
+made_over P ended (Err refused) start now result made over =
+    subst (λ (r : Result Summary RunFault). OnOk r P) (sym made.0) tt
+
+pub made_where : (P : Type 0) (ended : Result Survey RunFault) (index : Result (Vec ℕ) NoMemory) (start now : Option (List ℕ))
+    (result : Result Survey RunFault) → WritesMade ended index start now result → WhereWhole P ended → WhereWhole P result
+made_where P ended (Ok index) start now result (inl written) over = subst (WhereWhole P) (sym written.0) over
+made_where P ended (Ok index) start now result (inr (lost, is, tells)) over = subst (WhereWhole P) (sym is) tt
+made_where P ended (Err refused) start now result made over = subst (WhereWhole P) (sym made.0) tt
 
 module _ (fails : Type 0) (refuses : ℕ → Type 0) (dialect : Dialect) (s : Strings) (table : Table) (limit : ℕ) (bytes : List ℕ)
     (left : Option (List ℕ)) where

@@ -1,6 +1,6 @@
 //! The index of the units of a section. Section 6.2.4.
 
-ghost use Rattle.std.specs.Prelude.{◌≡◌, ◌≤◌, ℕ, List, Option, IfOk, OnErr, take};
+ghost use Rattle.std.specs.Prelude.{◌≡◌, ◌≤◌, ℕ, List, None, Option, IfOk, OnErr, OnOk, take};
 ghost use Rattle.dl_memory.specs.Refusals.{WasRefused};
 ghost use Rattle.std.specs.Io.KnownBytes.{Consumes};
 ghost use Rattle.dl_input.specs.Failing.{Blames};
@@ -66,6 +66,7 @@ pub fn make_index<M: SetMemory, R: Source>(
         × Makes (M.refuses memory.now) options.now.dialect (strings_in options.now) table.now options.now.limit bs
         (R.remaining input.new) result }
     ensures blames { Blames R.follows R.fails input.old input.new (result ≡ Err RunFault.Read) }
+    ensures over { OnOk result (R.over input.new) }
 {
     let strings = StringSections::new(options.debug_line_str, options.debug_str);
     let mut maker = Maker::new(memory, &strings, table.code, table.directories);
@@ -92,6 +93,7 @@ pub fn make_index_around<M: SetMemory, R: Source>(
         × MakesAround (M.refuses memory.now) options.now.dialect (strings_in options.now) table.now options.now.limit bs
         (R.remaining input.new) result }
     ensures blames { Blames R.follows R.fails input.old input.new (result ≡ Err RunFault.Read) }
+    ensures over { IfOk result (λ made. made.survey.damaged ≡ None → R.over input.new) }
 {
     let strings = StringSections::new(options.debug_line_str, options.debug_str);
     let mut maker = Maker::new(memory, &strings, table.code, table.directories);

@@ -1,11 +1,12 @@
 //! The index of the units of a section before its end or a fault. Section 6.2.4.
 
-ghost use Rattle.std.specs.Prelude.{◌≡◌, ◌≤◌, ℕ, List, Option, Some, IfOk, OnErr, is_err, true, false};
+ghost use Rattle.std.specs.Prelude.{◌≡◌, ◌≤◌, ℕ, List, Option, Some, IfOk, OnErr, OnOk, is_err, true, false};
 ghost use Rattle.dl_memory.specs.Refusals.{WasRefused};
 ghost use Rattle.std.specs.Io.KnownBytes.{Consumes};
 ghost use Rattle.dl_input.specs.Failing.{Blames};
 ghost use Rattle.dl_run.specs.declared.fault.RunFault.TheVariants as faults;
 ghost use Rattle.dl_run.specs.Commands.{strings_in};
+ghost use Rattle.dl_run.specs.Ending.{WhereWhole};
 ghost use Rattle.dl_run.specs.Section.{Visit};
 ghost use Rattle.dl_making.specs.declared.maker.Maker as makers;
 ghost use Rattle.dl_making.specs.IsIndexOf.{IsIndexOf};
@@ -58,6 +59,7 @@ pub fn make_index_until<M: SetMemory, R: Source>(
         × MakesUntil (M.refuses memory.now) options.now.dialect (strings_in options.now) table.now options.now.limit bs (R.remaining input.new)
         result.ended result.index }
     ensures blames { Blames R.follows R.fails input.old input.new (result.ended ≡ Err RunFault.Read) }
+    ensures over { OnOk result.ended (R.over input.new) }
 {
     let strings = StringSections::new(options.debug_line_str, options.debug_str);
     let mut maker = Maker::new(memory, &strings, table.code, table.directories);
@@ -83,6 +85,7 @@ pub fn make_index_until_around<M: SetMemory, R: Source>(
         × MakesUntilAround (M.refuses memory.now) options.now.dialect (strings_in options.now) table.now options.now.limit bs
         (R.remaining input.new) result.ended result.index }
     ensures blames { Blames R.follows R.fails input.old input.new (result.ended ≡ Err RunFault.Read) }
+    ensures over { WhereWhole (R.over input.new) result.ended }
 {
     let strings = StringSections::new(options.debug_line_str, options.debug_str);
     let mut maker = Maker::new(memory, &strings, table.code, table.directories);

@@ -1,11 +1,12 @@
 //! The index of a section, written.
 
-ghost use Rattle.std.specs.Prelude.{◌≡◌, ◌≤◌, ℕ, List, MatchResult};
+ghost use Rattle.std.specs.Prelude.{◌≡◌, ◌≤◌, ℕ, List, MatchResult, OnOk};
 ghost use Rattle.std.specs.Io.KnownBytes.{Appends, Consumes};
 ghost use Rattle.dl_input.specs.Failing.{Blames};
 ghost use Rattle.dl_print.specs.Output.{BlamesWriter as PrintBlames, TellsOut};
 ghost use Rattle.dl_run.specs.Blaming.{BlamesWriter};
 ghost use Rattle.dl_run.specs.Commands.{strings_in};
+ghost use Rattle.dl_run.specs.Ending.{WhereWhole};
 ghost use Rattle.dl_making.specs.Writes.{Writes, WritesAround};
 
 use crate::making::{Table, make_index, make_index_around};
@@ -31,6 +32,7 @@ pub fn write_index<M: SetMemory, R: Source, W: Destination>(
         (W.contents output.old) (W.contents output.new) result }
     ensures blames { Blames R.follows R.fails input.old input.new (result ≡ Err RunFault.Read) }
     ensures blames_writer { BlamesWriter W.fails result }
+    ensures over { OnOk result (R.over input.new) }
 {
     let made = make_index(memory, input, table, options)?;
     match put_bytes(output, made.index.as_slice()) {
@@ -55,6 +57,7 @@ pub fn write_index_around<M: SetMemory, R: Source, W: Destination>(
         (W.contents output.old) (W.contents output.new) result }
     ensures blames { Blames R.follows R.fails input.old input.new (result ≡ Err RunFault.Read) }
     ensures blames_writer { BlamesWriter W.fails result }
+    ensures over { WhereWhole (R.over input.new) result }
 {
     let made = make_index_around(memory, input, table, options)?;
     match put_bytes(output, made.index.as_slice()) {

@@ -1,10 +1,11 @@
 //! The index of the units of a section before its end or a fault, written.
 
-ghost use Rattle.std.specs.Prelude.{◌≡◌, ◌≤◌, ℕ, List};
+ghost use Rattle.std.specs.Prelude.{◌≡◌, ◌≤◌, ℕ, List, OnOk};
 ghost use Rattle.std.specs.Io.KnownBytes.{Consumes};
 ghost use Rattle.dl_input.specs.Failing.{Blames};
 ghost use Rattle.dl_run.specs.Blaming.{BlamesWriter};
 ghost use Rattle.dl_run.specs.Commands.{strings_in};
+ghost use Rattle.dl_run.specs.Ending.{WhereWhole};
 ghost use Rattle.dl_making.specs.WritesUntil.{WritesMade, WritesUntil, WritesUntilAround};
 
 use crate::making::Table;
@@ -35,6 +36,7 @@ pub fn write_index_until<M: SetMemory, R: Source, W: Destination>(
         (R.remaining input.new) (W.contents output.old) (W.contents output.new) result }
     ensures blames { Blames R.follows R.fails input.old input.new (result ≡ Err RunFault.Read) }
     ensures blames_writer { BlamesWriter W.fails result }
+    ensures over { OnOk result (R.over input.new) }
 {
     let made = make_index_until(memory, input, table, options);
     put_made(output, &made.index, made.ended)
@@ -57,6 +59,7 @@ pub fn write_index_until_around<M: SetMemory, R: Source, W: Destination>(
         (R.remaining input.new) (W.contents output.old) (W.contents output.new) result }
     ensures blames { Blames R.follows R.fails input.old input.new (result ≡ Err RunFault.Read) }
     ensures blames_writer { BlamesWriter W.fails result }
+    ensures over { WhereWhole (R.over input.new) result }
 {
     let made = make_index_until_around(memory, input, table, options);
     put_made(output, &made.index, made.ended)

@@ -1,4 +1,5 @@
 pub mod TableLemmas
+pub mod EndLemmas
 pub mod WorkLemmas
 pub mod WordsLemmas
 pub mod LocateLemmas

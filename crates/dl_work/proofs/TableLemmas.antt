@@ -15,7 +15,7 @@ use Rattle.dl_open.specs.declared.dialect.FileUnits.{FileUnits}
 use Rattle.dl_open.specs.declared.object_part.Part.{Part}
 use Rattle.dl_open.specs.declared.stop.FileStop.{FileStop}
 use Rattle.dl_open.specs.Parts.{PartStops}
-use Rattle.dl_open.specs.Tables.{IsWhole, bytes_of, file_dialect, stream_of}
+use Rattle.dl_open.specs.Tables.{HasNoDamage, IsWhole, bytes_of, file_dialect, stream_of}
 use Rattle.dl_open.specs.Stops.{Stream}
 use Rattle.dl_open.proofs.WiderLemmas.{has_table_wider, keeping_wider, part_stops_weaker, stops_at_wider, strings_wider}
 use Rattle.dl_open.proofs.WiderLemmas.{table_stops_weaker}
@@ -23,6 +23,7 @@ use Rattle.dl_work.specs.declared.command.Command.{Command}
 use Rattle.dl_work.specs.Asked.{Does, WithoutTable, is_copy, looks_up, sections_of}
 use Rattle.dl_work.specs.Tables.{EndsAt, OnFile, OnFound, OnFoundWhere, OnLines, OnTable, OnTableWhere, RunsOn}
 use Rattle.dl_work.specs.Tables.{with_bytes}
+use Rattle.dl_work.specs.Whole.{HasReadAll}
 
 -- it isn't the copy of an object file
 pub not_refused : (refuses : ℕ → Type 0) (units : FileUnits) (fails : Error → Type 0) (path : Text) (command : Command) (t : LineTable) (part : Option Part)
@@ -44,9 +45,10 @@ pub ran : (refuses : ℕ → Type 0) (units : FileUnits) (fails : Error → Type
     → IsWhole t.line_str t.str s → dialect ≡ file_dialect units t → strings ≡ s → limit ≡ SECTION_LIMIT
     → (read : List ℕ) × Consumes remaining left read
     × Does refuses command dialect strings limit read left start now hears answer
-    → EndsAt fails path (stream_of t.line) answer result → RunsOn refuses units fails path command t start now hears result
+    → EndsAt fails path (stream_of t.line) answer result → (HasReadAll command answer → HasNoDamage t.line)
+    → RunsOn refuses units fails path command t start now hears result
 ran refuses units fails path command t start now left remaining hears s strings dialect limit answer result known whole ordered in_options
-    limited (read, consumes, does) ends =
+    limited (read, consumes, does) ends undamaged =
     record {
       strings = s;
       whole = whole;
@@ -58,6 +60,7 @@ ran refuses units fails path command t start now left remaining hears s strings 
           (subst (λ (z : Strings). Does refuses command dialect z SECTION_LIMIT read left start now hears answer) in_options
           (subst (λ (l : ℕ). Does refuses command dialect strings l read left start now hears answer) limited does));
       ends = ends;
+      undamaged = undamaged;
     }
 
 -- the bytes of a section that is in memory
@@ -65,6 +68,9 @@ pub plain_known : (content : Content) (bytes : List ℕ) (left : Option (List �
     → Consumes (Some bytes) left read → Consumes (Some (bytes_of content)) left read
 plain_known content bytes left read is consumes =
     subst (λ (c : Content). Consumes (Some (bytes_of c)) left read) (sym is) consumes
+
+pub plain_whole : (content : Content) (bytes : List ℕ) → content ≡ Plain bytes → HasNoDamage content
+plain_whole content bytes is = subst HasNoDamage (sym is) tt
 
 -- the command is done over the sequences of a part
 pub of_part : (refuses : ℕ → Type 0) (units : FileUnits) (fails : Error → Type 0) (path : Text) (command : Command) (t : LineTable) (part : Part) (chosen : Option Part)
@@ -107,6 +113,7 @@ runs_wider refuses units fails wider path command t start now hears result more 
   answer = runs.answer;
   done = runs.done;
   ends = ends_wider fails wider path (stream_of t.line) runs.answer result more runs.ends;
+  undamaged = runs.undamaged;
 }
 
 lines_wider : (refuses : ℕ → Type 0) (units : FileUnits) (fails wider : Error → Type 0) (path : Text) (command : Command) (t : LineTable)

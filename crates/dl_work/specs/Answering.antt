@@ -13,7 +13,6 @@ use Rattle.dl_dialogue.specs.Faults.{TellFails}
 use Rattle.dl_dialogue.specs.declared.dialogue.Answered.{Answered}
 use Rattle.dl_dialogue.specs.declared.fault.AnswerFault.{AnswerFault}
 use Rattle.dl_dialogue.specs.declared.fault.AnswerFault.TheVariants as answer
-use Rattle.dl_dialogue.specs.declared.fault.TellFault.{TellFault}
 use Rattle.dl_dialogue.specs.declared.fault.TellFault.TheVariants as tell
 use Rattle.dl_index_file.specs.declared.fault.OpenFault.TheVariants as index
 use Rattle.dl_look.specs.declared.asked.Asked.{Asked}

@@ -4,6 +4,7 @@ pub mod Units
 pub mod DebugFile
 pub mod Damages
 pub mod Asked
+pub mod Whole
 pub mod Tables
 pub mod Work
 pub mod Blaming

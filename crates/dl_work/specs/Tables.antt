@@ -18,10 +18,11 @@ use Rattle.dl_open.specs.declared.object_part.Part.{Part}
 use Rattle.dl_open.specs.declared.stop.FileStop.{FileStop}
 use Rattle.dl_open.specs.Parts.{IsPart, PartStops}
 use Rattle.dl_open.specs.Stops.{IsAt, StopsAt, Stream}
-use Rattle.dl_open.specs.Tables.{HasTable, IsKept, IsWhole, KeepingStops, StringsStop, TableStops, file_dialect}
+use Rattle.dl_open.specs.Tables.{HasNoDamage, HasTable, IsKept, IsWhole, KeepingStops, StringsStop, TableStops, file_dialect}
 use Rattle.dl_open.specs.Tables.{bytes_of, stream_of}
 use Rattle.dl_work.specs.declared.command.Command.{Command}
 use Rattle.dl_work.specs.Asked.{Does, Outcome, WithoutTable, is_copy, looks_up, sections_of}
+use Rattle.dl_work.specs.Whole.{HasReadAll}
 
 -- ---- the command over the line section. fails: the errors that opening and reading the file may give
 
@@ -43,6 +44,7 @@ pub record RunsOn (refuses : ℕ → Type 0) (units : FileUnits) (fails : Error 
   pub answer : Result Survey RunFault
   pub done : Does refuses command (file_dialect units t) strings SECTION_LIMIT read left start now hears answer
   pub ends : EndsAt fails path (stream_of t.line) answer result
+  pub undamaged : HasReadAll command answer → HasNoDamage t.line
 
 -- the table with these bytes of its line section
 abbrev pub with_bytes : LineTable → List ℕ → LineTable

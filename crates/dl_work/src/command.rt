@@ -9,6 +9,7 @@ ghost use Rattle.dl_cmd.specs.Job.{request_made};
 ghost use Rattle.dl_dirs.specs.Compilation.{directory_by};
 ghost use Rattle.dl_work.specs.Asked.{Does, WithoutTable, answered, command_asked, command_seen, command_of, is_copy, looks_up, place_of};
 ghost use Rattle.dl_work.specs.Asked.{all_whole, answered_around, sections_of};
+ghost use Rattle.dl_work.specs.Whole.{HasReadAll};
 
 use crate::unit_words::{are_sizes, units_of};
 use dl_addr::{Found, FoundAround, Question, addr, addr_around};
@@ -254,6 +255,7 @@ impl<'a> Command<'a> {
         ensures blames { Blames R.follows R.fails input.old input.new
             ((D.hears damages.old damages.old []) × (result ≡ Err RunFault.Read)) }
         ensures blames_writer { D.hears damages.old damages.old [] → BlamesWriter W.fails result }
+        ensures over { D.hears damages.old damages.old [] → HasReadAll self.entry result → R.over input.new }
     {
         let alloc = memory.alloc();
         match self {

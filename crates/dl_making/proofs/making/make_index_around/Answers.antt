@@ -9,6 +9,7 @@ use Rattle.dl_making.specs.Wants.{WantsIndex}
 use Rattle.dl_making.proofs.MakerLemmas.{begins}
 use Rattle.dl_making.proofs.MakingLemmas.{Knows, fails_around, makes_around, was_told_around, unmade_around}
 use Rattle.dl_run.proofs.BlameLemmas.{blames_where, same_answer}
+use Rattle.dl_run.proofs.EndLemmas.{only_left}
 use Rattle.dl_making.proofs.BlameLemmas.{never_read}
 use Rattle.dl_making.proofs.making.make_index_around.Goals as goal
 
@@ -91,3 +92,9 @@ returns-clause-ran g c =
           (λ visits m. subst (λ mm. WantsIndex (g.M.Memory.refuses mm) (told_after first visits)) maker.memory
           (c.in-Err.ensures.wants first None None visits m)),
     )
+
+pub returns-in-Ok-clause-over : goal.returns-in-Ok-clause-over
+returns-in-Ok-clause-over g c whole =
+    let maker = c.new-maker.ensures in
+    only_left (λ done. done.1) (c.in_ok-survey.ensures.over (begins (λ m. WasRefused (g.M.Memory.refuses m)) c.new-maker.result None maker.sufficed maker.runs maker.names
+    (Appends-nil None)) (Appends-nil None) whole)

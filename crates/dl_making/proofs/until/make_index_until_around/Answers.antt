@@ -8,6 +8,7 @@ use Rattle.dl_making.proofs.MakerLemmas.{begins}
 use Rattle.dl_making.proofs.MakingLemmas.{Knows}
 use Rattle.dl_making.proofs.UntilLemmas.{told_until_around, until_around, refused_by, told_index_is}
 use Rattle.dl_run.proofs.BlameLemmas.{blames_where}
+use Rattle.dl_run.proofs.EndLemmas.{only_where}
 use Rattle.dl_making.proofs.BlameLemmas.{never_read}
 use Rattle.dl_making.proofs.until.make_index_until_around.Goals as goal
 
@@ -54,3 +55,10 @@ returns-clause-blames g c =
       never_read (λ m. WasRefused (g.M.Memory.refuses m)) c.new-maker.result (begins (λ m. WasRefused (g.M.Memory.refuses m)) c.new-maker.result None maker.sufficed maker.runs maker.names (Appends-nil None)),
       e,
     ))
+
+pub returns-clause-over : goal.returns-clause-over
+returns-clause-over g c =
+    let maker = c.new-maker.ensures in
+    only_where (g.R.Source.over c.read_units_around-ended.new.input) c.read_units_around-ended.result (c.read_units_around-ended.ensures.over
+    (begins (λ m. WasRefused (g.M.Memory.refuses m)) c.new-maker.result None maker.sufficed maker.runs maker.names
+    (Appends-nil None)) (Appends-nil None))

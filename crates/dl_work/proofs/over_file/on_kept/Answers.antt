@@ -4,7 +4,7 @@ use Rattle.dl_open.specs.Stops.{StopsAt}
 use Rattle.dl_open.specs.Tables.{stream_of}
 use Rattle.dl_open.proofs.ReaderLemmas.{stops_at}
 use Rattle.dl_work.proofs.BlameLemmas.{at_blamed}
-use Rattle.dl_work.proofs.TableLemmas.{plain_known, ran}
+use Rattle.dl_work.proofs.TableLemmas.{plain_known, plain_whole, ran}
 use Rattle.dl_work.proofs.over_file.on_kept.Goals as goal
 
 pub returns-in-Err-clause-ran : goal.returns-in-Err-clause-ran
@@ -20,7 +20,7 @@ returns-in-Err-clause-ran g c units t line ordered whole untold =
           (stops_at (λ error. ⊥) c.args.path.now None None None c.in-Err.fault c.at.result refl (λ read.
           (let failed = ((c.run.ensures.blames c.args.bytes (0, refl)).1 (untold, c.in-Err.is ∙ ap Err read)).1 in
           omega (arith, failed.1, failed.2))) c.at.ensures),
-    )
+    ) (λ read. plain_whole t.line c.args.bytes.now line)
 
 pub returns-in-Err-clause-blames : goal.returns-in-Err-clause-blames
 returns-in-Err-clause-blames g c untold =

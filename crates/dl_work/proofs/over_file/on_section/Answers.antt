@@ -1,6 +1,6 @@
 use Rattle.std.proofs.Common.{◌∙◌, Err, ap, refl, sym}
 use Rattle.dl_open.specs.Tables.{stream_of}
-use Rattle.dl_open.proofs.ReaderLemmas.{reader_known, reader_stream, reader_told, stops_at}
+use Rattle.dl_open.proofs.ReaderLemmas.{line_whole, reader_known, reader_stream, reader_told, stops_at}
 use Rattle.dl_work.proofs.BlameLemmas.{at_blamed}
 use Rattle.dl_work.proofs.TableLemmas.{ran}
 use Rattle.dl_work.proofs.over_file.on_section.Goals as goal
@@ -21,6 +21,8 @@ returns-in-Err-clause-ran g c source units t gives ordered whole untold =
           g.S.ReadAt.fails_with fails c.args.line.now c.run.new.input t.line gives c.run.ensures.blames
           (untold, c.in-Err.is ∙ ap Err read))) c.at.ensures,
     )
+    (λ read. line_whole {S = g.row.S.Denot} g.S.ReadAt.all_bytes g.S.ReadAt.fails_with fails c.args.line.now c.run.new.input
+    t.line gives c.run.ensures.blames (c.in-Err.ensures.over untold read))
 
 pub returns-in-Ok-clause-ran : goal.returns-in-Ok-clause-ran
 returns-in-Ok-clause-ran g c source units t gives ordered whole untold =
@@ -29,6 +31,8 @@ returns-in-Ok-clause-ran g c source units t gives ordered whole untold =
     ran (g.M.Memory.refuses c.args.memory.now) _ fails _ _ t _ _ _ _ (g.D.DamageSink.hears c.args.damages.now c.run.new.damages) _ _ _ _ _ _ (λ read.
     reader_known {S = g.row.S.Denot} g.S.ReadAt.all_bytes g.S.ReadAt.fails_with fails c.args.line.now t.line _ read gives)
     whole ordered refl c.requires (does.0, does.1, does.2 untold) refl
+    (λ read. line_whole {S = g.row.S.Denot} g.S.ReadAt.all_bytes g.S.ReadAt.fails_with fails c.args.line.now c.run.new.input
+    t.line gives c.run.ensures.blames (c.in-Ok.ensures.over untold read))
 
 pub returns-in-Err-clause-blames : goal.returns-in-Err-clause-blames
 returns-in-Err-clause-blames g c untold =
