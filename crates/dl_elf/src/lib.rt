@@ -10,6 +10,7 @@ mod compression;
 mod fault;
 mod file;
 mod header;
+mod interruptions;
 mod name;
 mod named;
 mod numbered;

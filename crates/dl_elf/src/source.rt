@@ -1,17 +1,16 @@
 //! Where a file's bytes come from.
 ghost use Rattle.std.specs.Prelude.{◌<◌, ◌≤◌, ℕ, List, None, Option, ◌≡◌, length, drop, min, IfOk, IfErr};
 ghost use Rattle.std.specs.Io.{ReadsAtMost};
+ghost use Rattle.std.specs.IoError.{error_kind};
 ghost use Rattle.std.specs.declared.io.Error.{Error};
 ghost use Rattle.dl_elf.specs.Source.{ReadsFrom, FillsFrom, FilledFrom, ForBytes};
 ghost use Rattle.dl_elf.specs.Sections.{lies_within};
 
+use crate::interruptions::Borne;
 use std::fs::File;
 use std::io;
 use std::io::{AsBytes, Cursor, ErrorKind};
 use std::os::unix::fs::FileExt;
-
-/// How often a read that was interrupted is repeated; the next interruption is a failure.
-const REPEATS: u32 = 1000;
 
 /// Bytes that can be read at any offset, as those of a file. A read moves nothing, so several
 /// readers can share one source.
@@ -71,23 +70,30 @@ fn bytes_from(all: &[u8], offset: u64) -> &[u8]
     }
 }
 
-/// One read, which is repeated where it was interrupted.
-fn read_some<S: ReadAt>(source: &S, offset: u64, buffer: &mut [u8]) -> io::Result<usize>
+/// One read, which is repeated where it was interrupted; the interruptions that were borne are counted.
+fn read_some<S: ReadAt>(
+    source: &S,
+    offset: u64,
+    buffer: &mut [u8],
+    borne: &mut Borne,
+) -> io::Result<usize>
+    requires { borne.old.count ≤ 1000 }
     ensures bound { ReadsAtMost result buffer.new }
     ensures bytes { ReadsFrom (S.all_bytes source.now) offset result buffer.new }
     ensures fails { IfErr result (S.fails_with source.now) }
+    ensures repeats { IfErr result (λ e. error_kind e ≡ ErrorKind.Interrupted → borne.new.count ≡ 1000) }
 {
-    for _ in 0..REPEATS {
+    loop {
         match source.read_at(offset, buffer) {
             Ok(n) => return Ok(n),
             Err(error) => {
-                if error.kind() != ErrorKind::Interrupted {
+                if !borne.bears(&error) {
                     return Err(error);
                 }
+                borne.bear(error);
             }
         }
     }
-    source.read_at(offset, buffer)
 }
 
 /// Reads from the offset on until the buffer is full or the bytes end, and answers how many bytes
@@ -102,7 +108,7 @@ pub fn fill<S: ReadAt>(source: &S, offset: u64, buffer: &mut [u8]) -> io::Result
         let Some(at) = offset.checked_add(filled as u64) else {
             return Ok(filled);
         };
-        let n = read_some(source, at, &mut buffer[filled..])?;
+        let n = read_some(source, at, &mut buffer[filled..], &mut Borne::none())?;
         if n == 0 {
             return Ok(filled);
         }
