@@ -7,18 +7,18 @@ use Rattle.clap.specs.declared.error.kind.ErrorKind.TheVariants.{OutOfMemory}
 
 -- Memory was refused. Only an error that the standard library or clap answered shows it: what stands on this definition
 -- doesn't see what it is.
-pub WasRefused : Type 0
-WasRefused = Unit {0}
+pub LibraryRefused : Type 0
+LibraryRefused = Unit {0}
 
 -- An error of the standard library shows it, and of clap one that is want of memory.
-pub library_refused : AllocError → WasRefused
-unfolding WasRefused
+pub library_refused : AllocError → LibraryRefused
+unfolding LibraryRefused
 library_refused error = tt
 
-pub clap_refused : (e : Error) → kind_of e ≡ OutOfMemory → WasRefused
-unfolding WasRefused
+pub clap_refused : (e : Error) → kind_of e ≡ OutOfMemory → LibraryRefused
+unfolding LibraryRefused
 clap_refused e wants = tt
 
 -- an error is want of memory only where that was refused
 abbrev pub WantsRefused : {T : Type 0} → Result T Error → Type 0
-WantsRefused r = IfErr r (λ e. kind_of e ≡ OutOfMemory → WasRefused)
+WantsRefused r = IfErr r (λ e. kind_of e ≡ OutOfMemory → LibraryRefused)

@@ -5,7 +5,7 @@ ghost use Rattle.dl_cmd.specs.CommandLine.{IsApp, IsRule, addr_app, check_app, c
 ghost use Rattle.dl_cmd.specs.CommandLine.{index_app, top_app, with_addresses, with_input, with_keep_going, with_making};
 ghost use Rattle.dl_cmd.specs.CommandLine.{with_printing, with_settings, with_strings, with_to_5, with_units};
 ghost use Rattle.dl_cmd.specs.CommandLine.{with_units_of_file};
-ghost use Rattle.dl_cmd.specs.Memory.{WasRefused};
+ghost use Rattle.dl_cmd.specs.Memory.{LibraryRefused};
 
 use crate::arguments::{
     addr_file, address, address_size, addresses, all, base, big, comp_dir, exe, file, index_file,
@@ -30,7 +30,7 @@ const WITHOUT_ELF_FILE: &str =
 /// The command with one argument more.
 fn take_arg<'a>(command: Command<'a>, arg: Arg<'a>) -> Result<Command<'a>, AllocError>
     ensures added { IfOk result (λ r. AddsArg command.entry arg.entry r) }
-    ensures refused { OnErr result WasRefused }
+    ensures refused { OnErr result LibraryRefused }
 {
     match command.arg(arg) {
         Ok(command) => Ok(command),
@@ -41,7 +41,7 @@ fn take_arg<'a>(command: Command<'a>, arg: Arg<'a>) -> Result<Command<'a>, Alloc
 /// The command line with one subcommand more.
 fn take_subcommand<'a>(line: Command<'a>, command: Command<'a>) -> Result<Command<'a>, AllocError>
     ensures added { IfOk result (λ r. AddsSubcommand line.entry command.entry r) }
-    ensures refused { OnErr result WasRefused }
+    ensures refused { OnErr result LibraryRefused }
 {
     match line.subcommand(command) {
         Ok(line) => Ok(line),
@@ -56,7 +56,7 @@ fn with_arg<'a>(
 ) -> Result<Command<'a>, AllocError>
     ensures app { (a : App) (r : Rule) → IfOk command.entry (IsApp a) → IsRule r arg.entry
         → IfOk result (IsApp (with_rule a r)) }
-    ensures refused { OnErr command.entry WasRefused → OnErr result WasRefused }
+    ensures refused { OnErr command.entry LibraryRefused → OnErr result LibraryRefused }
 {
     take_arg(command?, arg)
 }
@@ -68,7 +68,7 @@ fn with_command<'a>(
 ) -> Result<Command<'a>, AllocError>
     ensures app { (a sub : App) → IsApp a line.entry → IfOk command.entry (IsApp sub)
         → IfOk result (IsApp (with_subcommand a sub.top)) }
-    ensures refused { OnErr command.entry WasRefused → OnErr result WasRefused }
+    ensures refused { OnErr command.entry LibraryRefused → OnErr result LibraryRefused }
 {
     take_subcommand(line, command?)
 }
@@ -79,7 +79,7 @@ fn add_units<'a>(
     command: Result<Command<'a>, AllocError>,
 ) -> Result<Command<'a>, AllocError>
     ensures app { (a : App) → IfOk command.entry (IsApp a) → IfOk result (IsApp (with_units a)) }
-    ensures refused { OnErr command.entry WasRefused → OnErr result WasRefused }
+    ensures refused { OnErr command.entry LibraryRefused → OnErr result LibraryRefused }
 {
     add_units_of_file(alloc, with_arg(command, older(alloc)))
 }
@@ -90,7 +90,7 @@ fn add_units_of_file<'a>(
     command: Result<Command<'a>, AllocError>,
 ) -> Result<Command<'a>, AllocError>
     ensures app { (a : App) → IfOk command.entry (IsApp a) → IfOk result (IsApp (with_units_of_file a)) }
-    ensures refused { OnErr command.entry WasRefused → OnErr result WasRefused }
+    ensures refused { OnErr command.entry LibraryRefused → OnErr result LibraryRefused }
 {
     let command = with_arg(command, address_size(alloc));
     with_arg(command, version_5(alloc))
@@ -102,7 +102,7 @@ fn add_to_5<'a>(
     command: Result<Command<'a>, AllocError>,
 ) -> Result<Command<'a>, AllocError>
     ensures app { (a : App) → IfOk command.entry (IsApp a) → IfOk result (IsApp (with_to_5 a)) }
-    ensures refused { OnErr command.entry WasRefused → OnErr result WasRefused }
+    ensures refused { OnErr command.entry LibraryRefused → OnErr result LibraryRefused }
 {
     let to_5 = switch(
         alloc,
@@ -121,7 +121,7 @@ fn add_keep_going<'a>(
     command: Result<Command<'a>, AllocError>,
 ) -> Result<Command<'a>, AllocError>
     ensures app { (a : App) → IfOk command.entry (IsApp a) → IfOk result (IsApp (with_keep_going a)) }
-    ensures refused { OnErr command.entry WasRefused → OnErr result WasRefused }
+    ensures refused { OnErr command.entry LibraryRefused → OnErr result LibraryRefused }
 {
     let keep_going = switch(
         alloc,
@@ -136,7 +136,7 @@ fn add_input<'a>(
     command: Result<Command<'a>, AllocError>,
 ) -> Result<Command<'a>, AllocError>
     ensures app { (a : App) → IfOk command.entry (IsApp a) → IfOk result (IsApp (with_input a)) }
-    ensures refused { OnErr command.entry WasRefused → OnErr result WasRefused }
+    ensures refused { OnErr command.entry LibraryRefused → OnErr result LibraryRefused }
 {
     with_arg(with_arg(command, big(alloc)), file(alloc))
 }
@@ -146,7 +146,7 @@ fn add_strings<'a>(
     command: Result<Command<'a>, AllocError>,
 ) -> Result<Command<'a>, AllocError>
     ensures app { (a : App) → IfOk command.entry (IsApp a) → IfOk result (IsApp (with_strings a)) }
-    ensures refused { OnErr command.entry WasRefused → OnErr result WasRefused }
+    ensures refused { OnErr command.entry LibraryRefused → OnErr result LibraryRefused }
 {
     let command = with_arg(command, big(alloc));
     let command = with_arg(command, line_str(alloc));
@@ -156,7 +156,7 @@ fn add_strings<'a>(
 
 fn dump<'a>(alloc: Global) -> Result<Command<'a>, AllocError>
     ensures app { IfOk result (IsApp dump_app) }
-    ensures refused { OnErr result WasRefused }
+    ensures refused { OnErr result LibraryRefused }
 {
     let command = Command::new(alloc, "dump")
         .before_help(WITHOUT_FILE)
@@ -170,7 +170,7 @@ fn dump<'a>(alloc: Global) -> Result<Command<'a>, AllocError>
 
 fn check<'a>(alloc: Global) -> Result<Command<'a>, AllocError>
     ensures app { IfOk result (IsApp check_app) }
-    ensures refused { OnErr result WasRefused }
+    ensures refused { OnErr result LibraryRefused }
 {
     let command = Command::new(alloc, "check")
         .before_help(WITHOUT_FILE)
@@ -182,7 +182,7 @@ fn check<'a>(alloc: Global) -> Result<Command<'a>, AllocError>
 
 fn find<'a>(alloc: Global) -> Result<Command<'a>, AllocError>
     ensures app { IfOk result (IsApp find_app) }
-    ensures refused { OnErr result WasRefused }
+    ensures refused { OnErr result LibraryRefused }
 {
     let command = Command::new(alloc, "find")
         .before_help(WITHOUT_FILE)
@@ -198,7 +198,7 @@ fn find<'a>(alloc: Global) -> Result<Command<'a>, AllocError>
 
 fn copy<'a>(alloc: Global) -> Result<Command<'a>, AllocError>
     ensures app { IfOk result (IsApp copy_app) }
-    ensures refused { OnErr result WasRefused }
+    ensures refused { OnErr result LibraryRefused }
 {
     let command = Command::new(alloc, "copy")
         .before_help(WITHOUT_FILE)
@@ -216,7 +216,7 @@ fn add_printing<'a>(
     command: Result<Command<'a>, AllocError>,
 ) -> Result<Command<'a>, AllocError>
     ensures app { (a : App) → IfOk command.entry (IsApp a) → IfOk result (IsApp (with_printing a)) }
-    ensures refused { OnErr command.entry WasRefused → OnErr result WasRefused }
+    ensures refused { OnErr command.entry LibraryRefused → OnErr result LibraryRefused }
 {
     let addresses = letter(
         alloc,
@@ -240,7 +240,7 @@ fn add_settings<'a>(
     command: Result<Command<'a>, AllocError>,
 ) -> Result<Command<'a>, AllocError>
     ensures app { (a : App) → IfOk command.entry (IsApp a) → IfOk result (IsApp (with_settings a)) }
-    ensures refused { OnErr command.entry WasRefused → OnErr result WasRefused }
+    ensures refused { OnErr command.entry LibraryRefused → OnErr result LibraryRefused }
 {
     let command = add_printing(alloc, command);
     let hex = switch(alloc, "hex", "Read digits without 0x as hexadecimal too");
@@ -261,7 +261,7 @@ fn add_addresses<'a>(
     command: Result<Command<'a>, AllocError>,
 ) -> Result<Command<'a>, AllocError>
     ensures app { (a : App) → IfOk command.entry (IsApp a) → IfOk result (IsApp (with_addresses a)) }
-    ensures refused { OnErr command.entry WasRefused → OnErr result WasRefused }
+    ensures refused { OnErr command.entry LibraryRefused → OnErr result LibraryRefused }
 {
     let command = add_units(alloc, add_settings(alloc, command));
     let command = with_arg(command, comp_dir(alloc));
@@ -276,7 +276,7 @@ fn add_addresses<'a>(
 
 fn addr<'a>(alloc: Global) -> Result<Command<'a>, AllocError>
     ensures app { IfOk result (IsApp addr_app) }
-    ensures refused { OnErr result WasRefused }
+    ensures refused { OnErr result LibraryRefused }
 {
     let command = Command::new(alloc, "addr")
         .before_help(WITHOUT_ELF_FILE)
@@ -294,7 +294,7 @@ fn add_making<'a>(
     command: Result<Command<'a>, AllocError>,
 ) -> Result<Command<'a>, AllocError>
     ensures app { (a : App) → IfOk command.entry (IsApp a) → IfOk result (IsApp (with_making a)) }
-    ensures refused { OnErr command.entry WasRefused → OnErr result WasRefused }
+    ensures refused { OnErr command.entry LibraryRefused → OnErr result LibraryRefused }
 {
     let command = add_keep_going(alloc, with_arg(command, all(alloc)));
     let command = with_arg(command, section(alloc));
@@ -304,7 +304,7 @@ fn add_making<'a>(
 
 fn index<'a>(alloc: Global) -> Result<Command<'a>, AllocError>
     ensures app { IfOk result (IsApp index_app) }
-    ensures refused { OnErr result WasRefused }
+    ensures refused { OnErr result LibraryRefused }
 {
     let command = Command::new(alloc, "index")
         .about(
@@ -340,7 +340,7 @@ fn program<'a>(alloc: Global) -> Command<'a>
 /// The whole command line.
 pub fn make_command_line<'a>(alloc: Global) -> Result<Command<'a>, AllocError>
     ensures app { IfOk result (IsApp command_line) }
-    ensures refused { OnErr result WasRefused }
+    ensures refused { OnErr result LibraryRefused }
 {
     let line = with_command(program(alloc), addr(alloc))?;
     let line = with_command(line, index(alloc))?;
@@ -352,7 +352,7 @@ pub fn make_command_line<'a>(alloc: Global) -> Result<Command<'a>, AllocError>
 
 /// The subcommand that a job is asked for with, by itself.
 pub fn command_of<'a>(alloc: Global, job: &Job<'_>) -> Result<Command<'a>, AllocError>
-    ensures refused { OnErr result WasRefused }
+    ensures refused { OnErr result LibraryRefused }
 {
     match job {
         Job::Addr(_) => addr(alloc),

@@ -5,7 +5,7 @@ ghost use Rattle.std.specs.Option.{option_map_or};
 ghost use Rattle.clap.specs.Words.{FailsBy, found_of, kind_of, rows_of, subcommand_of};
 ghost use Rattle.dl_cmd.specs.CommandLine.{command_line};
 ghost use Rattle.dl_cmd.specs.Job.{addr_words_made, index_words_made, request_made, unit_words_made};
-ghost use Rattle.dl_cmd.specs.Memory.{WantsRefused, WasRefused};
+ghost use Rattle.dl_cmd.specs.Memory.{WantsRefused, LibraryRefused};
 ghost use Rattle.dl_cmd.specs.Refusals.{refusal_of, word_faults};
 ghost use Rattle.dl_cmd.specs.Words.{addr_words_of, byte_of, file_and_addresses, flag_of, request_of, requested};
 ghost use Rattle.dl_cmd.specs.Words.{index_words_of, text_of, texts_of, unit_words_of, word_status_of};
@@ -41,7 +41,7 @@ fn flag(matches: &ArgMatches<'_>, id: &str) -> bool
 
 fn copied<'a>(alloc: Global, texts: &[&'a str]) -> Result<Vec<&'a str>, AllocError>
     ensures texts { IfOk result (λ v. v.items ≡ texts.now) }
-    ensures refused { OnErr result WasRefused }
+    ensures refused { OnErr result LibraryRefused }
 {
     match texts.to_vec(alloc) {
         Ok(copied) => Ok(copied),
@@ -51,7 +51,7 @@ fn copied<'a>(alloc: Global, texts: &[&'a str]) -> Result<Vec<&'a str>, AllocErr
 
 fn texts<'a>(alloc: Global, matches: &ArgMatches<'a>, id: &str) -> Result<Vec<&'a str>, AllocError>
     ensures texts { IfOk result (λ v. map (λ s. s.now) v.items ≡ texts_of id.now (rows_of (found_of matches.now))) }
-    ensures refused { OnErr result WasRefused }
+    ensures refused { OnErr result LibraryRefused }
 {
     match matches.get_strs(id) {
         Some(found) => copied(alloc, found),
@@ -68,7 +68,7 @@ fn file_and_addresses<'a>(
     ensures words { IfOk result (λ r. (option_map (λ s. s.now) r.0, map (λ s. s.now) r.1.items)
         ≡ file_and_addresses (option_map (λ s. s.now) exe.entry) (option_map (λ s. s.now) first.entry)
         (map (λ s. s.now) others.entry.items)) }
-    ensures refused { OnErr result WasRefused }
+    ensures refused { OnErr result LibraryRefused }
 {
     let (Some(exe), Some(first)) = (exe, first) else {
         return Ok((exe.or(first), others));
@@ -92,7 +92,7 @@ fn unit_words<'a>(matches: &ArgMatches<'a>) -> UnitWords<'a>
 
 fn addr_words<'a>(alloc: Global, matches: &ArgMatches<'a>) -> Result<AddrWords<'a>, AllocError>
     ensures words { IfOk result (λ w. addr_words_made w ≡ addr_words_of (rows_of (found_of matches.now))) }
-    ensures refused { OnErr result WasRefused }
+    ensures refused { OnErr result LibraryRefused }
 {
     let others = texts(alloc, matches, "address")?;
     let (file, addresses) = file_and_addresses(
@@ -142,7 +142,7 @@ fn job_of<'a>(
 ) -> Result<Option<Job<'a>>, AllocError>
     ensures request { IfOk result (λ job. option_map request_made job
         ≡ request_of name.now (rows_of (found_of matches.now))) }
-    ensures refused { OnErr result WasRefused }
+    ensures refused { OnErr result LibraryRefused }
 {
     let job = match name {
         "addr" => Job::Addr(addr_words(alloc, matches)?),
@@ -186,7 +186,7 @@ fn job_of<'a>(
 /// The error of a job that isn't done, with the usage of its subcommand.
 fn error_of(alloc: Global, job: &Job<'_>, refusal: Refusal) -> Result<Error, AllocError>
     ensures kind { IfOk result (λ e. kind_of e ≡ refusal.kind) }
-    ensures refused { OnErr result WasRefused }
+    ensures refused { OnErr result LibraryRefused }
 {
     let command = command_of(alloc, job)?;
     let name = match format!(in alloc; "dwline {}", command.get_name()) {
