@@ -5,8 +5,8 @@ use Rattle.clap.specs.Words.{kind_of}
 use Rattle.clap.specs.declared.error.Error.{Error}
 use Rattle.clap.specs.declared.error.kind.ErrorKind.TheVariants.{OutOfMemory}
 
--- Memory was refused. Only an error that the standard library or clap answered shows it: what stands on this definition
--- doesn't see what it is.
+-- Memory was refused. An error of the standard library's or clap's shows it: what stands on this definition doesn't see
+-- what it is.
 pub LibraryRefused : Type 0
 LibraryRefused = Unit {0}
 

@@ -14,8 +14,8 @@ IsRefused refuses most = (n : ℕ) × (n ≤ most) × refuses n
 abbrev pub MayRefuse : {M : Type 0} → (refuses : M → ℕ → Type 0) → Type 0
 MayRefuse {M} refuses = (memory : M) × WasRefused (refuses memory)
 
--- The system refused memory for a list or a map of n items. Only an error that the standard library answered shows it: what
--- stands on this definition doesn't see what it is.
+-- The system refused memory for a list or a map of n items. An error of the standard library shows it: what stands on this
+-- definition doesn't see what it is.
 pub SystemRefuses : (n : ℕ) → Type 0
 SystemRefuses n = AllocError
 
