@@ -57,6 +57,14 @@ pub record Stand (finders : Finders) (places : List Place) (units : List (List R
       ≡ answer_of_units front (slot_place finders.slots.items j)
   pub kept : Keeps finders.slots.items finders.trail.items finders.state (unended rows)
 
+-- how many places the units that have ended answer
+abbrev pub answered_count : Finders → ℕ
+answered_count finders = finders.whole
+
+-- and those that the rows of the current unit answer so far too
+abbrev pub told_count : Finders → ℕ
+told_count finders = length finders.ledger.log.items
+
 -- the lists that rows and units add to have as much room as before, so that no memory was taken
 pub record KeepsRoom (old new : Finders) : Type 0 where
   pub trail : vec_capacity new.trail ≡ vec_capacity old.trail

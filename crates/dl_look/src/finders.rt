@@ -75,7 +75,7 @@ impl Finders {
     ghost use Rattle.dl_rows.specs.declared.row.Row.{Row};
     ghost use Rattle.dl_look.specs.declared.place.Place.{Place};
     ghost use Rattle.dl_look.specs.Units.{answer_of_units, AreFirstAnswers};
-    ghost use Rattle.dl_look.specs.FindersRows.{KeepsRoom, Stand};
+    ghost use Rattle.dl_look.specs.FindersRows.{KeepsRoom, Stand, answered_count, told_count};
 
     /// The places to look for, in any order, and no row yet. No memory is taken later.
     pub fn build(alloc: Global, places: &[Place]) -> Result<Finders, NoMemory>
@@ -108,6 +108,7 @@ impl Finders {
         ensures stand { (places : List Place) (units : List (List Row)) (rows : List Row)
             → Stand self.old places units rows → Stand self.new places units (rows ++ row.now ∷ []) }
         ensures room { KeepsRoom self.old self.new }
+        ensures count { answered_count self.new ≡ answered_count self.old }
     {
         if row.end_sequence {
             self.end_sequence(row);
@@ -123,6 +124,7 @@ impl Finders {
         ensures stand { (places : List Place) (units : List (List Row)) (rows : List Row)
             → Stand self.old places units rows → Stand self.new places units (rows ++ row.now ∷ []) }
         ensures room { KeepsRoom self.old self.new }
+        ensures count { answered_count self.new ≡ answered_count self.old }
     {
         let place = Place::of(row);
         match &mut self.state {
@@ -153,6 +155,7 @@ impl Finders {
         ensures stand { (places : List Place) (units : List (List Row)) (rows : List Row)
             → Stand self.old places units rows → Stand self.new places units (rows ++ row.now ∷ []) }
         ensures room { KeepsRoom self.old self.new }
+        ensures count { answered_count self.new ≡ answered_count self.old }
     {
         let place = Place::of(row);
         let state = self.state;
@@ -175,6 +178,7 @@ impl Finders {
         ensures stand { (places : List Place) (units : List (List Row)) (rows : List Row)
             → Stand self.old places units rows → Stand self.new places (units ++ rows ∷ []) [] }
         ensures room { KeepsRoom self.old self.new }
+        ensures count { answered_count self.new ≡ told_count self.old }
     {
         self.ledger.seal(self.whole);
         self.before = self.whole;
@@ -188,6 +192,7 @@ impl Finders {
         ensures stand { (places : List Place) (units : List (List Row)) (rows : List Row)
             → Stand self.old places units rows → Stand self.new places units [] }
         ensures room { KeepsRoom self.old self.new }
+        ensures count { answered_count self.new ≡ answered_count self.old }
     {
         self.ledger.forget(self.whole);
         self.state = State::Start;
@@ -203,8 +208,11 @@ impl Finders {
 
     /// The places that the rows of the current unit are the first to answer so far, each once.
     pub fn answered_so_far(&self) -> &[Answered]
-        ensures { (places : List Place) (units : List (List Row)) (rows : List Row)
+        ensures answered { (places : List Place) (units : List (List Row)) (rows : List Row)
             → Stand self.now places units rows → AreFirstAnswers places units rows result.now }
+        ensures count { answered_count self.now + length result.now ≡ told_count self.now }
+        ensures few { (places : List Place) (units : List (List Row)) (rows : List Row)
+            → Stand self.now places units rows → told_count self.now ≤ length places }
     {
         &self.ledger.log()[self.whole..]
     }
