@@ -7,3 +7,4 @@ pub mod LossyLemmas
 pub mod ShownLemmas
 pub mod FrontLemmas
 pub mod PrintLemmas
+pub mod HeaderTextLemmas

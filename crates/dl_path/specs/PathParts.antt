@@ -1,5 +1,5 @@
 -- The parts of a path, with where they stand.
-use Rattle.std.specs.Prelude.{◌≡◌, ℕ, List, [], Option, Some, IfSome, option_map, unwrap_or}
+use Rattle.std.specs.Prelude.{◌≡◌, ◌≤◌, ℕ, List, [], length, Option, Some, IfSome, option_map, unwrap_or}
 use Rattle.std.specs.Option.{option_and_then}
 use Rattle.dl_field.specs.HeaderData.{HeaderData}
 use Rattle.dl_print.specs.ValueText.{Strings}
@@ -13,6 +13,11 @@ use Rattle.dl_path.specs.PathTexts.{FileParts}
 abbrev pub text_seen : Text → List ℕ
 text_seen (Section w) = w.now
 text_seen (Header w) = w.now
+
+-- how many of its bytes stand in the unit's header: all or none
+abbrev pub header_bytes : Text → ℕ
+header_bytes (Section w) = 0
+header_bytes (Header w) = length w.now
 
 -- nothing where there is no directory
 abbrev pub directory_seen : Option Directory → List ℕ
@@ -36,3 +41,9 @@ pub record FromDirectories (text : ℕ → Option (List ℕ)) (p : Parts) : Type
 -- the text of the directory of this number
 abbrev pub text_of_directory : Strings → Option HeaderData → ℕ → Option (List ℕ)
 text_of_directory s header n = option_and_then (λ (h : HeaderData). directory_text s h n) header
+
+-- no part has more bytes than this in the header
+pub record HeaderBytesWithin (most : ℕ) (p : Parts) : Type 0 where
+  pub base : IfSome p.base (λ d. header_bytes d.text ≤ most)
+  pub directory : IfSome p.directory (λ d. header_bytes d.text ≤ most)
+  pub name : header_bytes p.name ≤ most

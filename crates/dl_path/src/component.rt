@@ -1,9 +1,9 @@
 //! The last component of a path.
 
-ghost use Rattle.std.specs.Prelude.{◌≡◌, ◌≤◌, ◌||◌, drop, length};
+ghost use Rattle.std.specs.Prelude.{◌≡◌, ◌≤◌, ◌||◌, ℕ, drop, length};
 ghost use Rattle.std.specs.Option.{option_copied};
 ghost use Rattle.dl_path.specs.Parts.{path_seen};
-ghost use Rattle.dl_path.specs.PathParts.{parts_seen};
+ghost use Rattle.dl_path.specs.PathParts.{HeaderBytesWithin, parts_seen};
 ghost use Rattle.dl_path.specs.Paths.{compiled_in, is_of_windows, is_whole, under};
 ghost use Rattle.dl_path.specs.Shown.{after_the_last, basename, separates};
 ghost use Rattle.dl_path.specs.Windows.{begins_in_windows, is_bare_drive};
@@ -26,6 +26,7 @@ pub fn basename_under<'s, 'h>(root: Option<&[u8]>, parts: Parts<'s, 'h>) -> Part
     ensures seen { parts_seen result ≡ basename (compiled_in (option_copied root.entry) (parts_seen parts.entry)) }
     ensures base { result.base ≡ None }
     ensures directory { result.directory ≡ None }
+    ensures within { (most : ℕ) → HeaderBytesWithin most parts.entry → HeaderBytesWithin most result }
 {
     let whole = path(parts);
     let start = component_start(compiled_in_windows(root, whole), whole.name);

@@ -1,13 +1,17 @@
 //! The texts that the path of a file is made of, each with where it stands. Section 6.2.4.
 
-ghost use Rattle.std.specs.Prelude.{◌≡◌, ◌≤◌, Some, IfSome, drop, length};
-ghost use Rattle.std.specs.Option.{option_copied, option_map};
+ghost use Rattle.std.specs.Prelude.{◌≡◌, ◌≤◌, ℕ, Some, IfSome, drop, length};
+ghost use Rattle.std.specs.Option.{option_copied, option_map, option_map_or};
+ghost use Rattle.dl_field.specs.HeaderData.{header_cells};
+ghost use Rattle.dl_table.specs.EntryData.{value_of};
 ghost use Rattle.dl_table.specs.EntryHeld.{entry_items};
 ghost use Rattle.dl_table.specs.Held.{value_lent};
+ghost use Rattle.dl_table.specs.TableCells.{value_cells};
+ghost use Rattle.dl_table.specs.Value.{Value};
 ghost use Rattle.dl_print.specs.ValueText.{strings_of};
 ghost use Rattle.dl_path.specs.Parts.{path_seen};
-ghost use Rattle.dl_path.specs.PathParts.{FromDirectories, IsDirectory, directory_seen, parts_apart, parts_seen};
-ghost use Rattle.dl_path.specs.PathParts.{text_of_directory, text_seen};
+ghost use Rattle.dl_path.specs.PathParts.{FromDirectories, HeaderBytesWithin, IsDirectory, directory_seen, header_bytes};
+ghost use Rattle.dl_path.specs.PathParts.{parts_apart, parts_seen, text_of_directory, text_seen};
 ghost use Rattle.dl_path.specs.Paths.{text_of, own_path, directory_of, directory_text, number_or_zero, path_of};
 ghost use Rattle.dl_path.specs.PathTexts.{base_of, by_itself, file_parts, parts_in};
 
@@ -56,6 +60,7 @@ pub fn parts_of<'s, 'h>(
     ensures apart { option_map parts_apart result ≡ file_parts (strings_of strings.now) (option_copied header.entry) file }
     ensures numbered { IfSome result (FromDirectories (text_of_directory (strings_of strings.now)
         (option_copied header.entry))) }
+    ensures within { IfSome result (HeaderBytesWithin (option_map_or header_cells (option_copied header.entry) 0)) }
 {
     parts_under(strings, header?, file)
 }
@@ -67,6 +72,7 @@ fn parts_under<'s, 'h>(
 ) -> Option<Parts<'s, 'h>>
     ensures apart { option_map parts_apart result ≡ file_parts (strings_of strings.now) (Some header.now) file }
     ensures numbered { IfSome result (FromDirectories (directory_text (strings_of strings.now) header.now)) }
+    ensures within { IfSome result (HeaderBytesWithin (header_cells header.now)) }
 {
     let entry = header.file(file)?;
     let name = own_path(strings, entry)?;
@@ -85,6 +91,7 @@ fn parts_within<'s, 'h>(
 ) -> Parts<'s, 'h>
     ensures apart { parts_apart result ≡ parts_in (strings_of strings.now) header.now number (text_seen name.entry) }
     ensures numbered { FromDirectories (directory_text (strings_of strings.now) header.now) result }
+    ensures within { header_bytes name.entry ≤ header_cells header.now → HeaderBytesWithin (header_cells header.now) result }
 {
     let Some(text) = directory_text(strings, header, number) else {
         return alone(name);
@@ -105,6 +112,7 @@ fn base_of<'s, 'h>(
 ) -> Option<Directory<'s, 'h>>
     ensures seen { directory_seen result ≡ base_of (strings_of strings.now) header.now number directory.now }
     ensures numbered { IsDirectory (directory_text (strings_of strings.now) header.now) result }
+    ensures within { IfSome result (λ d. header_bytes d.text ≤ header_cells header.now) }
 {
     if is_whole(directory) || number == 0 {
         return None;
@@ -118,6 +126,7 @@ pub fn alone<'s, 'h>(name: Text<'s, 'h>) -> Parts<'s, 'h>
     ensures apart { parts_apart result ≡ by_itself (text_seen name.entry) }
     ensures base { result.base ≡ None }
     ensures directory { result.directory ≡ None }
+    ensures name { result.name ≡ name.entry }
 {
     Parts {
         base: None,
@@ -162,7 +171,8 @@ pub fn bytes<'a>(text: Text<'a, 'a>) -> &'a [u8]
 /// What stands in a text from a place on.
 pub fn text_from<'s, 'h>(text: Text<'s, 'h>, start: usize) -> Text<'s, 'h>
     requires { start ≤ length (text_seen text) }
-    ensures { text_seen result ≡ drop start (text_seen text.entry) }
+    ensures seen { text_seen result ≡ drop start (text_seen text.entry) }
+    ensures within { header_bytes result ≤ header_bytes text.entry }
 {
     match text {
         Text::Section(bytes) => Text::Section(&bytes[start..]),
@@ -176,20 +186,24 @@ fn directory_text<'s, 'h>(
     header: &'h Header,
     number: u64,
 ) -> Option<Text<'s, 'h>>
-    ensures { option_map text_seen result ≡ directory_text (strings_of strings.now) header.now number }
+    ensures seen { option_map text_seen result ≡ directory_text (strings_of strings.now) header.now number }
+    ensures within { IfSome result (λ t. header_bytes t ≤ header_cells header.now) }
 {
     own_path(strings, header.directory(number)?)
 }
 
 /// The path of an entry, in its table or in a string section.
 fn own_path<'s, 'h>(strings: &'s StringSections<'_>, entry: Entry<'h>) -> Option<Text<'s, 'h>>
-    ensures { option_map text_seen result ≡ own_path (strings_of strings.now) (entry_items entry.entry) }
+    ensures seen { option_map text_seen result ≡ own_path (strings_of strings.now) (entry_items entry.entry) }
+    ensures within { (most : ℕ) → ((v : Value) → value_of (entry_items entry.entry) 1 ≡ Some v → value_cells v ≤ most)
+        → IfSome result (λ t. header_bytes t ≤ most) }
 {
     text_of(strings, entry.get(PATH)?)
 }
 
 fn text_of<'s, 'h>(strings: &'s StringSections<'_>, value: ValueRef<'h>) -> Option<Text<'s, 'h>>
-    ensures { option_map text_seen result ≡ text_of (strings_of strings.now) (value_lent value.entry) }
+    ensures seen { option_map text_seen result ≡ text_of (strings_of strings.now) (value_lent value.entry) }
+    ensures within { IfSome result (λ t. header_bytes t ≤ value_cells (value_lent value.entry)) }
 {
     match value {
         ValueRef::Text(text) => Some(Text::Header(text)),
