@@ -1,7 +1,8 @@
 -- What `addr` answers and writes.
 use Rattle.std.proofs.Common.{◌≡◌, inl, inr, ℕ, Bool, true, false, List, [], ◌∷◌, ◌++◌, length, flat_map, map, take, slice_get}
 use Rattle.std.proofs.Common.{Option, Some, None, Result, Ok, Err, arith, refl, sym, ap, ap₂, ◌∙◌, subst, append_assoc}
-use Rattle.std.proofs.Common.{length-append}
+use Rattle.std.proofs.Common.{◌≤◌, length-append}
+use Rattle.std.proofs.lemmas.List.{length-map}
 use Rattle.std.specs.Prelude.{if◌then◌else◌, ◌&&◌, is_some, option_map}
 use Rattle.std.specs.Io.KnownBytes.{Appends}
 use Rattle.std.specs.List.{concat, list_all}
@@ -9,7 +10,8 @@ use Rattle.std.specs.Option.{option_and_then, option_copied, option_map_or}
 use Rattle.std.proofs.KnownBytes.{Appends-trans}
 use Rattle.std.proofs.lemmas.Option.{slice_get-map}
 use Rattle.dl_head.specs.declared.dialect.Dialect.{Dialect}
-use Rattle.dl_memory.specs.Refusals.{WasRefused}
+use Rattle.dl_field.specs.HeaderData.{HeaderData}
+use Rattle.dl_memory.specs.Refusals.{IsRefused}
 use Rattle.dl_rows.specs.declared.row.Row.{Row}
 use Rattle.dl_look.specs.declared.place.Place.{Place}
 use Rattle.dl_print.specs.declared.fault.WriteFault.{WriteFault}
@@ -18,7 +20,7 @@ use Rattle.dl_print.specs.Output.{TellsOut}
 use Rattle.dl_print.specs.ValueText.{Strings, strings_of}
 use Rattle.dl_run.specs.declared.fault.RunFault.{RunFault}
 use Rattle.dl_run.specs.declared.fault.RunFault.TheVariants as fault
-use Rattle.dl_run.specs.Section.{Visit, HasBegun, EndsAs, of_end, section_visits}
+use Rattle.dl_run.specs.Section.{Visit, HasBegun, EndsAs, header_of, of_end, section_visits}
 use Rattle.dl_run.specs.Visiting.{Ran, VisitorStops}
 use Rattle.dl_run.proofs.SectionLemmas.{has_front}
 use Rattle.dl_look.specs.declared.asked.Asked.{Asked}
@@ -34,7 +36,7 @@ use Rattle.dl_addr.specs.Answers.{located_seen}
 use Rattle.dl_look.specs.Asked.{looked_up, place_of}
 use Rattle.dl_addr.specs.Code.{is_code}
 use Rattle.dl_dirs.specs.Compilation.{directory_by}
-use Rattle.dl_addr.specs.Commands.{Ends, Locates, answer_lines, is_answered}
+use Rattle.dl_addr.specs.Commands.{Ends, Locates, answer_lines, answers_room, is_answered}
 use Rattle.dl_addr.specs.Knowing.{Knows}
 use Rattle.dl_addr.specs.Locating.{IsMadeFor, Locating, code_of, locate_story, located_after, located_by}
 use Rattle.dl_addr.specs.Location.{location_at}
@@ -44,9 +46,11 @@ use Rattle.dl_path.specs.Paths.{compiled_in, path_of}
 use Rattle.dl_path.specs.Shown.{basename}
 use Rattle.dl_addr.specs.Printing.{PrintsAll, answer_for, found_by, named_text, seen_lines, seen_text, told}
 use Rattle.dl_addr.specs.Shown.{no_path_text, path_text, text_in}
+use Rattle.dl_addr.specs.Room.{cells_of, paths_room}
 use Rattle.dl_addr.specs.Texts.{named, printed}
 use Rattle.dl_addr.proofs.EndLemmas.{splits_section}
 use Rattle.dl_addr.proofs.LocatedLemmas.{located_of_section}
+use Rattle.dl_addr.proofs.HeaderRoom.{cells_few}
 
 -- ---- lists
 
@@ -81,6 +85,18 @@ was_asked q number x at = by (slice_get q.asked.now number) refl where
         (sym (ap (option_map (looked_up q.base)) is) ∙ sym (slice_get-map (looked_up q.base) q.asked.now number)
         ∙ at),
   )
+
+-- ---- for how many items memory is refused
+
+-- the header of a unit has no more cells than the unit has bytes
+pub header_few : (dialect : Dialect) (u : List ℕ) (h : Option HeaderData) → h ≡ header_of dialect u → cells_of h ≤ length u
+header_few dialect u h is = rw is (cells_few dialect u)
+
+pub asked_room : {M : Type 0} (q : Question) (u : List ℕ) (h : Option HeaderData) (refuses : M → ℕ → Type 0) (memory : M)
+    → IsRefused (refuses memory) (paths_room (length (map (looked_up q.base) q.asked.now)) h) → cells_of h ≤ length u
+    → IsRefused (refuses memory) (answers_room q u)
+asked_room q u h refuses memory (n, within, refused) few =
+    (n, omega (arith, within, few, length-map q.asked.now (looked_up q.base)), refused)
 
 -- ---- the answers of a locator are those of the units
 
@@ -180,15 +196,18 @@ module _ {M : Type 0} (dialect : Dialect) (q : Question) (s : Strings) (first : 
   -- ---- the reading
 
   module _ (limit : ℕ) (bytes : List ℕ) (left : Option (List ℕ)) (new : Locator M) (start mid : Option (List ℕ))
-      (made : IsMadeFor first (map (looked_up q.base) q.asked.now)) (refuses : ℕ → Type 0) (Refused : M → Type 0)
-      (was : Refused first.memory.now → WasRefused refuses) where
+      (made : IsMadeFor first (map (looked_up q.base) q.asked.now)) (refuses : M → ℕ → Type 0) where
+    -- of the memory that it was made with
+    abbrev pub Refuses : ℕ → Type 0
+    Refuses = refuses first.memory.now
+
     -- where it ended, the locator stands for the visits that the units are told
     pub record Reads (ending : Result Summary RunFault) : Type 0 where
       pub units : List (List ℕ)
       pub b : List ℕ
       pub back : List ℕ
       pub visits : List Visit
-      pub ends : Ends refuses dialect limit bytes left q units b back ending
+      pub ends : Ends Refuses dialect limit bytes left q units b back ending
       pub stands : Locating first new start mid visits
       pub same : (x : Place) → located_by first x visits ≡ located dialect live units x
       pub out : Appends start mid []
@@ -199,7 +218,7 @@ module _ {M : Type 0} (dialect : Dialect) (q : Question) (s : Strings) (first : 
         live_is x (section_visits dialect units b) (λ l. located dialect l units x)
         (λ l. located_of_section l x dialect first.unit units b)
 
-    pub reads_all : (summary : Summary) → Ran (locate_story Refused) dialect limit bytes left first new start mid (Ok summary)
+    pub reads_all : (summary : Summary) → Ran (locate_story refuses) dialect limit bytes left first new start mid (Ok summary)
         → (units : List (List ℕ)) × EndsAs dialect limit bytes left units [] [] (Ok summary)
         × Locating first new start mid (section_visits dialect units [])
         × ((x : Place) → located_by first x (section_visits dialect units []) ≡ located dialect live units x)
@@ -210,7 +229,7 @@ module _ {M : Type 0} (dialect : Dialect) (q : Question) (s : Strings) (first : 
     -- it stopped at the end of a unit
     stopped : (f : RunFault) (units : List (List ℕ)) (b back : List ℕ)
         → HasBegun dialect (take limit bytes) units b back
-        → VisitorStops (locate_story Refused) first new start mid (section_visits dialect units b) f
+        → VisitorStops (locate_story refuses) first new start mid (section_visits dialect units b) f
         → (f ≡ fault.NoMemory) × Reads (Err fault.NoMemory)
     stopped f units b back has stops =
         let r = stops.reason in
@@ -249,7 +268,8 @@ module _ {M : Type 0} (dialect : Dialect) (q : Question) (s : Strings) (first : 
                     ap is_some (ap (located dialect live (split.front ++ split.u ∷ [])) asked.2 ∙ sym (after_is a.1)
                     ∙ ap (λ (v : Visit). located_by first a.1 (stops.before ++ v ∷ [])) (sym last.1)) ∙ a.4;
               },
-              was r.refused,
+              asked_room q split.u r.h refuses first.memory.now
+                  (r.refused (map (looked_up q.base) q.asked.now) made) (header_few dialect split.u r.h split.header),
             );
             stands = stops.tells;
             same = before_is;
@@ -258,7 +278,7 @@ module _ {M : Type 0} (dialect : Dialect) (q : Question) (s : Strings) (first : 
         )
 
     -- where it ends with a fault
-    pub reads_some : (f : RunFault) → Ran (locate_story Refused) dialect limit bytes left first new start mid (Err f)
+    pub reads_some : (f : RunFault) → Ran (locate_story refuses) dialect limit bytes left first new start mid (Err f)
         → Reads (Err f)
     reads_some (fault.Write out) (units, b, back, has, writes) = absurd (let below = writes.3.0 in omega arith)
     reads_some fault.NoMemory (units, b, back, inl (ends, settled)) =
@@ -328,7 +348,7 @@ module _ {M : Type 0} (dialect : Dialect) (q : Question) (s : Strings) (first : 
         absurd (let e = (stopped _ units b back has stops).0 in cc)
 
     pub reads : (ending : Result Summary RunFault)
-        → Ran (locate_story Refused) dialect limit bytes left first new start mid ending → Reads ending
+        → Ran (locate_story refuses) dialect limit bytes left first new start mid ending → Reads ending
     reads (Ok summary) ran =
         let r = reads_all summary ran in
         record {
@@ -357,10 +377,10 @@ module _ {M : Type 0} (dialect : Dialect) (q : Question) (s : Strings) (first : 
           (subst (Appends mid now) (lines_same visits (located dialect live units) same) out)
 
       pub all_told : (summary : Summary) (all_found : Found)
-          → Ran (locate_story Refused) dialect limit bytes left first new start mid (Ok summary)
+          → Ran (locate_story refuses) dialect limit bytes left first new start mid (Ok summary)
           → ((visits : List Visit) → Locating first new start mid visits
           → PrintsAll mid now q (answer_for first visits q.base) (Ok all_found))
-          → Locates refuses dialect s q limit bytes left start now (Ok all_found)
+          → Locates Refuses dialect s q limit bytes left start now (Ok all_found)
       all_told summary all_found ran prints =
           let r = reads_all summary ran in
           let p = prints (section_visits dialect r.0 []) r.2 in (
@@ -374,14 +394,14 @@ module _ {M : Type 0} (dialect : Dialect) (q : Question) (s : Strings) (first : 
       told_of : (f : RunFault) (all_found : Found) → (r : Reads (Err f))
           → PrintsAll mid now q (answer_for first r.visits q.base) (Ok all_found)
           → (units : List (List ℕ)) × (b : List ℕ) × (back : List ℕ)
-          × Ends refuses dialect limit bytes left q units b back (Err f) × Appends start now (answer_lines dialect s q units)
+          × Ends Refuses dialect limit bytes left q units b back (Err f) × Appends start now (answer_lines dialect s q units)
       told_of f all_found r p = (r.units, r.b, r.back, r.ends, lines_out r.units r.visits r.same r.out p.1)
 
       pub fault_told : (f : RunFault) (all_found : Found)
-          → Ran (locate_story Refused) dialect limit bytes left first new start mid (Err f)
+          → Ran (locate_story refuses) dialect limit bytes left first new start mid (Err f)
           → ((visits : List Visit) → Locating first new start mid visits
           → PrintsAll mid now q (answer_for first visits q.base) (Ok all_found))
-          → Locates refuses dialect s q limit bytes left start now (Err f)
+          → Locates Refuses dialect s q limit bytes left start now (Err f)
       fault_told (fault.Write out) all_found (units, b, back, has, writes) prints =
           absurd (let below = writes.3.0 in omega arith)
       fault_told fault.NoMemory all_found ran prints =
@@ -405,10 +425,10 @@ module _ {M : Type 0} (dialect : Dialect) (q : Question) (s : Strings) (first : 
 
       -- a write failed
       pub lines_lost : (ending : Result Summary RunFault) (lost : WriteFault)
-          → Ran (locate_story Refused) dialect limit bytes left first new start mid ending
+          → Ran (locate_story refuses) dialect limit bytes left first new start mid ending
           → ((visits : List Visit) → Locating first new start mid visits
           → PrintsAll mid now q (answer_for first visits q.base) (Err lost))
-          → Locates refuses dialect s q limit bytes left start now (Err (fault.Write lost.out))
+          → Locates Refuses dialect s q limit bytes left start now (Err (fault.Write lost.out))
       lines_lost ending lost ran prints =
           let r = reads ending ran in
           let t = subst (λ (l : List ℕ). TellsOut mid now l lost)
@@ -430,10 +450,10 @@ module _ {M : Type 0} (dialect : Dialect) (q : Question) (s : Strings) (first : 
           )
 
       pub is_told : (ending : Result Summary RunFault) (printed : Result Found WriteFault)
-          → Ran (locate_story Refused) dialect limit bytes left first new start mid ending
+          → Ran (locate_story refuses) dialect limit bytes left first new start mid ending
           → ((visits : List Visit) → Locating first new start mid visits
           → PrintsAll mid now q (answer_for first visits q.base) printed)
-          → Locates refuses dialect s q limit bytes left start now (told ending printed)
+          → Locates Refuses dialect s q limit bytes left start now (told ending printed)
       is_told ending (Err lost) ran prints = lines_lost ending lost ran prints
       is_told (Ok summary) (Ok all_found) ran prints = all_told summary all_found ran prints
       is_told (Err f) (Ok all_found) ran prints = fault_told f all_found ran prints

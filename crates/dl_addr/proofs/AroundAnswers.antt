@@ -8,7 +8,6 @@ use Rattle.std.specs.Option.{option_and_then}
 use Rattle.std.proofs.KnownBytes.{Appends-trans}
 use Rattle.std.proofs.lemmas.Grind.{flat_map-append}
 use Rattle.dl_head.specs.declared.dialect.Dialect.{Dialect}
-use Rattle.dl_memory.specs.Refusals.{WasRefused}
 use Rattle.dl_look.specs.declared.asked.Asked.{Asked}
 use Rattle.dl_look.specs.declared.place.Place.{Place}
 use Rattle.dl_look.specs.Asked.{looked_up, place_of}
@@ -33,7 +32,8 @@ use Rattle.dl_addr.specs.Knowing.{Knows}
 use Rattle.dl_addr.specs.Locating.{IsMadeFor, Locating, locate_story, located_by}
 use Rattle.dl_addr.specs.Locations.{located}
 use Rattle.dl_addr.specs.Printing.{PrintsAll, answer_for, seen_lines, told_around}
-use Rattle.dl_addr.proofs.AnsweringLemmas.{all_same, ends_same, found_same, lines_same, live, live_is, was_asked}
+use Rattle.dl_addr.proofs.AnsweringLemmas.{all_same, asked_room, ends_same, found_same, header_few, lines_same, live}
+use Rattle.dl_addr.proofs.AnsweringLemmas.{live_is, was_asked}
 use Rattle.dl_addr.proofs.AroundEnds.{located_of_around, some_along, splits_around}
 
 -- bytes that are cut into blocks are cut after some of them
@@ -69,22 +69,25 @@ module _ {M : Type 0} (dialect : Dialect) (q : Question) (s : Strings) (first : 
       (all_same _ _ (λ (a : Asked). ap (is_answered a) (some_asked blocks (place_of q.base a))) q.asked.now)
 
   module _ (limit : ℕ) (bytes : List ℕ) (left : Option (List ℕ)) (new : Locator M) (start mid : Option (List ℕ))
-      (made : IsMadeFor first (map (looked_up q.base) q.asked.now)) (refuses : ℕ → Type 0) (Refused : M → Type 0)
-      (was : Refused first.memory.now → WasRefused refuses) where
+      (made : IsMadeFor first (map (looked_up q.base) q.asked.now)) (refuses : M → ℕ → Type 0) where
+    -- of the memory that it was made with
+    abbrev Refuses : ℕ → Type 0
+    Refuses = refuses first.memory.now
+
     -- where it ended, the locator stands for visits in which the blocks answer
     record Reads (ending : Result Survey RunFault) : Type 0 where
       pub blocks : List Block
       pub rest : Rest
       pub visits : List Visit
-      pub ends : EndsAsked refuses dialect limit bytes left q blocks rest ending
+      pub ends : EndsAsked Refuses dialect limit bytes left q blocks rest ending
       pub stands : Locating first new start mid visits
       pub same : (x : Place) → located_by first x visits ≡ located_around dialect code blocks x
       pub out : Appends start mid []
 
     -- it was told all of them
     read_all : (ending : Result Survey RunFault) (blocks : List Block) (rest : Rest)
-        → EndsAsked refuses dialect limit bytes left q blocks rest ending
-        → Settled (locate_story Refused) first start mid (visits_around dialect blocks rest) (Locating first new start mid)
+        → EndsAsked Refuses dialect limit bytes left q blocks rest ending
+        → Settled (locate_story refuses) first start mid (visits_around dialect blocks rest) (Locating first new start mid)
         → Reads ending
     read_all ending blocks rest ends settled = record {
       blocks = blocks;
@@ -102,7 +105,7 @@ module _ {M : Type 0} (dialect : Dialect) (q : Question) (s : Strings) (first : 
     -- it stopped at the end of a unit
     stopped : (f : RunFault) (blocks : List Block) (rest : Rest) (others : List ℕ)
         → IsCutTo dialect (take limit bytes) blocks rest others
-        → VisitorStops (locate_story Refused) first new start mid (visits_around dialect blocks rest) f
+        → VisitorStops (locate_story refuses) first new start mid (visits_around dialect blocks rest) f
         → (f ≡ fault.NoMemory) × Reads (Err fault.NoMemory)
     stopped f blocks rest others is_cut stops =
         let r = stops.reason in
@@ -143,7 +146,8 @@ module _ {M : Type 0} (dialect : Dialect) (q : Question) (s : Strings) (first : 
                     ap is_some (ap (located_around dialect code with_u) asked.2 ∙ sym (after_is a.1)
                     ∙ ap (λ (v : Visit). located_by first a.1 (stops.before ++ v ∷ [])) (sym last.1)) ∙ a.4;
               },
-              was r.refused,
+              asked_room q split.u r.h refuses first.memory.now
+                  (r.refused (map (looked_up q.base) q.asked.now) made) (header_few dialect split.u r.h split.header),
             );
             stands = stops.tells;
             same = before_is;
@@ -152,7 +156,7 @@ module _ {M : Type 0} (dialect : Dialect) (q : Question) (s : Strings) (first : 
         )
 
     reads : (ending : Result Survey RunFault)
-        → RanAround (locate_story Refused) dialect limit bytes left first new start mid ending → Reads ending
+        → RanAround (locate_story refuses) dialect limit bytes left first new start mid ending → Reads ending
     reads (Ok survey) (inl (blocks, rest, ends, settled)) = read_all (Ok survey) blocks rest ends settled
     reads (Ok survey) (inr done) = absurd done.4.tells
     reads (Err (fault.Write out)) (blocks, rest, others, is_cut, writes) =
@@ -198,10 +202,10 @@ module _ {M : Type 0} (dialect : Dialect) (q : Question) (s : Strings) (first : 
           (subst (Appends mid now) (lines_are ending r) (prints r.visits r.stands).1)
 
       fault_told : (f : RunFault) (all_found : Found)
-          → RanAround (locate_story Refused) dialect limit bytes left first new start mid (Err f) → Prints (Ok all_found)
-          → LocatesAround refuses dialect s q limit bytes left start now (Err f)
+          → RanAround (locate_story refuses) dialect limit bytes left first new start mid (Err f) → Prints (Ok all_found)
+          → LocatesAround Refuses dialect s q limit bytes left start now (Err f)
       fault_told f all_found ran prints = by f (reads (Err f) ran) where
-        by : (f : RunFault) → Reads (Err f) → LocatesAround refuses dialect s q limit bytes left start now (Err f)
+        by : (f : RunFault) → Reads (Err f) → LocatesAround Refuses dialect s q limit bytes left start now (Err f)
         by (fault.Write out) r = absurd r.ends
         by fault.NoMemory r = inr (r.blocks, r.rest, r.ends, lines_out _ r all_found prints)
         by fault.Read r = (r.blocks, r.rest, r.ends, lines_out _ r all_found prints)
@@ -212,8 +216,8 @@ module _ {M : Type 0} (dialect : Dialect) (q : Question) (s : Strings) (first : 
         by (fault.Emit unit e) r = absurd r.ends
 
       pub is_told_around : (ending : Result Survey RunFault) (printed : Result Found WriteFault)
-          → RanAround (locate_story Refused) dialect limit bytes left first new start mid ending → Prints printed
-          → LocatesAround refuses dialect s q limit bytes left start now (told_around ending printed)
+          → RanAround (locate_story refuses) dialect limit bytes left first new start mid ending → Prints printed
+          → LocatesAround Refuses dialect s q limit bytes left start now (told_around ending printed)
       is_told_around ending (Err lost) ran prints =
           let r = reads ending ran in
           let t = subst (λ (l : List ℕ). TellsOut mid now l lost) (lines_are ending r) (prints r.visits r.stands) in (

@@ -129,6 +129,7 @@ module _ (dialect : Dialect) where
     pub u : List ℕ
     pub after : List Block
     pub cut : blocks ≡ front ++ whole u ∷ after
+    pub header : h ≡ header_of dialect u
     pub located_before : (live : ℕ → Bool) (x : Place)
         → located_after live x [] n before ≡ located_along dialect live offset front x
     pub located_later : (live : ℕ → Bool) (x : Place)
@@ -150,6 +151,7 @@ module _ (dialect : Dialect) where
     u = u;
     after = blocks;
     cut = refl;
+    header = same;
     located_before =
         λ live y. ap (located_after live y [] n) here
         ∙ none_located dialect live y [] n (own dialect offset u) (none_own dialect offset u);
@@ -177,6 +179,7 @@ module _ (dialect : Dialect) where
     u = s.u;
     after = s.after;
     cut = ap (λ (l : List Block). block ∷ l) s.cut;
+    header = s.header;
     located_before = λ live y. (
         ap (located_after live y [] n) is
         ∙ after_block live y n offset block x

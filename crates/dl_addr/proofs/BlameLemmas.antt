@@ -14,11 +14,11 @@ use Rattle.dl_addr.specs.declared.question.Found.{Found}
 use Rattle.dl_addr.specs.declared.locating.Locator.{Locator}
 use Rattle.dl_addr.specs.Locating.{StopsAt}
 use Rattle.dl_addr.specs.Printing.{told, told_around}
-use Rattle.std.specs.Prelude.{List, None, OnOk, IfOk}
+use Rattle.std.specs.Prelude.{ℕ, List, None, OnOk, IfOk}
 
 -- memory is wanted, and no read failed
-pub never_read : {M : Type 0} {Refused : M → Type 0} (first : Locator M) (visits : List Visit)
-    → ¬ StopsAt Refused first visits fault.Read
+pub never_read : {M : Type 0} {refuses : M → ℕ → Type 0} (first : Locator M) (visits : List Visit)
+    → ¬ StopsAt refuses first visits fault.Read
 never_read first visits stops = let is = stops.is in absurd cc
 
 -- a failed read that is told is the one that ended the reading

@@ -84,6 +84,7 @@ module _ (dialect : Dialect) where
     pub u : List ℕ
     pub after : List (List ℕ)
     pub whole : units ≡ front ++ u ∷ after
+    pub header : h ≡ header_of dialect u
     pub located_before : (live : ℕ → Bool) (x : Place)
         → located_after live x [] n before ≡ located_from dialect live offset front x
     pub located_later : (live : ℕ → Bool) (x : Place)
@@ -143,6 +144,7 @@ module _ (dialect : Dialect) where
           u = s.u;
           after = s.after;
           whole = ap (λ (l : List (List ℕ)). u ∷ l) s.whole;
+          header = s.header;
           located_before = λ live y. (
               ap (located_after live y [] n) here
               ∙ after_unit live y n offset u x
@@ -165,6 +167,7 @@ module _ (dialect : Dialect) where
           u = u;
           after = units;
           whole = refl;
+          header = same;
           located_before =
               λ live y. ap (located_after live y [] n) here
               ∙ none_located live y [] n (own offset u) (none_own offset u);

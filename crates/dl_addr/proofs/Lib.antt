@@ -1,9 +1,11 @@
 pub mod TextLemmas
+pub mod RoomLemmas
 pub mod LocatedLemmas
 pub mod LocatorLemmas
 pub mod KeepLemmas
 pub mod EndLemmas
 pub mod LinesLemmas
+pub mod HeaderRoom
 pub mod AnsweringLemmas
 pub mod LocationLemmas
 pub mod AroundEnds

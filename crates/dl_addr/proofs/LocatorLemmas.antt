@@ -10,10 +10,11 @@ use Rattle.dl_look.specs.declared.live.LiveRows.{LiveRows}
 use Rattle.dl_look.specs.declared.place.Place.{Place}
 use Rattle.dl_look.specs.declared.finders.Finders.{Finders}
 use Rattle.dl_look.specs.Answer.{answer}
-use Rattle.dl_look.specs.FindersRows.{Stand}
+use Rattle.dl_look.specs.FindersRows.{Stand, answered_count, told_count}
 use Rattle.dl_look.specs.LiveRows.{live_rows, Tells}
 use Rattle.dl_look.specs.Units.{FirstAnswer, answer_of_units}
 use Rattle.dl_memory.specs.declared.memory.NoMemory.{NoMemory}
+use Rattle.dl_memory.specs.Refusals.{IsRefused}
 use Rattle.dl_print.specs.ValueText.{strings_of}
 use Rattle.dl_run.specs.declared.fault.RunFault.TheVariants as fault
 use Rattle.dl_run.specs.Copying.{offset_after}
@@ -38,9 +39,11 @@ use Rattle.dl_addr.specs.Locating.{located_by, located_under, path_of_located, p
 use Rattle.dl_addr.specs.Locations.{Located}
 use Rattle.dl_path.specs.Paths.{beside_table, has_directory_0, path_of}
 use Rattle.dl_dirs.specs.Compilation.{directory_by}
+use Rattle.dl_addr.specs.Room.{HasFew, paths_room}
 use Rattle.dl_addr.specs.Texts.{HasPath, IsKept, named, path_at, printed, unit_place}
 use Rattle.dl_addr.proofs.LocatedLemmas.{ended_rows-append, located_after-append, no_live_rows, offset_after-append}
 use Rattle.dl_addr.proofs.LocatedLemmas.{rows_located}
+use Rattle.dl_addr.proofs.RoomLemmas.{few_same}
 use Rattle.dl_addr.proofs.TextLemmas.{kept_stays, none_is_some, path_found, some_same}
 
 -- the same finders stand for the same lists
@@ -65,8 +68,9 @@ module _ {M : Type 0} (first old new : Locator M) (start held : Option (List ℕ
       → new.kept.items ≡ old.kept.items → new.paths ≡ old.paths
       → ((places : List Place) (units : List (List Row)) → Stand old.finders places units (live_rows live rows)
       → Stand new.finders places units (live_rows live (rows_after rows more)))
+      → answered_count new.finders ≡ answered_count old.finders
       → Locating first new start held (visits ++ more)
-  goes_on none no_end code directories style strings memory unit tells kept paths stands = record {
+  goes_on none no_end code directories style strings memory unit tells kept paths stands answers = record {
     code = code ∙ s.code;
     directories = directories ∙ s.directories;
     style = style ∙ s.style;
@@ -98,22 +102,25 @@ module _ {M : Type 0} (first old new : Locator M) (start held : Option (List ℕ
                 is = subst (λ (p : Paths). HasPath p k.number (path_of_located first d)) (sym paths) k.is;
               });
         });
+    few = few_same old.paths new.paths (answered_count old.finders) (answered_count new.finders) paths answers s.few;
     nothing = s.nothing;
   }
 
 -- the current unit is damaged
-pub forgets : {M : Type 0} (Refused : M → Type 0) (old : Locator M) (finders : Finders) (told : LiveRows) (damage : Damage)
+pub forgets : {M : Type 0} (refuses : M → ℕ → Type 0) (old : Locator M) (finders : Finders) (told : LiveRows)
+    (damage : Damage)
     → ((places : List Place) (units : List (List Row)) (rows : List Row) → Stand old.finders places units rows
     → Stand finders places units [])
     → ((live : ℕ → Bool) → Tells told live [])
-    → IsTold (locate_story Refused) old (record old { finders = finders; live = told }) damage
-forgets Refused old finders told damage forgot tells = record {
+    → answered_count finders ≡ answered_count old.finders
+    → IsTold (locate_story refuses) old (record old { finders = finders; live = told }) damage
+forgets refuses old finders told damage forgot tells answers = record {
   tells = λ first start now visits s. (
       let live = code_of first in
       goes_on first old (record old { finders = finders; live = told }) start now visits
       (of_damage damage.offset damage.kind ∷ []) s (λ x n. refl) refl refl refl refl refl refl refl (tells live) refl refl
       (λ places units st. stand_same finders places units units [] (live_rows live []) refl (sym (no_live_rows live))
-      (forgot places units (live_rows live (rows_after [] visits)) st)));
+      (forgot places units (live_rows live (rows_after [] visits)) st)) answers);
   quiet = λ first visits. refl;
   reasons = λ first visits offset kind r. let e = r.is in absurd cc;
 }
@@ -162,9 +169,9 @@ module _ {M : Type 0} (first old mid : Locator M) (start held : Option (List ℕ
       kept_stays old.paths mid.paths old.kept.items mid.kept.items i (path_of_located first d) keeps.grows
       (keeps.others places units here l.stand i (not_first places i x d at is)) (l.kept i x d at is)
 
-  -- it stands for the visits before
-  pub still : Locating first mid start held visits
-  still = record {
+  -- it stands for the visits before, where no path was added
+  pub still : HasFew mid.paths (answered_count old.finders) → Locating first mid start held visits
+  still few = record {
     code = keeps.code ∙ s.code;
     directories = keeps.directories ∙ s.directories;
     style = keeps.style ∙ s.style;
@@ -179,6 +186,7 @@ module _ {M : Type 0} (first old mid : Locator M) (start held : Option (List ℕ
           count = keeps.count ∙ l.count;
           kept = stays places l;
         });
+    few = subst (λ (f : Finders). HasFew mid.paths (answered_count f)) (sym keeps.finders) few;
     nothing = s.nothing;
   }
 
@@ -187,9 +195,12 @@ module _ {M : Type 0} (first old mid : Locator M) (start held : Option (List ℕ
       map_none (λ (l : Located). l.row) (located_by first x visits) (sym (rows_located lives x [] first.unit visits)
       ∙ none)
 
-  pub stops : (Refused : M → Type 0) (e : NoMemory) (is : result ≡ Err e) → Refused old.memory.now
-      → StopsIn (locate_story Refused) first mid start held visits (of_end h ∷ []) fault.NoMemory
-  stops Refused e is refused = (
+  pub stops : (refuses : M → ℕ → Type 0) (e : NoMemory) (is : result ≡ Err e)
+      → ((places : List Place) (units : List (List Row)) (rows : List Row) → Stand old.finders places units rows
+      → HasFew old.paths (answered_count old.finders)
+      → IsRefused (refuses old.memory.now) (paths_room (length places) h))
+      → StopsIn (locate_story refuses) first mid start held visits (of_end h ∷ []) fault.NoMemory
+  stops refuses e is refused = (
     of_end h ∷ [],
     [],
     refl,
@@ -197,7 +208,8 @@ module _ {M : Type 0} (first old mid : Locator M) (start held : Option (List ℕ
       visits,
       of_end h,
       refl,
-      still,
+      still (subst (λ (r : Result ⊤ NoMemory). OnErr r ((count : ℕ) → HasFew old.paths count → HasFew mid.paths count)) is
+          keeps.no_more (answered_count old.finders) s.few),
       record {
         is = refl;
         before = visits;
@@ -207,7 +219,9 @@ module _ {M : Type 0} (first old mid : Locator M) (start held : Option (List ℕ
             subst (λ (r : Result ⊤ NoMemory). OnErr r ((places : List Place) (units : List (List Row)) (rows : List Row)
             → Stand old.finders places units rows → (i : ℕ) × (r : Row) × FirstAnswer places units rows i r)) is
             keeps.some places units here (s.looks places made).stand);
-        refused = subst Refused s.memory refused;
+        refused =
+            λ places made. subst (λ (m : M). IsRefused (refuses m) (paths_room (length places) h)) s.memory
+            (refused places units here (s.looks places made).stand s.few);
       },
     ),
   ) where
@@ -245,8 +259,9 @@ module _ {M : Type 0} (first old mid : Locator M) (start held : Option (List ℕ
       → ((places : List Place) (units : List (List Row)) (rows : List Row) → Stand mid.finders places units rows
       → Stand finders places (units ++ rows ∷ []) [])
       → ((live : ℕ → Bool) → Tells told live [])
+      → answered_count finders ≡ told_count mid.finders
       → Locating first (record mid { finders = finders; live = told }) start held all
-  tail is finders told ended tells = record {
+  tail is finders told ended tells answers = record {
     code = keeps.code ∙ s.code;
     directories = keeps.directories ∙ s.directories;
     style = keeps.style ∙ s.style;
@@ -272,6 +287,9 @@ module _ {M : Type 0} (first old mid : Locator M) (start held : Option (List ℕ
           kept = λ i x d at is. by places l (right places units here l.stand l.count) i x d at
               (located_by first x visits) refl (sym (now_located x) ∙ is);
         });
+    few = subst (λ (n : ℕ). HasFew mid.paths n) (ap told_count (sym keeps.finders) ∙ sym answers)
+        (subst (λ (r : Result ⊤ NoMemory). OnOk r (HasFew old.paths (answered_count old.finders)
+        → HasFew mid.paths (told_count old.finders))) is keeps.few s.few);
     nothing = s.nothing;
   } where
     under_is : (places : List Place) (i : ℕ) (x : Place) (d : Located) → slice_get places i ≡ Some x
@@ -301,8 +319,9 @@ module _ {M : Type 0} (first old mid : Locator M) (start held : Option (List ℕ
 
 -- no visit was told yet
 pub begins : {M : Type 0} (first : Locator M) (start : Option (List ℕ)) → first.unit ≡ 0
-    → ((live : ℕ → Bool) → Tells first.live live []) → Appends start start [] → Locating first first start start []
-begins first start unit tells nothing = record {
+    → ((live : ℕ → Bool) → Tells first.live live []) → HasFew first.paths (answered_count first.finders)
+    → Appends start start [] → Locating first first start start []
+begins first start unit tells few nothing = record {
   code = refl;
   directories = refl;
   style = refl;
@@ -316,15 +335,17 @@ begins first start unit tells nothing = record {
     count = made.count;
     kept = λ i x d at is. absurd (none_is_some is);
   };
+  few = few;
   nothing = nothing;
 }
 
 -- it has printed nothing
-pub settles : {M : Type 0} (Refused : M → Type 0) (first now : Locator M) (start held : Option (List ℕ)) (visits : List Visit) (flow : Flow)
-    → GoesOn (locate_story Refused) first now start held visits flow → GoesOn (locate_story Refused) first now start held visits flow
-    × Appends start held []
-settles Refused first now start held visits flow.On s = (s, s.nothing)
-settles Refused first now start held visits flow.Stop s = absurd s
+pub settles : {M : Type 0} (refuses : M → ℕ → Type 0) (first now : Locator M) (start held : Option (List ℕ))
+    (visits : List Visit) (flow : Flow)
+    → GoesOn (locate_story refuses) first now start held visits flow
+    → GoesOn (locate_story refuses) first now start held visits flow × Appends start held []
+settles refuses first now start held visits flow.On s = (s, s.nothing)
+settles refuses first now start held visits flow.Stop s = absurd s
 
 abbrev row_with : {M : Type 0} → Locator M → Row → Option (List ℕ) × PathUnit → Option Location
 row_with l r path = Some (location_at r path.1.offset (printed_by l path.1 path.0))

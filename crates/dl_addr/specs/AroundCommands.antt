@@ -4,7 +4,7 @@ use Rattle.std.specs.Prelude.{Bool, Option, Some, None, Result, Ok, Err}
 use Rattle.std.specs.Option.{option_and_then, option_copied, option_or}
 use Rattle.std.specs.Io.KnownBytes.{Appends, Keeps}
 use Rattle.dl_head.specs.declared.dialect.Dialect.{Dialect}
-use Rattle.dl_memory.specs.Refusals.{IsRefused, WasRefused}
+use Rattle.dl_memory.specs.Refusals.{IsRefused}
 use Rattle.dl_print.specs.Output.{TellsOut}
 use Rattle.dl_print.specs.ValueText.{Strings}
 use Rattle.dl_run.specs.declared.around.Survey.{Survey}
@@ -18,7 +18,7 @@ use Rattle.dl_dirs.specs.Compilation.{directory_by}
 use Rattle.dl_addr.specs.declared.question.FoundAround.{FoundAround}
 use Rattle.dl_addr.specs.declared.question.Question.{Question}
 use Rattle.dl_addr.specs.Code.{is_code}
-use Rattle.dl_addr.specs.Commands.{found_in}
+use Rattle.dl_addr.specs.Commands.{answers_room, found_in}
 use Rattle.dl_addr.specs.Locations.{Located, asked_line, located_in}
 
 -- of a block at that offset; a damaged unit answers for no place
@@ -64,7 +64,7 @@ EndsAsked refuses dialect limit bytes left q blocks rest (Err fault.NoMemory) =
     EndsAround dialect limit bytes left blocks rest (Err fault.NoMemory)
     ⊎ ((u : List ℕ) × (others : List ℕ) × (rest ≡ begun u)
     × IsCutTo dialect (take limit bytes) (blocks ++ whole u ∷ []) (begun []) others
-    × AnswersFirstAfter dialect q blocks u × WasRefused refuses)
+    × AnswersFirstAfter dialect q blocks u × IsRefused refuses (answers_room q u))
 EndsAsked refuses dialect limit bytes left q blocks rest result = EndsAround dialect limit bytes left blocks rest result
 
 -- `addr_around`: the lines of what is asked, answered by the whole units before the end or the fault. Where memory was

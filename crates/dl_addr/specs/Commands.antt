@@ -1,6 +1,6 @@
 -- What `addr` answers and writes. bytes: what was read from a reader, which has `left` left. start, now: what the
 -- writer held at first, and holds now. None: it isn't known. refuses: for how many items memory is refused.
-use Rattle.std.specs.Prelude.{◌≡◌, ◌⊎◌, ℕ, ◌+◌, Bool, true, ◌||◌, if◌then◌else◌, List, [], ◌∷◌, ◌++◌, length, take, flat_map}
+use Rattle.std.specs.Prelude.{◌≡◌, ◌⊎◌, ℕ, ◌+◌, ◌*◌, Bool, true, ◌||◌, if◌then◌else◌, List, [], ◌∷◌, ◌++◌, length, take, flat_map}
 use Rattle.std.specs.Prelude.{is_none}
 use Rattle.std.specs.Prelude.{is_some, slice_get}
 use Rattle.std.specs.Prelude.{Option, Some, None, Result, Ok, Err}
@@ -8,7 +8,7 @@ use Rattle.std.specs.List.{list_all}
 use Rattle.std.specs.Option.{option_and_then, option_copied}
 use Rattle.std.specs.Io.KnownBytes.{Appends, Keeps}
 use Rattle.dl_head.specs.declared.dialect.Dialect.{Dialect}
-use Rattle.dl_memory.specs.Refusals.{IsRefused, WasRefused}
+use Rattle.dl_memory.specs.Refusals.{IsRefused}
 use Rattle.dl_print.specs.Output.{TellsOut}
 use Rattle.dl_print.specs.ValueText.{Strings}
 use Rattle.dl_run.specs.declared.fault.RunFault.{RunFault}
@@ -52,12 +52,18 @@ pub record AnswersFirst (dialect : Dialect) (q : Question) (units : List (List �
   pub not_before : located dialect (is_code (option_copied q.code)) units (looked_up q.base a) ≡ None
   pub answers : is_some (located dialect (is_code (option_copied q.code)) (units ++ u ∷ []) (looked_up q.base a)) ≡ true
 
+-- for how many items memory is asked for at most for the answers of u: for three texts of each place that is looked up, or
+-- for the bytes of one text, which stand in the header of u
+abbrev pub answers_room : Question → (u : List ℕ) → ℕ
+answers_room q u = 3 * length q.asked.now + length u
+
 -- how the reading ends: as that of `check`, or memory was refused for the answers of b, the unit after these units
 abbrev pub Ends : (refuses : ℕ → Type 0) → Dialect → (limit : ℕ) (bytes : List ℕ) (left : Option (List ℕ)) → Question
     → (units : List (List ℕ)) (b back : List ℕ) → Result Summary RunFault → Type 0
 Ends refuses dialect limit bytes left q units b back (Err fault.NoMemory) =
     EndsAs dialect limit bytes left units b back (Err fault.NoMemory)
-    ⊎ (HasUnits dialect (take limit bytes) (units ++ b ∷ []) back × AnswersFirst dialect q units b × WasRefused refuses)
+    ⊎ (HasUnits dialect (take limit bytes) (units ++ b ∷ []) back × AnswersFirst dialect q units b
+    × IsRefused refuses (answers_room q b))
 Ends refuses dialect limit bytes left q units b back result = EndsAs dialect limit bytes left units b back result
 
 -- `addr`: the lines of what is asked, answered by the units before the end or the fault. Where memory was refused for

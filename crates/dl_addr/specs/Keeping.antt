@@ -4,13 +4,14 @@ use Rattle.dl_field.specs.HeaderData.{HeaderData}
 use Rattle.dl_rows.specs.declared.row.Row.{Row}
 use Rattle.dl_memory.specs.declared.memory.NoMemory.{NoMemory}
 use Rattle.dl_look.specs.declared.place.Place.{Place}
-use Rattle.dl_look.specs.FindersRows.{Stand}
+use Rattle.dl_look.specs.FindersRows.{Stand, answered_count, told_count}
 use Rattle.dl_look.specs.Units.{FirstAnswer}
 use Rattle.dl_print.specs.ValueText.{strings_of}
 use Rattle.dl_addr.specs.declared.kept.PathUnit.{PathUnit}
 use Rattle.dl_addr.specs.declared.locating.Locator.{Locator}
 use Rattle.dl_dirs.specs.Compilation.{directory_by}
 use Rattle.dl_path.specs.Paths.{beside_table, has_directory_0, path_of}
+use Rattle.dl_addr.specs.Room.{HasFew}
 use Rattle.dl_addr.specs.Texts.{Grows, IsKept, named, unit_place}
 
 -- the compilation directory that counts for the current unit, whose header this is
@@ -43,3 +44,5 @@ pub record Keeps {M : Type 0} (old new : Locator M) (h : Option HeaderData) (res
   pub some : OnErr result ((places : List Place) (units : List (List Row)) (rows : List Row)
       → Stand old.finders places units rows
       → (i : ℕ) × (r : Row) × FirstAnswer places units rows i r)
+  pub few : OnOk result (HasFew old.paths (answered_count old.finders) → HasFew new.paths (told_count old.finders))
+  pub no_more : OnErr result ((count : ℕ) → HasFew old.paths count → HasFew new.paths count)

@@ -10,6 +10,7 @@ pub mod AroundLaws
 -- Of contracts inside the crate, and of proofs; no public contract reaches these.
 pub mod Kept
 pub mod Texts
+pub mod Room
 pub mod Keeping
 pub mod Locating
 pub mod Answers

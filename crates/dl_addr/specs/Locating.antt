@@ -7,8 +7,9 @@ use Rattle.dl_field.specs.HeaderData.{HeaderData}
 use Rattle.dl_rows.specs.declared.row.Row.{Row}
 use Rattle.dl_look.specs.declared.place.Place.{Place}
 use Rattle.dl_look.specs.Answer.{answer}
-use Rattle.dl_look.specs.FindersRows.{Stand}
+use Rattle.dl_look.specs.FindersRows.{Stand, answered_count}
 use Rattle.dl_look.specs.LiveRows.{live_rows, Tells}
+use Rattle.dl_memory.specs.Refusals.{IsRefused}
 use Rattle.dl_print.specs.ValueText.{strings_of}
 use Rattle.dl_run.specs.declared.fault.RunFault.{RunFault}
 use Rattle.dl_run.specs.declared.fault.RunFault.TheVariants.{NoMemory}
@@ -22,6 +23,7 @@ use Rattle.dl_addr.specs.Code.{is_code}
 use Rattle.dl_dirs.specs.Compilation.{directory_by}
 use Rattle.dl_addr.specs.Locations.{Located, compilation_directory}
 use Rattle.dl_path.specs.Paths.{beside_table, path_of}
+use Rattle.dl_addr.specs.Room.{HasFew, paths_room}
 use Rattle.dl_addr.specs.Texts.{IsKept, named, printed, unit_place}
 
 -- ---- what visits give; rows, offset: of the current unit before the visits
@@ -92,10 +94,12 @@ pub record Locating {M : Type 0} (first now : Locator M) (start held : Option (L
   pub unit : now.unit ≡ offset_after first.unit visits
   pub live : Tells now.live (code_of first) (rows_after [] visits)
   pub looks : (places : List Place) → IsMadeFor first places → LooksFor first now places visits
+  pub few : HasFew now.paths (answered_count now.finders)
   pub nothing : Appends start held []
 
 -- the last visit ends a unit that is the first to answer for a place, and memory was refused
-pub record StopsAt {M : Type 0} (Refused : M → Type 0) (first : Locator M) (visits : List Visit) (fault : RunFault) : Type 0 where
+pub record StopsAt {M : Type 0} (refuses : M → ℕ → Type 0) (first : Locator M) (visits : List Visit) (fault : RunFault)
+    : Type 0 where
   pub is : fault ≡ NoMemory
   pub before : List Visit
   pub h : Option HeaderData
@@ -103,13 +107,14 @@ pub record StopsAt {M : Type 0} (Refused : M → Type 0) (first : Locator M) (vi
   pub answers : (places : List Place) → IsMadeFor first places
       → (i : ℕ) × (x : Place) × (slice_get places i ≡ Some x) × (located_by first x before ≡ None)
       × (is_some (located_by first x visits) ≡ true)
-  pub refused : Refused first.memory.now
+  pub refused : (places : List Place) → IsMadeFor first places
+      → IsRefused (refuses first.memory.now) (paths_room (length places) h)
 
 -- nothing is printed while it reads
-abbrev pub locate_story : {M : Type 0} → (Refused : M → Type 0) → Story (Locator M)
-locate_story Refused = record {
+abbrev pub locate_story : {M : Type 0} → (refuses : M → ℕ → Type 0) → Story (Locator M)
+locate_story refuses = record {
   text = λ first visits. [];
   tells = Locating;
   is_done = λ first new start now visits. ⊥;
-  refuses = StopsAt Refused;
+  refuses = StopsAt refuses;
 }

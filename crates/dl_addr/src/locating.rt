@@ -39,9 +39,8 @@ pub struct Locator<'s, 'o, 'q, M> {
 
 impl<W: Destination, M: Memory> Visitor<W> for Locator<'_, '_, '_, M> {
     ghost use Rattle.dl_addr.specs.Locating.{locate_story};
-    ghost use Rattle.dl_memory.specs.Refusals.{WasRefused};
 
-    ghost story = { locate_story (λ memory. WasRefused (M.refuses memory)) };
+    ghost story = { locate_story M.refuses };
 
     fn header(&mut self, _output: &mut W, offset: u64, _header: &Header) -> Result<(), RunFault> {
         self.unit = offset;
@@ -120,7 +119,7 @@ fn is_code(code: Option<&CodeRanges>, address: u64) -> bool
 
 impl<'s, 'o, 'q, M: Memory> Locator<'s, 'o, 'q, M> {
     ghost use Rattle.std.specs.Prelude.{◌≡◌, ◌+◌, ℕ, List, IfOk, OnErr, length, slice_get};
-    ghost use Rattle.dl_memory.specs.Refusals.{IsRefused, WasRefused};
+    ghost use Rattle.dl_memory.specs.Refusals.{IsRefused};
     ghost use Rattle.std.specs.Prelude.{Bool, Option, option_map, []};
     ghost use Rattle.std.specs.Option.{option_and_then, option_copied};
     ghost use Rattle.dl_addr.specs.declared.locating.Locator as locator;
@@ -132,11 +131,12 @@ impl<'s, 'o, 'q, M: Memory> Locator<'s, 'o, 'q, M> {
     ghost use Rattle.dl_addr.specs.Location.{location_at};
     ghost use Rattle.dl_rows.specs.declared.row.Row.{Row};
     ghost use Rattle.dl_look.specs.declared.place.Place.{Place};
-    ghost use Rattle.dl_look.specs.FindersRows.{Stand};
+    ghost use Rattle.dl_look.specs.FindersRows.{Stand, answered_count};
     ghost use Rattle.dl_look.specs.Units.{AreFirstAnswers};
     ghost use Rattle.dl_look.specs.LiveRows.{Tells};
     ghost use Rattle.dl_addr.specs.Keeping.{Keeps};
     ghost use Rattle.dl_addr.specs.Locating.{IsMadeFor};
+    ghost use Rattle.dl_addr.specs.Room.{HasFew, paths_room};
     ghost use Rattle.dl_addr.specs.Texts.{path_at, rooted};
 
     /// A locator of these places.
@@ -151,6 +151,7 @@ impl<'s, 'o, 'q, M: Memory> Locator<'s, 'o, 'q, M> {
         ensures made { IfOk result (λ l. IsMadeFor l places.now) }
         ensures live { IfOk result (λ l. (is_live : ℕ → Bool) → Tells l.live is_live []) }
         ensures unit { IfOk result (λ l. l.unit ≡ 0) }
+        ensures few { IfOk result (λ l. HasFew l.paths (answered_count l.finders)) }
         ensures strings { IfOk result (λ l. l.strings.now ≡ strings.now) }
         ensures code { IfOk result (λ l. l.code ≡ code.entry) }
         ensures directories { IfOk result (λ l. l.directories ≡ directories.entry) }
@@ -257,7 +258,9 @@ impl<'s, 'o, 'q, M: Memory> Locator<'s, 'o, 'q, M> {
     /// Keeps the paths of the places that the current unit is the first to answer.
     fn keep(&mut self, header: Option<&Header>) -> Result<(), NoMemory>
         ensures keeps { Keeps self.old self.new (option_copied header.entry) result }
-        ensures refused { OnErr result (WasRefused (M.refuses self.old.memory.now)) }
+        ensures refused { OnErr result ((places : List Place) (units : List (List Row)) (rows : List Row)
+            → Stand self.old.finders places units rows → HasFew self.old.paths (answered_count self.old.finders)
+            → IsRefused (M.refuses self.old.memory.now) (paths_room (length places) (option_copied header.entry))) }
     {
         let answered = self.finders.answered_so_far();
         if answered.is_empty() {

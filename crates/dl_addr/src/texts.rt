@@ -1,11 +1,15 @@
 //! The texts of the paths of files that answer.
 
-ghost use Rattle.std.specs.Prelude.{◌≡◌, ◌≢◌, ◌<◌, ◌≤◌, ◌+◌, ℕ, List, Option, length, slice_get, slice_index_or};
+ghost use Rattle.std.specs.Prelude.{◌≡◌, ◌≢◌, ◌<◌, ◌≤◌, ◌+◌, ◌*◌, ℕ, List, Option, length, slice_get, slice_index_or};
 ghost use Rattle.std.specs.Prelude.{IfOk, IfSome, OnErr, OnOk, None, Some};
-ghost use Rattle.dl_memory.specs.Refusals.{WasRefused};
+ghost use Rattle.dl_memory.specs.Refusals.{IsRefused};
+ghost use Rattle.std.specs.BTreeMap.{Updates};
+ghost use Rattle.std.specs.Ordering.{nat_cmp};
 ghost use Rattle.std.specs.Option.{option_copied, option_map, option_map_or};
 ghost use Rattle.dl_look.specs.Ledgers.{no_answer};
-ghost use Rattle.dl_path.specs.PathParts.{FromDirectories, IsDirectory, directory_seen, parts_seen, text_seen};
+ghost use Rattle.dl_path.specs.PathParts.{FromDirectories, HeaderBytesWithin, IsDirectory, directory_seen, header_bytes};
+ghost use Rattle.dl_path.specs.PathParts.{parts_seen, text_seen};
+ghost use Rattle.dl_addr.specs.Room.{HasFew, KeepsFew, WasPut, paths_room, unit_cells};
 ghost use Rattle.dl_addr.specs.Texts.{AreNumbers, AreSeen, AreTexts, Grows, HasPath, IsKept, IsOther, IsPath};
 ghost use Rattle.dl_addr.specs.Texts.{TextsGrow, directory_text, files_end, named, part_at, path_of_file, text_at};
 ghost use Rattle.dl_print.specs.ValueText.{strings_of};
@@ -59,7 +63,7 @@ pub struct UnitNumbers {
 }
 
 /// Keeps the path of the file of each place that a unit answers: a file's path once, and for each place
-/// the number of its path.
+/// the number of its path. Where memory is refused, no path is added.
 pub fn keep_all<'s, M: Memory>(
     memory: &M,
     paths: &mut Paths<'s>,
@@ -74,7 +78,43 @@ pub fn keep_all<'s, M: Memory>(
     ensures right { OnOk result (AreNumbers answered.now kept.old.items → (j : ℕ) → j < length answered.now
         → IsKept paths.new kept.new.items (slice_index_or answered.now j no_answer).number
         (path_of_file unit.now (slice_index_or answered.now j no_answer).row.file)) }
-    ensures refused { OnErr result (WasRefused (M.refuses memory.now)) }
+    ensures few { OnOk result ((count : ℕ) → HasFew paths.old count
+        → HasFew paths.new (count + length answered.now)) }
+    ensures no_more { OnErr result ((count : ℕ) → HasFew paths.old count → HasFew paths.new count) }
+    ensures refused { OnErr result ((count : ℕ) → HasFew paths.old count
+        → IsRefused (M.refuses memory.now) (paths_room (count + length answered.now) (option_copied unit.now.header))) }
+{
+    let files = paths.files.len();
+    let texts = paths.texts.len();
+    match keep_each(memory, paths, kept, unit, answered) {
+        Ok(()) => Ok(()),
+        Err(NoMemory) => {
+            paths.files.truncate(files);
+            paths.texts.truncate(texts);
+            Err(NoMemory)
+        }
+    }
+}
+
+/// Keeps the path of the file of each place that a unit answers.
+fn keep_each<'s, M: Memory>(
+    memory: &M,
+    paths: &mut Paths<'s>,
+    kept: &mut Vec<usize>,
+    unit: &UnitFiles<'s, '_, '_>,
+    answered: &[Answered],
+) -> Result<(), NoMemory>
+    ensures grows { Grows paths.old paths.new }
+    ensures len { length kept.new.items ≡ length kept.old.items }
+    ensures others { (i : ℕ) → IsOther answered.now (length answered.now) i
+        → slice_get kept.new.items i ≡ slice_get kept.old.items i }
+    ensures right { OnOk result (AreNumbers answered.now kept.old.items → (j : ℕ) → j < length answered.now
+        → IsKept paths.new kept.new.items (slice_index_or answered.now j no_answer).number
+        (path_of_file unit.now (slice_index_or answered.now j no_answer).row.file)) }
+    ensures few { OnOk result ((count : ℕ) → HasFew paths.old count
+        → HasFew paths.new (count + length answered.now)) }
+    ensures refused { OnErr result ((count : ℕ) → HasFew paths.old count
+        → IsRefused (M.refuses memory.now) (paths_room (count + length answered.now) (option_copied unit.now.header))) }
 {
     let mut numbers = UnitNumbers {
         files: BTreeMap::new(memory.alloc()),
@@ -103,7 +143,10 @@ fn keep<'s, M: Memory>(
     ensures right { OnOk result (AreSeen unit.now numbers.old paths.old
         → answer.now.number < length kept.old.items
         → IsKept paths.new kept.new.items answer.now.number (path_of_file unit.now answer.now.row.file)) }
-    ensures refused { OnErr result (WasRefused (M.refuses memory.now)) }
+    ensures few { OnOk result ((count : ℕ) → KeepsFew numbers.old paths.old count
+        → KeepsFew numbers.new paths.new (count + 1)) }
+    ensures refused { OnErr result ((count : ℕ) → KeepsFew numbers.old paths.old count
+        → IsRefused (M.refuses memory.now) (paths_room (count + 1) (option_copied unit.now.header))) }
 {
     let number = number_of(memory, paths, numbers, unit, answer.row.file)?;
     numbers.last = Some((answer.row.file, number));
@@ -137,7 +180,10 @@ fn number_of<'s, M: Memory>(
     ensures seen { OnOk result (AreSeen unit.now numbers.old paths.old → AreSeen unit.now numbers.new paths.new) }
     ensures right { IfOk result (λ k. AreSeen unit.now numbers.old paths.old
         → HasPath paths.new k (path_of_file unit.now file)) }
-    ensures refused { OnErr result (WasRefused (M.refuses memory.now)) }
+    ensures few { OnOk result ((count : ℕ) → KeepsFew numbers.old paths.old count
+        → KeepsFew numbers.new paths.new (count + 1)) }
+    ensures refused { OnErr result ((count : ℕ) → KeepsFew numbers.old paths.old count
+        → IsRefused (M.refuses memory.now) (paths_room (count + 1) (option_copied unit.now.header))) }
 {
     if let Some(number) = last_number(numbers, file) {
         return Ok(number);
@@ -148,7 +194,7 @@ fn number_of<'s, M: Memory>(
         return Ok(*number);
     }
     let number = add_file(memory, paths, &mut numbers.directories, unit, entry)?;
-    memory.insert(&mut numbers.files, entry, number)?;
+    put(memory, &mut numbers.files, entry, number)?;
     Ok(number)
 }
 
@@ -173,7 +219,10 @@ fn add_file<'s, M: Memory>(
         → AreTexts (directory_text unit.now) directories.new paths.new.texts.items) }
     ensures right { IfOk result (λ k. AreTexts (directory_text unit.now) directories.old paths.old.texts.items
         → HasPath paths.new k (path_of_file unit.now file)) }
-    ensures refused { OnErr result (WasRefused (M.refuses memory.now)) }
+    ensures few { OnOk result ((count : ℕ) → HasFew paths.old count → HasFew paths.new (count + 1)) }
+    ensures put { OnOk result ((count : ℕ) → WasPut directories.old count → WasPut directories.new (count + 2)) }
+    ensures refused { OnErr result ((count : ℕ) → HasFew paths.old count → WasPut directories.old (2 * count)
+        → IsRefused (M.refuses memory.now) (paths_room (count + 1) (option_copied unit.now.header))) }
 {
     let parts = file_parts(unit, file);
     let path = keep_parts(memory, &mut paths.texts, directories, unit.place(), parts)?;
@@ -187,6 +236,7 @@ fn file_parts<'s, 'h>(unit: &UnitFiles<'s, '_, 'h>, file: u64) -> Option<Parts<'
     ensures seen { option_map parts_seen result ≡ named unit.now.style (option_copied unit.now.directory)
         (path_of (strings_of unit.now.strings.now) (option_copied unit.now.header) file) }
     ensures numbered { IfSome result (FromDirectories (directory_text unit.now)) }
+    ensures within { IfSome result (HeaderBytesWithin (unit_cells unit.now)) }
 {
     let parts = parts_of(unit.strings, unit.header, file)?;
     if unit.style.basenames {
@@ -209,7 +259,11 @@ fn keep_parts<'s, M: Memory>(
     ensures right { IfOk result (λ p. (f : ℕ → Option (List ℕ)) → AreTexts f directories.old texts.old.items
         → IfSome parts.entry (FromDirectories f) → IsPath texts.new.items p (option_map parts_seen parts.entry)) }
     ensures unit { IfOk result (λ p. p.unit ≡ unit) }
-    ensures refused { OnErr result (WasRefused (M.refuses memory.now)) }
+    ensures few { OnOk result (length texts.new.items ≤ length texts.old.items + 3) }
+    ensures put { OnOk result ((count : ℕ) → WasPut directories.old count → WasPut directories.new (count + 2)) }
+    ensures refused { OnErr result ((count most : ℕ) → WasPut directories.old count → count + 2 ≤ most
+        → length texts.old.items + 3 ≤ most → IfSome parts.entry (HeaderBytesWithin most)
+        → IsRefused (M.refuses memory.now) most) }
 {
     let Some(parts) = parts else {
         return Ok(FilePath {
@@ -242,7 +296,11 @@ fn keep_directory<'s, M: Memory>(
         → IsDirectory f directory.entry → AreTexts f directories.new texts.new.items) }
     ensures right { IfOk result (λ n. (f : ℕ → Option (List ℕ)) → AreTexts f directories.old texts.old.items
         → IsDirectory f directory.entry → part_at texts.new.items n ≡ Some (directory_seen directory.entry)) }
-    ensures refused { OnErr result (WasRefused (M.refuses memory.now)) }
+    ensures few { OnOk result (length texts.new.items ≤ length texts.old.items + 1) }
+    ensures put { OnOk result ((count : ℕ) → WasPut directories.old count → WasPut directories.new (count + 1)) }
+    ensures refused { OnErr result ((count most : ℕ) → WasPut directories.old count → count + 1 ≤ most
+        → length texts.old.items + 1 ≤ most → IfSome directory.entry (λ d. header_bytes d.text ≤ most)
+        → IsRefused (M.refuses memory.now) most) }
 {
     let Some(directory) = directory else {
         return Ok(None);
@@ -264,14 +322,35 @@ fn directory_number<'s, M: Memory>(
     ensures right { IfOk result (λ k. (f : ℕ → Option (List ℕ)) → AreTexts f directories.old texts.old.items
         → f directory.entry.number ≡ Some (text_seen directory.entry.text)
         → text_at texts.new.items k ≡ Some (text_seen directory.entry.text)) }
-    ensures refused { OnErr result (WasRefused (M.refuses memory.now)) }
+    ensures few { OnOk result (length texts.new.items ≤ length texts.old.items + 1) }
+    ensures put { OnOk result ((count : ℕ) → WasPut directories.old count → WasPut directories.new (count + 1)) }
+    ensures refused { OnErr result ((count most : ℕ) → WasPut directories.old count → count + 1 ≤ most
+        → length texts.old.items + 1 ≤ most → header_bytes directory.entry.text ≤ most
+        → IsRefused (M.refuses memory.now) most) }
 {
     if let Some(number) = directories.get(&directory.number) {
         return Ok(*number);
     }
     let number = add_text(memory, texts, directory.text)?;
-    memory.insert(directories, directory.number, number)?;
+    put(memory, directories, directory.number, number)?;
     Ok(number)
+}
+
+/// Puts a number by another one into a map.
+fn put<M: Memory>(
+    memory: &M,
+    numbers: &mut BTreeMap<u64, usize>,
+    key: u64,
+    number: usize,
+) -> Result<(), NoMemory>
+    ensures updates { OnOk result (Updates nat_cmp numbers.old numbers.new key (Some number)) }
+    ensures put { OnOk result ((count : ℕ) → WasPut numbers.old count → WasPut numbers.new (count + 1)) }
+    ensures refused { OnErr result ((count : ℕ) → WasPut numbers.old count
+        → IsRefused (M.refuses memory.now) (count + 1)) }
+{
+    // With its length the map tells that its keys are in order, so that it has no more of them than were put into it.
+    let _count = numbers.len();
+    memory.insert(numbers, key, number)
 }
 
 /// Adds a text, and answers its number.
@@ -282,7 +361,9 @@ fn add_text<'s, M: Memory>(
 ) -> Result<usize, NoMemory>
     ensures grows { TextsGrow texts.old.items texts.new.items }
     ensures right { IfOk result (λ k. text_at texts.new.items k ≡ Some (text_seen text.entry)) }
-    ensures refused { OnErr result (WasRefused (M.refuses memory.now)) }
+    ensures few { OnOk result (length texts.new.items ≤ length texts.old.items + 1) }
+    ensures refused { OnErr result ((most : ℕ) → length texts.old.items + 1 ≤ most → header_bytes text.entry ≤ most
+        → IsRefused (M.refuses memory.now) most) }
 {
     let kept = kept_text(memory, text)?;
     let number = texts.len();
@@ -293,7 +374,7 @@ fn add_text<'s, M: Memory>(
 /// A text as it is kept.
 fn kept_text<'s, M: Memory>(memory: &M, text: Text<'s, '_>) -> Result<KeptText<'s>, NoMemory>
     ensures kept { IfOk result (λ kept. kept ≡ text_seen text.entry) }
-    ensures refused { OnErr result (WasRefused (M.refuses memory.now)) }
+    ensures refused { OnErr result (IsRefused (M.refuses memory.now) (header_bytes text.entry)) }
 {
     match text {
         Text::Section(bytes) => Ok(KeptText::new(KeptBytes::Lent(bytes))),

@@ -1,8 +1,6 @@
 use Rattle.std.proofs.Common.{◌∙◌, sym, subst}
 use Rattle.std.proofs.KnownBytes.{Appends-nil}
-use Rattle.dl_memory.specs.Refusals.{WasRefused}
 use Rattle.dl_run.specs.Commands.{strings_in}
-use Rattle.dl_addr.specs.Commands.{Locates}
 use Rattle.dl_addr.specs.Knowing.{Knows}
 use Rattle.dl_addr.proofs.AnsweringLemmas.{is_told}
 use Rattle.dl_run.proofs.BlameLemmas.{blames_where}
@@ -26,13 +24,11 @@ returns-clause-ran g c =
     let knows = subst (Knows first q) c.new-strings.ensures c.in-Ok.ensures.knows in
     let refuses = g.M.Memory.refuses in
     let locates = is_told options.dialect q s first knows options.limit read.0 left new start mid
-    c.in-Ok.ensures.made (refuses c.args.memory.now) (λ memory. WasRefused (refuses memory))
-    (subst (λ memory. WasRefused (refuses memory)) c.in-Ok.ensures.memory) now c.read_units-ended.result c.print_all-printed.result ran
+    c.in-Ok.ensures.made refuses now c.read_units-ended.result c.print_all-printed.result ran
     (λ visits stands. c.print_all-printed.ensures.printed first start mid visits stands c.in-Ok.ensures.made) in (
       read.0,
       read.1,
-      subst (Locates (refuses c.args.memory.now) options.dialect s q options.limit read.0 left start now)
-          (sym c.told.ensures) locates,
+      rw (c.told.ensures, ← c.in-Ok.ensures.memory) locates,
     )
 
 pub returns-clause-blames : goal.returns-clause-blames

@@ -1,6 +1,5 @@
 use Rattle.std.proofs.Common.{◌∙◌, subst, sym}
 use Rattle.std.proofs.KnownBytes.{Appends-nil}
-use Rattle.dl_memory.specs.Refusals.{WasRefused}
 use Rattle.dl_run.specs.Commands.{strings_in}
 use Rattle.dl_addr.specs.Knowing.{Knows}
 use Rattle.dl_addr.proofs.AroundAnswers.{is_told_around}
@@ -25,12 +24,11 @@ returns-clause-ran g c =
     let knows = subst (Knows first q) c.new-strings.ensures c.in-Ok.ensures.knows in
     let refuses = g.M.Memory.refuses in
     let locates = is_told_around options.dialect q s first knows options.limit read.0 left new start mid
-    c.in-Ok.ensures.made (refuses c.args.memory.now) (λ memory. WasRefused (refuses memory))
-    (subst (λ memory. WasRefused (refuses memory)) c.in-Ok.ensures.memory) now c.read_units_around-ended.result c.print_all-printed.result ran
+    c.in-Ok.ensures.made refuses now c.read_units_around-ended.result c.print_all-printed.result ran
     (λ visits stands. c.print_all-printed.ensures.printed first start mid visits stands c.in-Ok.ensures.made) in (
       read.0,
       read.1,
-      rw c.told_around.ensures locates,
+      rw (c.told_around.ensures, ← c.in-Ok.ensures.memory) locates,
     )
 
 pub returns-clause-blames : goal.returns-clause-blames

@@ -1,7 +1,9 @@
-use Rattle.std.proofs.Common.{Option, Some, None, [], ap, refl, subst}
+use Rattle.std.proofs.Common.{Option, Some, None, [], ap, refl, subst, ◌+◌, arith}
 use Rattle.std.specs.Prelude.{IfSome, option_map}
 use Rattle.dl_path.specs.declared.parts.Parts.{Parts}
-use Rattle.dl_path.specs.PathParts.{FromDirectories, directory_seen, parts_seen, text_seen}
+use Rattle.dl_path.specs.PathParts.{FromDirectories, HeaderBytesWithin, directory_seen, parts_seen, text_seen}
+use Rattle.dl_addr.proofs.KeepLemmas.{on_err}
+use Rattle.dl_addr.proofs.RoomLemmas.{put_within}
 use Rattle.dl_addr.proofs.TextLemmas.{part_stays, texts_stay}
 use Rattle.dl_addr.proofs.texts.keep_parts.Goals as goal
 
@@ -44,3 +46,30 @@ returns-clause-right g c f are from =
       has_name = ap Some c.in_ok-name.ensures.right;
       is = ap (option_map parts_seen) c.in-Some.is;
     }
+
+pub returns-in_default-clause-put : goal.returns-in_default-clause-put
+returns-in_default-clause-put g c count few = put_within c.args.directories.now count (count + 2) (omega arith) few
+
+pub returns-clause-put : goal.returns-clause-put
+returns-clause-put g c count few =
+    put_within c.keep_directory-2.new.directories (count + 1 + 1) (count + 2) (omega arith)
+    (c.in_ok-directory.ensures.put (count + 1) (c.in_ok-base.ensures.put count few))
+
+pub returns-in_err-base-clause-refused : goal.returns-in_err-base-clause-refused
+returns-in_err-base-clause-refused g c =
+    on_err c.from_residual.result (λ count most few put room within.
+    c.in_err-base.ensures.refused count most few (omega (arith, put)) (omega (arith, room))
+    (subst (λ (o : Option Parts). IfSome o (HeaderBytesWithin most)) c.in-Some.is within).base)
+
+pub returns-in_err-directory-clause-refused : goal.returns-in_err-directory-clause-refused
+returns-in_err-directory-clause-refused g c =
+    on_err c.from_residual-in_err-directory.result (λ count most few put room within.
+    c.in_err-directory.ensures.refused (count + 1) most (c.in_ok-base.ensures.put count few) (omega (arith, put))
+    (omega (arith, room, c.in_ok-base.ensures.few))
+    (subst (λ (o : Option Parts). IfSome o (HeaderBytesWithin most)) c.in-Some.is within).directory)
+
+pub returns-in_err-name-clause-refused : goal.returns-in_err-name-clause-refused
+returns-in_err-name-clause-refused g c =
+    on_err c.from_residual-in_err-name.result (λ count most few put room within.
+    c.in_err-name.ensures.refused most (omega (arith, room, c.in_ok-base.ensures.few, c.in_ok-directory.ensures.few))
+    (subst (λ (o : Option Parts). IfSome o (HeaderBytesWithin most)) c.in-Some.is within).name)

@@ -10,4 +10,4 @@ returns-clause-heard g c first start visits s =
           c.args.offset;
     }) start (g.W.Write.contents c.args._output.now) visits
     (of_header c.args.offset c.args._header.now ∷ []) s
-    (λ x n. refl) refl refl refl refl refl refl refl s.live refl refl (λ places units st. st)
+    (λ x n. refl) refl refl refl refl refl refl refl s.live refl refl (λ places units st. st) refl

@@ -30,7 +30,7 @@ returns-then-takes-clause-heard g c first start visits s =
     }) start (g.W.Write.contents c.args._output.now) visits (of_row r ∷ []) s
     (λ x n. refl) refl refl refl refl refl refl refl (c.takes.ensures.goes_on live rows s.live is) refl refl
     (λ places units st. subst (λ (l : List Row). Stand c.row.new.self places units l) (sym told)
-    (c.row.ensures.stand places units (live_rows live rows) st))
+    (c.row.ensures.stand places units (live_rows live rows) st)) c.row.ensures.count
 
 pub returns-else-takes-clause-heard : goal.returns-else-takes-clause-heard
 returns-else-takes-clause-heard g c first start visits s =
@@ -49,4 +49,4 @@ returns-else-takes-clause-heard g c first start visits s =
           c.takes.new.self;
     }) start (g.W.Write.contents c.args._output.now) visits (of_row r ∷ []) s
     (λ x n. refl) refl refl refl refl refl refl refl (c.takes.ensures.goes_on live rows s.live is) refl refl
-    (λ places units st. subst (λ (l : List Row). Stand c.args.self.now.finders places units l) (sym told) st)
+    (λ places units st. subst (λ (l : List Row). Stand c.args.self.now.finders places units l) (sym told) st) refl
