@@ -1,7 +1,7 @@
 -- What is kept of directories. No promise rests on how this is said.
 use Rattle.std.specs.Prelude.{◌≡◌, Bool, true, false, ℕ, ◌+◌, ◌<◌, ◌≤◌, List, ◌++◌, length, drop, take, slice_get, Option, Some, option_map}
 use Rattle.std.specs.BTreeMap.{get}
-use Rattle.std.specs.Option.{option_and_then}
+use Rattle.std.specs.Option.{option_and_then, option_map_or}
 use Rattle.std.specs.Ordering.{nat_cmp}
 use Rattle.dl_num.specs.declared.fixed.Order.{Order}
 use Rattle.dl_info.specs.Entries.{EntryData, TextData, here, str, line_str, index}
@@ -82,6 +82,22 @@ pub record Holds (p : Places) (es : List EntryData) : Type 0 where
   pub numbered : (offset i : ℕ) → get nat_cmp p.numbers offset ≡ Some i → i < length p.entries.items
   pub kept : (i : ℕ) (k : Kept) → slice_get p.entries.items i ≡ Some k
       → (get nat_cmp p.numbers k.offset ≡ Some i) × HasPlace p.bytes.items k.place
+
+-- ---- how much is kept
+
+-- how many bytes a text has that stands in its entry
+abbrev pub text_size : TextData → ℕ
+text_size (here w) = length w
+text_size other = 0
+
+-- and that of an entry's directory
+abbrev pub said_size : EntryData → ℕ
+said_size e = option_map_or text_size e.comp_dir 0
+
+-- no more entries are kept than so many, and no more bytes of texts
+pub record Fits (p : Places) (most : ℕ) : Type 0 where
+  pub entries : length p.entries.items ≤ most
+  pub bytes : length p.bytes.items ≤ most
 
 -- these are the places of the directories that the units of b say
 abbrev pub AreOf : Places → Order → (abbreviations : List ℕ) → List ℕ → Type 0

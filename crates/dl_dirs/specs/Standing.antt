@@ -1,5 +1,5 @@
 -- Which bytes a walk over the units of .debug_info has taken. No promise rests on how this is said.
-use Rattle.std.specs.Prelude.{◌≡◌, ℕ, ◌≤◌, List, ◌++◌, length, take, drop}
+use Rattle.std.specs.Prelude.{◌≡◌, ℕ, ◌+◌, ◌≤◌, min, List, [], ◌++◌, length, take, drop}
 use Rattle.dl_num.specs.declared.fixed.Order.{Order}
 use Rattle.dl_info.specs.declared.head.UnitLength.{UnitLength}
 use Rattle.dl_info.specs.declared.unit.Answer.{Answer}
@@ -10,7 +10,8 @@ use Rattle.dl_info.specs.Units.{first_entry, unit_length}
 use Rattle.dl_dirs.specs.declared.walk.State.{State}
 use Rattle.dl_dirs.specs.declared.walk.State.TheVariants as state
 use Rattle.dl_dirs.specs.declared.walk.Walk.{Walk}
-use Rattle.dl_dirs.specs.Holding.{Holds}
+use Rattle.dl_dirs.specs.declared.places.Places.{Places}
+use Rattle.dl_dirs.specs.Holding.{Fits, Holds}
 use Rattle.dl_dirs.specs.Units.{entries}
 
 -- the length of a unit, once its first entry is told
@@ -60,3 +61,29 @@ pub record GoesOn (walk : Walk) (order : Order) (abbreviations b front : List �
 abbrev pub Took : Walk → Order → (abbreviations b piece : List ℕ) → ℕ → Type 0
 Took walk order abbreviations b piece used =
     (1 ≤ used) × StandsFor walk order abbreviations (b ++ take used piece)
+
+-- ---- how much a walk keeps
+
+-- how many of these bytes of a unit are passed over, by what they tell of its length
+abbrev pub passed : Answer UnitLength → (front : List ℕ) → ℕ
+passed (Found l) front = min l.size (length front)
+passed More front = 0
+passed Unreadable front = length front
+
+-- places of units that were passed over, and these first bytes of one more, are no more than were taken
+pub record KeepsWith (places : Places) (front : List ℕ) (taken : ℕ) : Type 0 where
+  pub es : List EntryData
+  pub holds : Holds places es
+  pub over : ℕ
+  pub fits : Fits places over
+  pub within : over + length front ≤ taken
+
+-- the first bytes that are kept of a unit
+abbrev pub begun : State → (front : List ℕ) → List ℕ
+begun (state.Begun wanted) front = front
+begun (state.Body left) front = []
+begun state.Ended front = []
+
+-- a walk that has taken so many bytes keeps no more entries than these, nor bytes of texts and of the unit that it is in
+abbrev pub Keeps : Walk → (taken : ℕ) → Type 0
+Keeps walk taken = KeepsWith walk.places (begun walk.state walk.front.items) taken

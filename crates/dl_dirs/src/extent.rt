@@ -1,5 +1,5 @@
 //! Texts one after the other in a list of bytes.
-ghost use Rattle.std.specs.Prelude.{◌≡◌, ◌+◌, IfOk, OnErr, length};
+ghost use Rattle.std.specs.Prelude.{◌≡◌, ◌+◌, ◌≤◌, IfOk, OnErr, length};
 ghost use Rattle.dl_dirs.specs.Holding.{Grows, IsExtent, bytes_of};
 
 use dl_memory::{Memory, NoMemory};
@@ -29,6 +29,7 @@ pub(crate) fn put<M: Memory>(
 ) -> Result<Extent, NoMemory>
     ensures grows { Grows bytes.old.items bytes.new.items }
     ensures extent { IfOk result (λ e. IsExtent bytes.new.items e text.now) }
+    ensures few { length bytes.new.items ≤ length bytes.old.items + length text.now }
     ensures refused { OnErr result (M.refuses memory.now (length bytes.old.items + length text.now)) }
 {
     if bytes.ends_with(text) {

@@ -1,6 +1,6 @@
 //! Where the texts of compilation directories stand, by the offsets of line tables. DWARF 2, 3, 4 and 5, section 3.1.1.
-ghost use Rattle.std.specs.Prelude.{◌≡◌, ◌≤◌, ◌↔◌, ◌++◌, ◌∷◌, [], ℕ, List, IsTrue, IfErr, IfOk, OnErr, OnOk, length};
-ghost use Rattle.dl_memory.specs.Refusals.{WasRefused};
+ghost use Rattle.std.specs.Prelude.{◌≡◌, ◌+◌, ◌≤◌, ◌↔◌, ◌++◌, ◌∷◌, [], ℕ, List, IsTrue, IfErr, IfOk, OnErr, OnOk, length};
+ghost use Rattle.dl_memory.specs.Refusals.{IsRefused};
 ghost use Rattle.std.specs.Option.{option_copied};
 ghost use Rattle.std.specs.BTreeMap.{get};
 ghost use Rattle.std.specs.List.{list_any};
@@ -10,8 +10,8 @@ ghost use Rattle.dl_info.specs.Entries.{EntryData, entry, text};
 ghost use Rattle.dl_dirs.specs.Texts.{texts_of};
 ghost use Rattle.dl_dirs.specs.Units.{HasDirectory, directory, entries, has_index, has_line_str, has_str, Stands};
 ghost use Rattle.dl_dirs.specs.Directories.{directory_at};
-ghost use Rattle.dl_dirs.specs.Holding.{AreOf, Grows, HasPlace, Holds, IsPlaced, directory_kept, is_in, kept_entry};
-ghost use Rattle.dl_dirs.specs.Holding.{text_kept};
+ghost use Rattle.dl_dirs.specs.Holding.{AreOf, Fits, Grows, HasPlace, Holds, IsPlaced, directory_kept, is_in, kept_entry};
+ghost use Rattle.dl_dirs.specs.Holding.{said_size, text_kept, text_size};
 
 use crate::directories::Directories;
 use crate::extent::{Extent, bytes_of, put};
@@ -76,7 +76,8 @@ pub struct Places {
 fn place_of<M: Memory>(memory: &M, bytes: &mut Vec<u8>, said: Text<'_>) -> Result<Place, NoMemory>
     ensures grows { Grows bytes.old.items bytes.new.items }
     ensures placed { IfOk result (λ p. IsPlaced bytes.new.items p (text said.entry)) }
-    ensures refused { OnErr result (WasRefused (M.refuses memory.now)) }
+    ensures few { length bytes.new.items ≤ length bytes.old.items + text_size (text said.entry) }
+    ensures refused { OnErr result (IsRefused (M.refuses memory.now) (length bytes.old.items + text_size (text said.entry))) }
 {
     match said {
         Text::Here(text) => Ok(Place::Here(put(memory, bytes, text)?)),
@@ -123,6 +124,7 @@ impl Places {
     pub(crate) fn new(alloc: Global, order: Order) -> Places
         ensures order { result.order ≡ order }
         ensures holds { Holds result [] }
+        ensures few { Fits result 0 }
     {
         Places {
             alloc,
@@ -139,7 +141,10 @@ impl Places {
         ensures holds { OnOk result ((es : List EntryData) → Holds self.old es
             → Holds self.new (es ++ entry unit.now ∷ [])) }
         ensures memory { IfErr result (λ error. HasDirectory (entry unit.now ∷ [])) }
-        ensures refused { OnErr result (WasRefused (M.refuses memory.now)) }
+        ensures few { (over more : ℕ) → Fits self.old over → 1 ≤ more → said_size (entry unit.now) ≤ more
+            → OnOk result (Fits self.new (over + more)) }
+        ensures refused { (over more : ℕ) → Fits self.old over → 1 ≤ more → said_size (entry unit.now) ≤ more
+            → (es : List EntryData) → Holds self.old es → OnErr result (IsRefused (M.refuses memory.now) (over + more)) }
     {
         let (Some(offset), Some(text)) = (unit.stmt_list, unit.comp_dir) else {
             return Ok(());
@@ -163,9 +168,12 @@ impl Places {
         ensures holds { OnOk result ((es : List EntryData) → Holds self.old es
             → HasPlace self.old.bytes.items kept.place → get nat_cmp self.old.numbers kept.offset ≡ None
             → Holds self.new (es ++ kept_entry self.old.bytes.items kept ∷ [])) }
-        ensures refused { OnErr result (WasRefused (M.refuses memory.now)) }
+        ensures few { OnOk result ((length self.new.entries.items ≡ length self.old.entries.items + 1)
+            × (self.new.bytes ≡ self.old.bytes)) }
+        ensures refused { (es : List EntryData) → Holds self.old es
+            → OnErr result (IsRefused (M.refuses memory.now) (length self.old.entries.items + 1)) }
     {
-        let number = self.entries.len();
+        let number = self.numbers.len();
         memory.push(&mut self.entries, kept)?;
         memory.insert(&mut self.numbers, kept.offset, number)
     }

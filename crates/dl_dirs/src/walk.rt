@@ -1,6 +1,6 @@
 //! A walk over the units of `.debug_info`, whose bytes come in pieces. DWARF 2, 3, 4 and 5, section 7.5.
 ghost use Rattle.std.specs.Prelude.{◌≡◌, ◌+◌, ◌≤◌, ◌<◌, ◌++◌, [], ℕ, List, IfErr, IfOk, OnErr, OnOk, length, take};
-ghost use Rattle.dl_memory.specs.Refusals.{WasRefused};
+ghost use Rattle.dl_memory.specs.Refusals.{IsRefused};
 ghost use Rattle.dl_num.specs.declared.fixed.Order.{Order};
 ghost use Rattle.dl_info.specs.declared.head.UnitLength.{UnitLength};
 ghost use Rattle.dl_info.specs.declared.unit.Answer.TheVariants.{Found};
@@ -8,8 +8,8 @@ ghost use Rattle.dl_info.specs.Entries.{EntryData};
 ghost use Rattle.dl_info.specs.Section.{section_of};
 ghost use Rattle.dl_info.specs.Units.{first_entry, unit_length};
 ghost use Rattle.dl_dirs.specs.Units.{HasDirectory, entries, found_in};
-ghost use Rattle.dl_dirs.specs.Holding.{AreOf, Holds};
-ghost use Rattle.dl_dirs.specs.Standing.{Awaits, GoesOn, StandsFor, Took, told_length};
+ghost use Rattle.dl_dirs.specs.Holding.{AreOf, Fits, Holds};
+ghost use Rattle.dl_dirs.specs.Standing.{Awaits, GoesOn, Keeps, KeepsWith, StandsFor, Took, passed, told_length};
 ghost use Rattle.dl_dirs.specs.declared.walk.State.TheVariants as state;
 
 use crate::places::Places;
@@ -60,7 +60,10 @@ fn read<M: Memory>(
         → Holds places.new (es ++ found_in (first_entry places.old.order (section_of abbreviations.old) front.now))) }
     ensures memory { IfErr result (λ error.
         HasDirectory (found_in (first_entry places.old.order (section_of abbreviations.old) front.now))) }
-    ensures refused { OnErr result (WasRefused (M.refuses memory.now)) }
+    ensures few { (over : ℕ) → Fits places.old over
+        → IfOk result (λ length. Fits places.new (over + passed length front.now)) }
+    ensures refused { (over : ℕ) → Fits places.old over → (es : List EntryData) → Holds places.old es
+        → OnErr result (IsRefused (M.refuses memory.now) (over + length front.now)) }
 {
     match first_entry(places.order, front, abbreviations) {
         Answer::Found(entry) => places.add(memory, &entry)?,
@@ -88,7 +91,8 @@ fn awaited(order: Order, front: &[u8]) -> usize
 impl<'a> Walk<'a> {
     /// No byte yet of a section of this order, whose abbreviations these are. It takes no memory.
     pub fn new(alloc: Global, order: Order, abbreviations: &'a [u8]) -> Walk<'a>
-        ensures { StandsFor result order abbreviations.entry.now [] }
+        ensures stands { StandsFor result order abbreviations.entry.now [] }
+        ensures few { Keeps result 0 }
     {
         Walk {
             abbreviations: Abbreviations::new(alloc, abbreviations),
@@ -104,7 +108,9 @@ impl<'a> Walk<'a> {
         ensures stands { (order : Order) (abbreviations b : List ℕ) → StandsFor self.entry order abbreviations b
             → IfOk result (λ walk. StandsFor walk order abbreviations (b ++ piece.now)) }
         ensures memory { IfErr result (λ error. 1 ≤ length piece.now) }
-        ensures refused { IfErr result (λ error. WasRefused (M.refuses memory.now)) }
+        ensures few { (taken : ℕ) → Keeps self.entry taken → IfOk result (λ walk. Keeps walk (taken + length piece.now)) }
+        ensures refused { (taken : ℕ) → Keeps self.entry taken
+            → IfErr result (λ error. IsRefused (M.refuses memory.now) (taken + length piece.now)) }
     {
         let mut walk = self;
         let mut at = 0;
@@ -123,7 +129,9 @@ impl<'a> Walk<'a> {
         ensures within { IfOk result (λ used. used ≤ length piece.now) }
         ensures stands { (order : Order) (abbreviations b : List ℕ) → StandsFor self.old order abbreviations b
             → IfOk result (Took self.new order abbreviations b piece.now) }
-        ensures refused { OnErr result (WasRefused (M.refuses memory.now)) }
+        ensures few { (taken : ℕ) → Keeps self.old taken → IfOk result (λ used. Keeps self.new (taken + used)) }
+        ensures refused { (taken : ℕ) → Keeps self.old taken
+            → OnErr result (IsRefused (M.refuses memory.now) (taken + length piece.now)) }
     {
         match self.state {
             State::Begun(awaited) => self.grow(memory, awaited, piece),
@@ -144,7 +152,10 @@ impl<'a> Walk<'a> {
         ensures stands { (order : Order) (abbreviations b : List ℕ) → self.old.state ≡ state.Begun awaited
             → StandsFor self.old order abbreviations b
             → IfOk result (Took self.new order abbreviations b piece.now) }
-        ensures refused { OnErr result (WasRefused (M.refuses memory.now)) }
+        ensures few { (taken : ℕ) → KeepsWith self.old.places self.old.front.items taken
+            → IfOk result (λ used. Keeps self.new (taken + used)) }
+        ensures refused { (taken : ℕ) → KeepsWith self.old.places self.old.front.items taken
+            → OnErr result (IsRefused (M.refuses memory.now) (taken + length piece.now)) }
     {
         let used = awaited.min(piece.len());
         memory.extend_from_slice(&mut self.front, &piece[..used])?;
@@ -163,7 +174,9 @@ impl<'a> Walk<'a> {
             → ((l : UnitLength) → unit_length order self.old.front.items ≡ Found l
             → length self.old.front.items ≤ l.size)
             → OnOk result (StandsFor self.new order abbreviations b) }
-        ensures refused { OnErr result (WasRefused (M.refuses memory.now)) }
+        ensures few { (taken : ℕ) → KeepsWith self.old.places self.old.front.items taken → OnOk result (Keeps self.new taken) }
+        ensures refused { (taken : ℕ) → KeepsWith self.old.places self.old.front.items taken
+            → OnErr result (IsRefused (M.refuses memory.now) taken) }
     {
         self.state = match read(
             memory,
@@ -185,7 +198,10 @@ impl<'a> Walk<'a> {
         ensures stands { (order : Order) (abbreviations b : List ℕ) → self.old.state ≡ state.Body left
             → StandsFor self.old order abbreviations b
             → IfOk result (Took self.new order abbreviations b piece.now) }
-        ensures refused { OnErr result (WasRefused (M.refuses memory.now)) }
+        ensures few { (taken : ℕ) → self.old.state ≡ state.Body left → Keeps self.old taken
+            → IfOk result (λ used. Keeps self.new (taken + used)) }
+        ensures refused { (taken : ℕ) → self.old.state ≡ state.Body left → Keeps self.old taken
+            → OnErr result (IsRefused (M.refuses memory.now) (taken + length piece.now)) }
     {
         if left >= piece.len() as u64 {
             self.state = State::Body(left - piece.len() as u64);
@@ -201,7 +217,9 @@ impl<'a> Walk<'a> {
         ensures within { IfOk result (λ used. used ≤ length piece.now) }
         ensures stands { (order : Order) (abbreviations b : List ℕ) → GoesOn self.old order abbreviations b []
             → IfOk result (Took self.new order abbreviations b piece.now) }
-        ensures refused { OnErr result (WasRefused (M.refuses memory.now)) }
+        ensures few { (taken : ℕ) → KeepsWith self.old.places [] taken → IfOk result (λ used. Keeps self.new (taken + used)) }
+        ensures refused { (taken : ℕ) → KeepsWith self.old.places [] taken
+            → OnErr result (IsRefused (M.refuses memory.now) (taken + length piece.now)) }
     {
         match read(memory, &mut self.places, &mut self.abbreviations, piece)? {
             Answer::Found(unit) => {
@@ -221,7 +239,8 @@ impl<'a> Walk<'a> {
             → length front.now < l.size }
         ensures stands { (order : Order) (abbreviations b : List ℕ) → GoesOn self.old order abbreviations b front.now
             → OnOk result (StandsFor self.new order abbreviations b) }
-        ensures refused { OnErr result (WasRefused (M.refuses memory.now)) }
+        ensures few { (taken : ℕ) → KeepsWith self.old.places front.now taken → OnOk result (Keeps self.new taken) }
+        ensures refused { OnErr result (IsRefused (M.refuses memory.now) (length front.now)) }
     {
         self.front.clear();
         memory.extend_from_slice(&mut self.front, front)?;
@@ -235,7 +254,8 @@ impl<'a> Walk<'a> {
             → IfOk result (λ places. AreOf places order abbreviations b) }
         ensures memory { (order : Order) (abbreviations b : List ℕ) → StandsFor self.entry order abbreviations b
             → IfErr result (λ error. HasDirectory (entries order abbreviations b)) }
-        ensures refused { IfErr result (λ error. WasRefused (M.refuses memory.now)) }
+        ensures refused { (taken : ℕ) → Keeps self.entry taken
+            → IfErr result (λ error. IsRefused (M.refuses memory.now) taken) }
     {
         let Walk {
             mut abbreviations,

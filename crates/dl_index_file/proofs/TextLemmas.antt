@@ -1,7 +1,13 @@
 -- Bytes of a file that are put behind others, piece by piece.
-use Rattle.std.proofs.Common.{◌≡◌, ℕ, ◌+◌, List, ◌++◌, take, drop, length, length-take, append_assoc, sym, ap, ◌∙◌, arith}
+use Rattle.std.proofs.Common.{◌≡◌, inl, inr, ℕ, ◌+◌, ◌<◌, ◌^◌, List, ◌++◌, take, drop, length, length-take, append_assoc, sym, ap, ◌∙◌}
+use Rattle.std.proofs.Common.{arith, Option, Some}
+use Rattle.std.specs.declared.io.Error.{Error}
 use Rattle.std.proofs.lemmas.List.{drop-drop, take-take}
 use Rattle.std.proofs.Math.Seq.{take-add}
+use Rattle.dl_elf.specs.declared.file.Range.{Range}
+use Rattle.dl_index_file.specs.Reading.{ReadIsLost, TextFails}
+use Rattle.dl_index_file.specs.declared.fault.TextFault.{TextFault}
+use Rattle.dl_index_file.specs.declared.fault.TextFault.TheVariants.{Read, NoMemory}
 
 -- what was there first still is
 pub still_there : (first now next : List ℕ) → take (length first) now ≡ first → take (length now) next ≡ now
@@ -21,3 +27,13 @@ one_more b first now next offset done at len old place new =
     ∙ ap (λ k. first ++ take done (drop offset b) ++ take len (drop k b)) place
     ∙ append_assoc first (take done (drop offset b)) (take len (drop (offset + done) b))
     ∙ ap (λ x. first ++ x) (sym two)
+
+-- what keeps all bytes of a file from being read
+pub whole_lost : (known : Option (List ℕ)) (Fails : Error → Type 0) (refuses : ℕ → Type 0) (b : List ℕ) (before : ℕ) (text : Range)
+    (fault : TextFault) → known ≡ Some b → length b < 2 ^ 64 → before ≡ 0 → text.offset ≡ 0 → text.size ≡ length b
+    → TextFails known Fails refuses before text fault → ReadIsLost Fails refuses (length b)
+whole_lost known Fails refuses b before text (Read error) is below none first size (inl fails) = inl (error, fails)
+whole_lost known Fails refuses b before text (Read error) is below none first size (inr (kind, ends)) =
+    absurd (let short = ends b is below in omega (arith, short, first, size))
+whole_lost known Fails refuses b before text NoMemory is below none first size (n, few, stands, refused) =
+    inr (n, omega (arith, few, none, size), refused)

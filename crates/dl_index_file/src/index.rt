@@ -122,7 +122,7 @@ impl<'a, S: ReadAt> IndexFile<'a, S> {
         ensures within { ForBytes (S.all_bytes (source_of self.now)) (λ b. IfOk result (λ _. range_within text b ≡ true)) }
         ensures keeps { take (length out.old.items) out.new.items ≡ out.old.items }
         ensures fails { IfErr result (TextFails (S.all_bytes (source_of self.now)) (S.fails_with (source_of self.now))
-            (M.refuses memory.now) (text.offset + text.size)) }
+            (M.refuses memory.now) (length out.old.items) text) }
     {
         read_range(memory, self.source, text, out)
     }
@@ -131,7 +131,7 @@ impl<'a, S: ReadAt> IndexFile<'a, S> {
     /// or where they can't be read. They are read piece by piece, and memory is taken for what was read.
     pub fn whole<M: Memory>(&self, memory: &M) -> Option<Vec<u8>>
         ensures { ForBytes (S.all_bytes (source_of self.now)) (λ b. MatchOption result
-            ((2 ^ 24 < length b) ⊎ ReadIsLost (S.fails_with (source_of self.now)) (M.refuses memory.now))
+            ((2 ^ 24 < length b) ⊎ ReadIsLost (S.fails_with (source_of self.now)) (M.refuses memory.now) (length b))
             (λ bytes. bytes.items ≡ b)) }
     {
         let size = self.len();

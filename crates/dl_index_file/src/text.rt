@@ -29,7 +29,7 @@ pub fn read_range<S: ReadAt, M: Memory>(
     ensures within { ForBytes (S.all_bytes source.now) (λ b. IfOk result (λ _. range_within range b ≡ true)) }
     ensures keeps { take (length out.old.items) out.new.items ≡ out.old.items }
     ensures fails { IfErr result (TextFails (S.all_bytes source.now) (S.fails_with source.now) (M.refuses memory.now)
-        (range.offset + range.size)) }
+        (length out.old.items) range) }
 {
     let mut done = 0;
     while done < range.size {
@@ -57,8 +57,9 @@ fn push_piece<S: ReadAt, M: Memory>(
         out.new.items ≡ out.old.items ++ take len (drop at b))) }
     ensures within { ForBytes (S.all_bytes source.now) (λ b. IfOk result (λ _. at + len ≤ length b)) }
     ensures keeps { take (length out.old.items) out.new.items ≡ out.old.items }
+    ensures longer { IfOk result (λ _. length out.new.items ≡ length out.old.items + len) }
     ensures fails { IfErr result (TextFails (S.all_bytes source.now) (S.fails_with source.now) (M.refuses memory.now)
-        (at + len)) }
+        (length out.old.items) (record { offset = at; size = len })) }
 {
     let mut buffer = [0; PIECE];
     if !fill_whole(source, at, &mut buffer[..len])? {

@@ -1,6 +1,7 @@
 pub mod FrontLemmas
 pub mod SteadyLemmas
 pub mod SteadyUnits
+pub mod SizeLemmas
 pub mod SpelledLemmas
 pub mod BoundLemmas
 pub mod GrammarLemmas

@@ -11,9 +11,10 @@ loop-done-preserved g c =
     let len = c.min-len.ensures in
     let piece = c.in_ok-push_piece.ensures in (
       omega arith,
-      still_there first l.out.items _ inv.1 piece.keeps,
+      omega (arith, inv.1, piece.longer),
+      still_there first l.out.items _ inv.2 piece.keeps,
       λ b is short.
-          (let old = inv.2 b is short in
+          (let old = inv.3 b is short in
           let place = c.in-Some.ensures.1 in
           let within = piece.within b is short in
           (one_more b first l.out.items _ r.offset l.done c.in-Some.at c.min-len.result old.0 place (piece.bytes b is short), inr (omega arith))),

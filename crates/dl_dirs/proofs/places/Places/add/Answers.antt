@@ -1,9 +1,10 @@
-use Rattle.std.proofs.Common.{◌∙◌, refl, sym}
+use Rattle.std.proofs.Common.{◌∙◌, ◌+◌, arith, length, refl, sym}
 use Rattle.std.specs.BTreeMap.{get}
 use Rattle.std.specs.Ordering.{nat_cmp}
 use Rattle.dl_dirs.specs.declared.places.Places.{Places}
 use Rattle.dl_info.specs.Entries.{entry}
-use Rattle.dl_dirs.proofs.HoldLemmas.{added, holds_passed, if_err, none_of, one_says, says_directory, says_table, was_said, where_ok}
+use Rattle.dl_dirs.proofs.HoldLemmas.{added, holds_grown, holds_passed, if_err, none_of, one_says, says_directory, says_table, was_said, where_ok}
+use Rattle.dl_dirs.proofs.KeepLemmas.{fewer_err}
 use Rattle.dl_dirs.proofs.places.Places.add.Goals as goal
 
 pub returns-in_default-clause-holds : goal.returns-in_default-clause-holds
@@ -46,3 +47,17 @@ pub returns-clause-memory : goal.returns-clause-memory
 returns-clause-memory g c =
     if_err c.keep.result _
     (one_says c.args.unit.now c.in-Some-Some.offset c.in-Some-Some.text c.in-Some-Some.is-0 c.in-Some-Some.is-1)
+
+pub returns-clause-refused : goal.returns-clause-refused
+returns-clause-refused g c over more fits some few es h =
+    let p = c.args.self.now in
+    let q : Places = record {
+      alloc = p.alloc;
+      order = p.order;
+      numbers = p.numbers;
+      entries = p.entries;
+      bytes = c.place_of.new.bytes;
+    } in
+    fewer_err (g.M.Memory.refuses c.args.memory.now) (length p.entries.items + 1) (over + more)
+    (omega (arith, fits.entries, some)) c.keep.result
+    (c.keep.ensures.refused es (holds_grown p q es refl refl c.in_ok-place.ensures.grows h))

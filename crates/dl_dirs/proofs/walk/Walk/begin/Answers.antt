@@ -1,6 +1,8 @@
-use Rattle.std.proofs.Common.{◌∙◌, ◌++◌, arith, length, refl, sym, take, []}
+use Rattle.std.proofs.Common.{◌∙◌, ◌+◌, ◌++◌, ap, arith, length, refl, sym, take, []}
 use Rattle.dl_info.specs.Section.{section_of}
 use Rattle.dl_info.specs.declared.unit.Answer.TheVariants.{Found, More, Unreadable}
+use Rattle.dl_dirs.specs.Standing.{passed}
+use Rattle.dl_dirs.proofs.KeepLemmas.{keeps_read}
 use Rattle.dl_dirs.proofs.UnitLemmas.{wants_more}
 use Rattle.dl_dirs.proofs.WalkLemmas.{after_more, after_unit, begins, begins_more, begins_none, moved, some_size}
 use Rattle.dl_dirs.proofs.walk.Walk.begin.Goals as goal
@@ -62,3 +64,24 @@ returns-in-Unreadable-clause-stands g c order abbreviations b goes =
       after_unit walk order abbreviations b [] goes _ c.read.ensures.abbreviations piece (b ++ take (length piece) piece) Unreadable m
           (begins_none order abbreviations b goes.es piece walk.front.items goes.onward m.told),
     )
+
+pub returns-in-Found-clause-few : goal.returns-in-Found-clause-few
+returns-in-Found-clause-few g c taken k =
+    let piece = c.args.piece.now in
+    keeps_read c.args.self.now.places c.read.new.places piece c.in_ok-unit.field-0 _ c.in_ok-unit.ensures.few
+    c.in_ok-unit.ensures.holds [] [] taken (taken + c.min-used.result)
+    (omega (arith, ap (λ u. passed u piece) c.in-Found.is, c.min-used.ensures)) k
+
+pub returns-in_ok-keep-in-More-clause-few : goal.returns-in_ok-keep-in-More-clause-few
+returns-in_ok-keep-in-More-clause-few g c taken k =
+    let piece = c.args.piece.now in
+    c.in_ok-keep-in-More.ensures.few (taken + length piece)
+    (keeps_read c.args.self.now.places c.read.new.places piece c.in_ok-unit.field-0 _ c.in_ok-unit.ensures.few
+    c.in_ok-unit.ensures.holds [] piece taken (taken + length piece) (omega (arith, ap (λ u. passed u piece) c.in-More.is)) k)
+
+pub returns-in-Unreadable-clause-few : goal.returns-in-Unreadable-clause-few
+returns-in-Unreadable-clause-few g c taken k =
+    let piece = c.args.piece.now in
+    keeps_read c.args.self.now.places c.read.new.places piece c.in_ok-unit.field-0 _ c.in_ok-unit.ensures.few
+    c.in_ok-unit.ensures.holds [] [] taken (taken + length piece)
+    (omega (arith, ap (λ u. passed u piece) c.in-Unreadable.is)) k

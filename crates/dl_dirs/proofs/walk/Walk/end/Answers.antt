@@ -1,4 +1,4 @@
-use Rattle.std.proofs.Common.{List, ℕ, ◌≡◌, refl, subst, sym}
+use Rattle.std.proofs.Common.{List, ℕ, ◌≡◌, ◌+◌, ap, arith, length, refl, subst, sym}
 use Rattle.dl_dirs.specs.declared.places.Places.{Places}
 use Rattle.dl_dirs.specs.declared.walk.State.{State}
 use Rattle.dl_dirs.specs.Holding.{Holds}
@@ -8,6 +8,7 @@ use Rattle.dl_info.specs.Section.{section_of}
 use Rattle.dl_info.specs.Units.{first_entry}
 use Rattle.dl_num.specs.declared.fixed.Order.{Order}
 use Rattle.dl_dirs.proofs.HoldLemmas.{has_more, if_err}
+use Rattle.dl_dirs.proofs.KeepLemmas.{begun_keeps, fewer}
 use Rattle.dl_dirs.proofs.WalkLemmas.{all_passed, all_told, moved, read_of}
 use Rattle.dl_dirs.proofs.walk.Walk.end.Goals as goal
 use Rattle.dl_dirs.proofs.walk.Walk.end.Goals.{in-Begun+in_ok-read, in_default}
@@ -57,3 +58,11 @@ returns-in_err-read-clause-memory g c order abbreviations b s =
     if_err c.from_residual.result _
     (subst HasDirectory (sym (all_told order abbreviations b front s.es c.in-Begun.field-0 begun.0 begun.1))
     (has_more s.es (found_in (first_entry order abbreviations front)) said))
+
+pub returns-in_err-read-clause-refused : goal.returns-in_err-read-clause-refused
+returns-in_err-read-clause-refused g c taken keeps =
+    let k = begun_keeps c.args.self c.in-Begun.field-0 taken c.in-Begun.is keeps in
+    if_err c.from_residual.result _
+    (fewer (g.M.Memory.refuses c.args.memory.now) (k.over + length c.deref.result.now) taken
+    (omega (arith, k.within, ap (λ (l : List ℕ). length l) c.deref.ensures.value))
+    (c.in_err-read.ensures.refused k.over k.fits k.es k.holds))

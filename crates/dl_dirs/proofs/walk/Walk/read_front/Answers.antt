@@ -1,4 +1,4 @@
-use Rattle.std.proofs.Common.{◌≡◌, ◌-◌, ◌∙◌, List, ℕ, ap, length, refl, rules, subst, sym}
+use Rattle.std.proofs.Common.{◌≡◌, ◌+◌, ◌-◌, ◌≤◌, ◌∙◌, [], List, ℕ, ap, arith, length, refl, rules, subst, sym}
 use Rattle.dl_num.specs.declared.fixed.Order.{Order}
 use Rattle.dl_info.specs.Section.{section_of}
 use Rattle.dl_info.specs.declared.head.UnitLength.{UnitLength}
@@ -7,8 +7,9 @@ use Rattle.dl_info.specs.declared.unit.Answer.TheVariants.{Found, More, Unreadab
 use Rattle.dl_dirs.specs.declared.walk.State.{State}
 use Rattle.dl_dirs.specs.declared.walk.State.TheVariants as state
 use Rattle.dl_dirs.specs.declared.walk.Walk.{Walk}
-use Rattle.dl_dirs.specs.Standing.{Awaits, StandsAt, told_length}
+use Rattle.dl_dirs.specs.Standing.{Awaits, KeepsWith, StandsAt, begun as begun_front, passed, told_length}
 use Rattle.dl_dirs.proofs.UnitLemmas.{told_found, wants_more}
+use Rattle.dl_dirs.proofs.KeepLemmas.{keeps_read}
 use Rattle.dl_dirs.proofs.WalkLemmas.{after_more, after_unit, begun, ends_front, ends_over, more_in, moved, read_of}
 use Rattle.dl_dirs.proofs.walk.Walk.read_front.Goals as goal
 use Rattle.dl_dirs.proofs.walk.Walk.read_front.Goals.{in-Found, in-More, in-Unreadable}
@@ -68,4 +69,26 @@ returns-clause-stands g c order abbreviations b goes fits =
           (subst
           (λ (x : State). StandsAt order abbreviations x front b (more_in walk order abbreviations b front goes front))
           (sym w.self-is) (ends_over order abbreviations b goes.es front front goes.onward m.told))
+    ]
+
+pub returns-clause-few : goal.returns-clause-few
+returns-clause-few g c taken k =
+    let front = c.args.self.now.front.items in
+    let u = c.deref.result.now in
+    let places = c.read.new.places in
+    let answer = c.in_ok-unit.field-0 in
+    let same : length u ≡ length front = ap (λ (l : List ℕ). length l) c.deref.ensures.value in
+    let read : (left : List ℕ) → taken + passed answer u + length left ≤ taken + length front → KeepsWith places left taken =
+    λ left le. keeps_read c.args.self.now.places places u answer _ c.in_ok-unit.ensures.few c.in_ok-unit.ensures.holds front left
+    taken taken le k in
+    elim c.match-branch-2.branch [
+      | in-Found w ↦
+          subst (λ (s : State). KeepsWith places (begun_front s front) taken) (sym w.self-is)
+          (read [] (omega (arith, same, ap (λ a. passed a u) w.in-Found.is)))
+      | in-More w ↦
+          subst (λ (s : State). KeepsWith places (begun_front s front) taken) (sym w.self-is)
+          (read front (omega (arith, same, ap (λ a. passed a u) w.in-More.is)))
+      | in-Unreadable w ↦
+          subst (λ (s : State). KeepsWith places (begun_front s front) taken) (sym w.self-is)
+          (read [] (omega (arith, same, ap (λ a. passed a u) w.in-Unreadable.is)))
     ]
