@@ -1,8 +1,8 @@
 -- The directories that the units of a file say.
-use Rattle.std.proofs.Common.{◌≡◌, ℕ, Bool, true, false, IsTrue, List, Option, Some, None}
-use Rattle.std.proofs.Common.{Result, Ok, Err, IfOk, Vec, Global, option_map, refl, sym, ap, subst, ◌∙◌}
+use Rattle.std.proofs.Common.{◌≡◌, ℕ, ◌+◌, ◌≤◌, Bool, true, false, IsTrue, List, length, Option, Some, None}
+use Rattle.std.proofs.Common.{Result, Ok, Err, IfOk, Vec, Global, option_map, refl, sym, ap, subst, ◌∙◌, arith}
 use Rattle.std.specs.Option.{option_and_then, option_map_or}
-use Rattle.std.specs.Prelude.{MatchOption}
+use Rattle.std.specs.Prelude.{MatchOption, if◌then◌else◌, nat_le}
 use Rattle.dl_num.specs.declared.fixed.Order.{Order}
 use Rattle.dl_info.specs.Entries.{EntryData, TextData, here, str, line_str, index}
 use Rattle.dl_dirs.specs.declared.places.Places.{Places}
@@ -22,18 +22,19 @@ use Rattle.dl_file.specs.declared.info_file.InfoFile.{InfoFile}
 use Rattle.dl_run.specs.declared.options.TheConstants.{SECTION_LIMIT}
 use Rattle.dl_open.specs.declared.section.Unread.{Unread}
 use Rattle.dl_open.specs.declared.section.Unread.TheVariants.{Read, NoMemory}
-use Rattle.dl_open.specs.Pieces.{IsUnread}
+use Rattle.dl_open.specs.Pieces.{IsReadError, IsUnread}
 use Rattle.dl_open.specs.declared.strings.TheConstants.{STRINGS_LIMIT}
-use Rattle.dl_open.specs.Directories.{HasUnits, bytes_had, said_in, texts_had}
+use Rattle.dl_open.specs.Directories.{bytes_had, said_in, section_size, texts_had, within}
+use Rattle.dl_open.specs.Tables.{bytes_of}
 use Rattle.dl_open.specs.Walked.{AreFound, AreHad, ArePlaces, IsHadWhere}
 
 -- ---- reads that fail
 
 -- they fail with these errors alone
-pub unread_only : (refuses : ℕ → Type 0) (Fails fails : Error → Type 0) (why : Unread) → FailsOnly Fails fails → IsUnread refuses Fails why
-    → IsUnread refuses fails why
-unread_only refuses Fails fails (Read error) only unread = only error unread
-unread_only refuses Fails fails NoMemory only unread = unread
+pub unread_only : (refuses : ℕ → Type 0) (most : ℕ) (Fails fails : Error → Type 0) (why : Unread) → FailsOnly Fails fails
+    → IsUnread refuses most Fails why → IsUnread refuses most fails why
+unread_only refuses most Fails fails (Read error) only unread = only error unread
+unread_only refuses most Fails fails NoMemory only unread = unread
 
 content_only : {S : Type 0} {g : _} (all_bytes : S → Option (List ℕ)) (fails_with : S → Error → Type 0)
     (fails : Error → Type 0) (reader : ContentReader S g) (c : Content) → Gives all_bytes fails_with fails reader c
@@ -47,17 +48,17 @@ pub line_only : {S : Type 0} {g : _} (all_bytes : S → Option (List ℕ)) (fail
 line_only all_bytes fails_with fails reader (Plain bytes) gives = gives.3
 line_only all_bytes fails_with fails reader (Inflated name bytes damage) gives = gives.4
 
-option_only : {S : Type 0} {g : _} (all_bytes : S → Option (List ℕ)) (fails_with : S → Error → Type 0)
-    (fails : Error → Type 0) (section : Option (ContentReader S g)) (reader : ContentReader S g) (content : Option Content)
-    → section ≡ Some reader → GivesOption all_bytes fails_with fails section content
-    → FailsOnly (ContentFails all_bytes fails_with reader) fails
-option_only {S = S} {g = g} all_bytes fails_with fails section reader content is gives =
-    by content (subst (λ (o : Option (ContentReader S g)). GivesOption all_bytes fails_with fails o content) is gives)
-  where
-    by : (content : Option Content) → GivesOption all_bytes fails_with fails (Some reader) content
-        → FailsOnly (ContentFails all_bytes fails_with reader) fails
-    by None gives = absurd gives
-    by (Some c) gives = content_only all_bytes fails_with fails reader c gives
+-- a read of a section failed, after others
+pub read_unread : (refuses : ℕ → Type 0) (most : ℕ) (Now First fails : Error → Type 0) (why : Unread) → FailsOnly Now First
+    → FailsOnly First fails → IsReadError Now why → IsUnread refuses most fails why
+read_unread refuses most Now First fails (Read error) later only unread = only error (later error unread)
+read_unread refuses most Now First fails NoMemory later only unread = absurd unread
+
+-- memory was refused for no more items than some, and than more
+pub unread_more : (refuses : ℕ → Type 0) (n most : ℕ) (fails : Error → Type 0) (why : Unread) → n ≤ most
+    → IsUnread refuses n fails why → IsUnread refuses most fails why
+unread_more refuses n most fails (Read error) within unread = unread
+unread_more refuses n most fails NoMemory within (k, few, refused) = (k, omega (arith, few, within), refused)
 
 -- ---- sections
 
@@ -80,11 +81,16 @@ pub had_where_read : {S : Type 0} {g : _} (refuses : ℕ → Type 0) (all_bytes 
     (result : Result (Option (Vec ℕ Global)) Unread) → section ≡ Some reader → GivesOption all_bytes fails_with fails section content
     → ((c : Content) → Gives all_bytes fails_with fails reader c
     → IfOk result (λ held. option_map (λ v. v.items) held ≡ bytes_had STRINGS_LIMIT c))
-    → IfErr result (IsUnread refuses (ContentFails all_bytes fails_with reader))
-    → MatchResult result (λ held. IsHadWhere (IsTrue wanted) content (option_map (λ v. v.items) held)) (IsUnread refuses fails)
-had_where_read refuses all_bytes fails_with fails wanted section reader content (Err why) is gives had unread =
-    unread_only refuses (ContentFails all_bytes fails_with reader) fails why
-    (option_only all_bytes fails_with fails section reader content is gives) unread
+    → ((c : Content) → Gives all_bytes fails_with fails reader c → IfErr result (IsUnread refuses (length (bytes_of c)) fails))
+    → MatchResult result (λ held. IsHadWhere (IsTrue wanted) content (option_map (λ v. v.items) held))
+    (IsUnread refuses (section_size content) fails)
+had_where_read {S = S} {g = g} refuses all_bytes fails_with fails wanted section reader content (Err why) is gives had unread =
+    by content (subst (λ (o : Option (ContentReader S g)). GivesOption all_bytes fails_with fails o content) is gives)
+  where
+    by : (content : Option Content) → GivesOption all_bytes fails_with fails (Some reader) content
+        → IsUnread refuses (section_size content) fails why
+    by None gives = absurd gives
+    by (Some c) gives = unread c gives
 had_where_read refuses all_bytes fails_with fails wanted section reader content (Ok held) is gives had unread =
     had_where all_bytes fails_with fails wanted section reader content (option_map (λ v. v.items) held) is gives had
 
@@ -92,6 +98,18 @@ had_where_read refuses all_bytes fails_with fails wanted section reader content 
 pub had_for : (Wanted Other : Type 0) (content : Option Content) (held : Option (List ℕ)) → (Other → Wanted)
     → IsHadWhere Wanted content held → IsHadWhere Other content held
 had_for Wanted Other content held so is = λ other. is (so other)
+
+-- the bytes of one that can be had are all that it has
+within_size : (limit : ℕ) (bytes b : List ℕ) → within limit bytes ≡ Some b → length b ≡ length bytes
+within_size limit bytes b is = by (nat_le (length bytes) limit) is where
+  by : (t : Bool) → (if t then Some bytes else None) ≡ Some b → length b ≡ length bytes
+  by true is = let same : bytes ≡ b = cc is in ap (λ (l : List ℕ). length l) (sym same)
+  by false is = absurd (cc is)
+
+pub had_size : (limit : ℕ) (c : Content) (b : List ℕ) → bytes_had limit c ≡ Some b → length b ≡ length (bytes_of c)
+had_size limit (Plain bytes) b is = within_size limit bytes b is
+had_size limit (Inflated name bytes None) b is = within_size limit bytes b is
+had_size limit (Inflated name bytes (Some at)) b is = absurd (cc is)
 
 -- ---- texts
 
@@ -171,12 +189,13 @@ with_both t order a b own n ordered abbreviations info held =
 
 -- the places are found by the abbreviations that can be had
 pub through : (refuses : ℕ → Type 0) (order : Order) (held : List ℕ) (a i : Content) (result : Result (Option Places) Unread)
-    (Fails fails : Error → Type 0) → Some held ≡ bytes_had STRINGS_LIMIT a → IfOk result (ArePlaces order held i)
-    → IfErr result (IsUnread refuses Fails) → FailsOnly Fails fails
-    → MatchResult result (AreFound order a i) (IsUnread refuses fails)
-through refuses order held a i (Ok places) Fails fails had are unread only =
+    (fails : Error → Type 0) → Some held ≡ bytes_had STRINGS_LIMIT a → IfOk result (ArePlaces order held i)
+    → IfErr result (IsUnread refuses (length (bytes_of i)) fails)
+    → MatchResult result (AreFound order a i) (IsUnread refuses (length (bytes_of a) + length (bytes_of i)) fails)
+through refuses order held a i (Ok places) fails had are unread =
     subst (λ (o : Option (List ℕ)). MatchOption o (◌≡◌ {A = Option Places} places None) (λ x. ArePlaces order x i places)) had are
-through refuses order held a i (Err why) Fails fails had are unread only = unread_only refuses Fails fails why only unread
+through refuses order held a i (Err why) fails had are unread =
+    unread_more refuses (length (bytes_of i)) (length (bytes_of a) + length (bytes_of i)) fails why (omega arith) unread
 
 pub none_had : (order : Order) (a i : Content) → None ≡ bytes_had STRINGS_LIMIT a → AreFound order a i None
 none_had order a i had =
@@ -212,22 +231,14 @@ some_found t order (Some own) places held f is found ordered had directories =
         let are = subst (λ (p : Places). AreOf p order a b) one own_are in
         λ n. directories a b are n ∙ with_both t order a b held n ordered (sym with_some) info (had a b are)
 
--- a file that was opened has units
+-- a file that was opened has these units
 pub has_units : {S : Type 0} {g : _} (all_bytes : S → Option (List ℕ)) (fails_with : S → Error → Type 0)
     (fails : Error → Type 0) (bytes : List ℕ) (opened : Option (InfoFile S g))
     (file : InfoFile S g) → opened ≡ Some file
-    → (t : Option InfoTable) × HasInfo bytes t × GivesInfoOption all_bytes fails_with fails opened t → HasUnits bytes
+    → (t : Option InfoTable) × HasInfo bytes t × GivesInfoOption all_bytes fails_with fails opened t
+    → (t : InfoTable) × HasInfo bytes (Some t) × GivesInfo all_bytes fails_with fails file t
 has_units all_bytes fails_with fails bytes None file is given = absurd (cc is)
 has_units all_bytes fails_with fails bytes (Some other) file is (None, has, gives) = absurd gives
-has_units all_bytes fails_with fails bytes (Some other) file is (Some t, has, gives) = (t, has)
-
--- and gives them
-pub units_given : {S : Type 0} {g : _} (all_bytes : S → Option (List ℕ)) (fails_with : S → Error → Type 0)
-    (fails : Error → Type 0) (bytes : List ℕ) (opened : Option (InfoFile S g))
-    (file : InfoFile S g) → opened ≡ Some file
-    → (t : Option InfoTable) × HasInfo bytes t × GivesInfoOption all_bytes fails_with fails opened t
-    → (t : InfoTable) × GivesInfo all_bytes fails_with fails file t
-units_given all_bytes fails_with fails bytes None file is given = absurd (cc is)
-units_given all_bytes fails_with fails bytes (Some other) file is (None, has, gives) = absurd gives
-units_given {S} {g} all_bytes fails_with fails bytes (Some other) file is (Some t, has, gives) =
-    let same : other ≡ file = cc is in (t, subst (λ (o : InfoFile S g). GivesInfo all_bytes fails_with fails o t) same gives)
+has_units {S} {g} all_bytes fails_with fails bytes (Some other) file is (Some t, has, gives) =
+    let same : other ≡ file = cc is in
+    (t, has, subst (λ (o : InfoFile S g). GivesInfo all_bytes fails_with fails o t) same gives)

@@ -17,6 +17,6 @@ pub any_file : (refuses : ℕ → Type 0) (limit : ℕ) (bytes : List ℕ) (Ende
 any_file refuses limit bytes Ended (Ok found) (is, short, ended) =
     (subst (λ (l : List ℕ). length l ≤ limit) (sym is) short, tt)
 any_file refuses limit bytes Ended (Err fault.Read) stops = any_fails
-any_file refuses limit bytes Ended (Err fault.NoMemory) stops = (length bytes, stops.1)
+any_file refuses limit bytes Ended (Err fault.NoMemory) stops = (length bytes, stops.0, stops.1)
 any_file refuses limit bytes Ended (Err fault.SectionTooLong) stops = tt
 any_file refuses limit bytes Ended (Err other) stops = absurd stops

@@ -212,7 +212,11 @@ content_whole all_bytes fails_with fails old new (Inflated name bytes damage) gi
 pub stops_known : (refuses : ℕ → Type 0) (limit : ℕ) (known left : Option (List ℕ)) (bs : List ℕ) (f : RunFault)
     → Consumes known left bs → StopsReading refuses limit bs f → FileStops (Unit {0}) refuses known limit f
 stops_known refuses limit known left bs fault.Read consumes stops = tt
-stops_known refuses limit known left bs fault.NoMemory consumes stops = (length bs, stops.1)
+stops_known refuses limit None left bs fault.NoMemory consumes stops = (length bs, stops.0, stops.1)
+stops_known refuses limit (Some xs) None bs fault.NoMemory consumes stops = absurd consumes
+stops_known refuses limit (Some xs) (Some ys) bs fault.NoMemory consumes stops =
+    let size : length xs ≡ length bs + length ys = ap (λ l. length l) consumes ∙ length-append bs ys in
+    (length bs, omega (arith, size, stops.0), stops.1)
 stops_known refuses limit None left bs fault.SectionTooLong consumes stops = tt
 stops_known refuses limit (Some xs) None bs fault.SectionTooLong consumes stops = absurd consumes
 stops_known refuses limit (Some xs) (Some ys) bs fault.SectionTooLong consumes stops =

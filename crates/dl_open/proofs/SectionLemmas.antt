@@ -17,6 +17,7 @@ use Rattle.dl_file.specs.declared.read_fault.ReadFault.{ReadFault}
 use Rattle.dl_file.specs.declared.read_fault.ReadFault.TheVariants.{DamagedStream}
 use Rattle.dl_file.proofs.DamageLemmas.{plain_damage}
 use Rattle.dl_open.specs.Directories.{bytes_had, within}
+use Rattle.dl_open.specs.Tables.{bytes_of}
 use Rattle.dl_open.specs.Pieces.{IsDamaged, IsPiece, IsRead, IsWhole}
 use Rattle.dl_open.specs.declared.section.Piece.{Piece}
 use Rattle.dl_open.specs.declared.section.Piece.TheVariants.{Bytes, End, Lost}
@@ -133,6 +134,16 @@ taken damage first now new limit room left bs (Bytes own) {p = p} is consumes al
       omega (arith, length-append bs own.now, size, all),
       omega (arith, some, size),
     )
+
+-- no more bytes were taken than the section has
+pub taken_few : {S : Type 0} {g : _} (all_bytes : S → Option (List ℕ)) (fails_with : S → Error → Type 0)
+    (fails : Error → Type 0) (reader : LineReader S g) (c : Content) (new : Option (List ℕ)) (bs : List ℕ)
+    → GivesLine all_bytes fails_with fails reader c → Consumes (line_remaining all_bytes reader) new bs
+    → length bs ≤ length (bytes_of c)
+taken_few all_bytes fails_with fails reader (Plain bytes) new bs gives consumes =
+    let known = known_more _ new bytes bs gives.0 consumes in omega (arith, ap length known.1, length-append bs known.0)
+taken_few all_bytes fails_with fails reader (Inflated name bytes damage) new bs gives consumes =
+    let known = known_more _ new bytes bs gives.0 consumes in omega (arith, ap length known.1, length-append bs known.0)
 
 -- it has ended
 pub had_all : {S : Type 0} {g : _} (all_bytes : S → Option (List ℕ)) (fails_with : S → Error → Type 0)

@@ -6,8 +6,8 @@ use Rattle.std.specs.List.{list_any}
 use Rattle.std.specs.Option.{option_map_or}
 use Rattle.std.specs.declared.io.Error.{Error}
 use Rattle.dl_elf.specs.declared.fault.ElfFault.TheVariants.{Read}
-use Rattle.dl_memory.specs.Refusals.{WasRefused}
-use Rattle.dl_file.specs.Code.{IsCode}
+use Rattle.dl_memory.specs.Refusals.{IsRefused}
+use Rattle.dl_file.specs.Code.{IsCode, RangesRefused}
 use Rattle.dl_file.specs.declared.code.Code.{Code}
 use Rattle.dl_file.specs.declared.code.CodeFault.TheVariants as code_fault
 use Rattle.dl_file.specs.declared.code.ExecutableRange.{ExecutableRange}
@@ -32,12 +32,13 @@ live_by all code a =
 abbrev pub AreLive : Option CodeRanges → Code → Type 0
 AreLive ranges code = (a : ℕ) → option_map_or (λ (r : CodeRanges). has_code r a) ranges true ≡ live_by false code a
 
--- why it can't be told where the file has code. refuses: for how many items memory is refused
+-- why it can't be told where the file has code: also that memory was refused for its ranges. refuses: for how many items
+-- memory is refused
 abbrev pub RefusesCode : (refuses : ℕ → Type 0) (fails : Error → Type 0) (f : List ℕ) → FileFault → Type 0
 RefusesCode refuses fails f (Open error) = fails error
 RefusesCode refuses fails f (Elf (Read error)) = fails error
 RefusesCode refuses fails f (Elf other) = IsCode f (Err (code_fault.Elf other))
 RefusesCode refuses fails f NoMemory =
-    WasRefused refuses
-    × (IsCode f (Err code_fault.NoMemory) ⊎ ((code : Code) × IsCode f (Ok code) × (code.ranges.items ≢ [])))
+    (IsCode f (Err code_fault.NoMemory) × RangesRefused refuses f)
+    ⊎ ((code : Code) × IsCode f (Ok code) × (code.ranges.items ≢ []) × IsRefused refuses (length code.ranges.items))
 RefusesCode refuses fails f other = ⊥

@@ -1,16 +1,18 @@
 -- The directories in which the units of a file were compiled. f: the bytes of the file; g: the directory of the line table at
 -- an offset, where it is known. DWARF 5, section 3.1.1.
-use Rattle.std.specs.Prelude.{◌≡◌, ◌⊎◌, ℕ, if◌then◌else◌, nat_le, List, length, Option, Some, None, option_and_then}
+use Rattle.std.specs.Prelude.{◌≡◌, ◌⊎◌, ℕ, ◌+◌, ◌^◌, if◌then◌else◌, nat_le, List, length, Option, Some, None, option_and_then}
+use Rattle.std.specs.Option.{option_map_or}
 use Rattle.std.specs.declared.io.Error.{Error}
 use Rattle.dl_elf.specs.declared.fault.ElfFault.{ElfFault}
 use Rattle.dl_elf.specs.declared.fault.ElfFault.TheVariants.{Read, NoMemory}
-use Rattle.dl_memory.specs.Refusals.{WasRefused}
+use Rattle.dl_memory.specs.Refusals.{IsRefused}
 use Rattle.dl_dirs.specs.Texts.{TextsData}
 use Rattle.dl_dirs.specs.Units.{directory}
 use Rattle.dl_file.specs.InfoTable.{HasInfo, InfoTable, InfoTooLong, TakesInfoMemory}
 use Rattle.dl_file.specs.LineTable.{Content, Inflated, Plain}
 use Rattle.dl_run.specs.declared.options.TheConstants.{SECTION_LIMIT}
 use Rattle.dl_open.specs.declared.strings.TheConstants.{STRINGS_LIMIT}
+use Rattle.dl_open.specs.Tables.{bytes_of}
 
 -- ---- the bytes of a section, where they can be had: its stream isn't damaged, and there are no more than the limit
 
@@ -44,12 +46,22 @@ AreDirectories f g = (t : Option InfoTable) × HasInfo f t × ((n : ℕ) → g n
 
 -- ---- why they aren't known. fails: the errors that reading the file may give; refuses: for how many items memory is refused
 
--- the file has such units
-abbrev pub HasUnits : List ℕ → Type 0
-HasUnits f = (t : InfoTable) × HasInfo f (Some t)
+-- how many bytes a section has, of those that a file may lack
+abbrev pub section_size : Option Content → ℕ
+section_size section = option_map_or (λ content. length (bytes_of content)) section 0
 
--- a read failed, or memory was refused: for a stream or for relocations, or for what is kept of the units
+-- and those of texts have, and all by which directories are known
+abbrev pub texts_size : InfoTable → ℕ
+texts_size t = section_size t.str_offsets + section_size t.str + section_size t.line_str
+
+abbrev pub info_size : InfoTable → ℕ
+info_size t = length (bytes_of t.abbreviations) + length (bytes_of t.info) + texts_size t
+
+-- a read failed, or memory was refused: for streams, for bytes with relocations, or for what is kept of the units that the
+-- file has
 abbrev pub RefusesDirectories : (refuses : ℕ → Type 0) (fails : Error → Type 0) (f : List ℕ) → ElfFault → Type 0
 RefusesDirectories refuses fails f (Read error) = fails error
-RefusesDirectories refuses fails f NoMemory = (WasRefused refuses ⊎ InfoTooLong f) × (TakesInfoMemory f ⊎ HasUnits f)
+RefusesDirectories refuses fails f NoMemory =
+    (TakesInfoMemory f × (IsRefused refuses (length f + 2 ^ 32) ⊎ InfoTooLong f))
+    ⊎ ((t : InfoTable) × HasInfo f (Some t) × IsRefused refuses (info_size t))
 RefusesDirectories refuses fails f other = ⊥

@@ -1,8 +1,8 @@
 -- The string sections in the files of `--line-str` and `--str`. held: what the file of a path holds, where that is
 -- known; fails: the errors that opening and reading it may give. refuses: for how many items memory is refused.
-use Rattle.std.specs.Prelude.{◌≡◌, ◌⊎◌, ◌<◌, ◌≤◌, ℕ, List, length, Option, Some, None, IfSome}
+use Rattle.std.specs.Prelude.{◌≡◌, ◌⊎◌, ◌<◌, ◌≤◌, ℕ, min, List, length, Option, Some, None, IfSome}
 use Rattle.std.specs.declared.io.Error.{Error}
-use Rattle.dl_memory.specs.Refusals.{WasRefused}
+use Rattle.dl_memory.specs.Refusals.{IsRefused}
 use Rattle.dl_open.specs.declared.strings.TheConstants.{STRINGS_LIMIT}
 use Rattle.dl_run.specs.declared.fault.RunFault.{RunFault}
 use Rattle.dl_run.specs.declared.fault.RunFault.TheVariants as fault
@@ -16,10 +16,15 @@ FileHolds known limit found = (length found ≤ limit) × IfSome known (λ bytes
 abbrev pub MayFail : (fails : Error → Type 0) → Type 0
 MayFail fails = (error : Error) × fails error
 
--- a file couldn't be opened or read, which fails so; or memory was refused, or it goes past the limit
+-- how many bytes of a file are read at most
+abbrev pub most_read : (known : Option (List ℕ)) (limit : ℕ) → ℕ
+most_read None limit = limit
+most_read (Some bytes) limit = min limit (length bytes)
+
+-- a file couldn't be opened or read, which fails so; or memory was refused for its bytes, or it goes past the limit
 abbrev pub FileStops : (Fails : Type 0) (refuses : ℕ → Type 0) (known : Option (List ℕ)) (limit : ℕ) → RunFault → Type 0
 FileStops Fails refuses known limit fault.Read = Fails
-FileStops Fails refuses known limit fault.NoMemory = WasRefused refuses
+FileStops Fails refuses known limit fault.NoMemory = IsRefused refuses (most_read known limit)
 FileStops Fails refuses known limit fault.SectionTooLong = IfSome known (λ bytes. limit < length bytes)
 FileStops Fails refuses known limit other = ⊥
 

@@ -4,7 +4,7 @@
 use Rattle.std.specs.Prelude.{◌≡◌, ◌≢◌, ◌⊎◌, ℕ, ◌+◌, ◌<◌, ◌≤◌, List, [], length, take, Option, Some, None, IfSome}
 use Rattle.std.specs.Io.KnownBytes.{Consumes, IsAtEnd}
 use Rattle.std.specs.declared.io.Error.{Error}
-use Rattle.dl_memory.specs.Refusals.{WasRefused}
+use Rattle.dl_memory.specs.Refusals.{IsRefused}
 use Rattle.dl_open.specs.declared.section.Unread.{Unread}
 use Rattle.dl_open.specs.declared.section.Unread.TheVariants.{Read, NoMemory}
 use Rattle.dl_open.specs.declared.section.Piece.{Piece}
@@ -23,10 +23,10 @@ IsRead damage old new buffer None = IsDamaged damage
 IsRead damage old new buffer (Some n) = (n ≤ length buffer) × Consumes old new (take n buffer)
     × (n ≡ 0 → 0 < length buffer → IsAtEnd new × IsWhole damage)
 
--- why it isn't read to its end: a read failed with such an error, or memory was refused
-abbrev pub IsUnread : (refuses : ℕ → Type 0) (fails : Error → Type 0) → Unread → Type 0
-IsUnread refuses fails (Read error) = fails error
-IsUnread refuses fails NoMemory = WasRefused refuses
+-- why it isn't read to its end: a read failed with such an error, or memory was refused for no more items than these
+abbrev pub IsUnread : (refuses : ℕ → Type 0) (most : ℕ) (fails : Error → Type 0) → Unread → Type 0
+IsUnread refuses most fails (Read error) = fails error
+IsUnread refuses most fails NoMemory = IsRefused refuses most
 
 -- a read failed with such an error
 abbrev pub IsReadError : (fails : Error → Type 0) → Unread → Type 0

@@ -1,6 +1,6 @@
 -- The line table of an ELF file as commands look into it. f: the bytes of the file; t: its line table as dl_file defines
 -- it.
-use Rattle.std.specs.Prelude.{⊤, ◌≡◌, ◌⊎◌, ◌↔◌, ◌<◌, ◌≤◌, ℕ, Bool, true, false, IsTrue, if◌then◌else◌, List, length}
+use Rattle.std.specs.Prelude.{⊤, ◌≡◌, ◌⊎◌, ◌↔◌, ◌+◌, ◌^◌, ◌<◌, ◌≤◌, ℕ, Bool, true, false, IsTrue, if◌then◌else◌, List, length}
 use Rattle.std.specs.Prelude.{Option, Some, None, option_map, IfSome, Ok, Err}
 use Rattle.std.specs.declared.io.Error.{Error}
 use Rattle.dl_file.specs.declared.line_file.Wanted.{Wanted}
@@ -17,7 +17,7 @@ use Rattle.dl_head.specs.declared.dialect.Dialect.{Dialect}
 use Rattle.dl_head.specs.declared.dialect.Older.{Older}
 use Rattle.dl_head.specs.declared.dialect.Older.TheVariants as older
 use Rattle.dl_forms.specs.Names.{RefusesCellFrom, Names}
-use Rattle.dl_memory.specs.Refusals.{IsRefused, WasRefused}
+use Rattle.dl_memory.specs.Refusals.{IsRefused}
 use Rattle.dl_object.specs.Kept.{Rises}
 use Rattle.dl_object.specs.Section.{Keeps, WantsCell}
 use Rattle.dl_run.specs.declared.options.TheConstants.{SECTION_LIMIT}
@@ -114,11 +114,12 @@ KeepingStops refuses fails path dialect part content stop =
 
 -- ---- the file. fails: the errors that opening and reading it may give; refuses: for how many items memory is refused
 
--- why its line table can't be had; memory is refused only for a line section with relocations, and for streams
+-- why its line table can't be had; memory is refused only for a line section with relocations, of which no more than 2^32
+-- bytes are held, and for streams
 abbrev pub Refuses : (refuses : ℕ → Type 0) (fails : Error → Type 0) (f : List ℕ) → Wanted → FileFault → Type 0
 Refuses refuses fails f wanted (Open error) = fails error
 Refuses refuses fails f wanted (Elf (Read error)) = fails error
-Refuses refuses fails f wanted (Elf NoMemory) = TakesMemory f wanted × (WasRefused refuses ⊎ LineTooLong f wanted)
+Refuses refuses fails f wanted (Elf NoMemory) = TakesMemory f wanted × (IsRefused refuses (length f + 2 ^ 32) ⊎ LineTooLong f wanted)
 Refuses refuses fails f wanted (Elf fault) = HasLineTable f wanted (Err fault)
 Refuses refuses fails f wanted other = ⊥
 

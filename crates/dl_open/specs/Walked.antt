@@ -1,11 +1,11 @@
 -- What was read of the units of .debug_info and of their texts. No promise rests on how this is said.
-use Rattle.std.specs.Prelude.{◌≡◌, ℕ, List, Option, Some, None, MatchOption}
+use Rattle.std.specs.Prelude.{◌≡◌, ℕ, List, length, Option, Some, None, MatchOption}
 use Rattle.std.specs.Option.{option_and_then}
 use Rattle.dl_num.specs.declared.fixed.Order.{Order}
 use Rattle.dl_dirs.specs.declared.places.Places.{Places}
 use Rattle.dl_dirs.specs.declared.walk.Walk.{Walk}
 use Rattle.dl_dirs.specs.Holding.{AreOf}
-use Rattle.dl_dirs.specs.Standing.{StandsFor}
+use Rattle.dl_dirs.specs.Standing.{Keeps, StandsFor}
 use Rattle.dl_dirs.specs.Texts.{TextsData}
 use Rattle.dl_dirs.specs.Units.{entries, has_index, has_line_str, has_str, Stands}
 use Rattle.dl_file.specs.LineTable.{Content}
@@ -14,10 +14,11 @@ use Rattle.dl_run.specs.declared.options.TheConstants.{SECTION_LIMIT}
 use Rattle.dl_open.specs.declared.strings.TheConstants.{STRINGS_LIMIT}
 use Rattle.dl_open.specs.Directories.{bytes_had}
 
--- the walk has taken all bytes of .debug_info; none, where they can't be had
+-- the walk has taken all bytes of .debug_info, and keeps no more than these; none, where they can't be had
 abbrev pub IsWalked : Order → (abbreviations : List ℕ) → Content → Option Walk → Type 0
 IsWalked order abbreviations info walk = MatchOption walk (bytes_had SECTION_LIMIT info ≡ None)
-    (λ walk. (b : List ℕ) × (bytes_had SECTION_LIMIT info ≡ Some b) × StandsFor walk order abbreviations b)
+    (λ walk. (b : List ℕ) × (bytes_had SECTION_LIMIT info ≡ Some b) × StandsFor walk order abbreviations b
+    × Keeps walk (length b))
 
 -- these are the places of the directories that they say
 abbrev pub ArePlaces : Order → (abbreviations : List ℕ) → Content → Option Places → Type 0

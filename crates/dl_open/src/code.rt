@@ -1,10 +1,10 @@
 //! Where the code of an ELF file is, for the look-up.
-ghost use Rattle.std.specs.Prelude.{◌≡◌, ◌≢◌, [], ℕ, IfErr, IfOk, MatchResult, Ok, map};
+ghost use Rattle.std.specs.Prelude.{◌≡◌, ◌≢◌, [], ℕ, IfErr, IfOk, MatchResult, Ok, length, map};
 ghost use Rattle.std.specs.List.{list_any};
 ghost use Rattle.dl_file.specs.Code.{IsCode};
 ghost use Rattle.dl_elf.specs.Source.{ForBytes};
 ghost use Rattle.dl_file.specs.declared.code.Code as file_code;
-ghost use Rattle.dl_memory.specs.Refusals.{WasRefused};
+ghost use Rattle.dl_memory.specs.Refusals.{IsRefused};
 ghost use Rattle.dl_look.specs.CodeRanges.{has_code};
 ghost use Rattle.dl_look.specs.Ranges.{is_in};
 ghost use Rattle.dl_open.specs.declared.fault.FileFault.TheVariants.{NoMemory};
@@ -22,7 +22,7 @@ fn address_ranges<M: Memory>(
     ranges: &[ExecutableRange],
 ) -> Result<Vec<AddressRange>, FileFault>
     ensures ranges { IfOk result (λ addresses. addresses.items ≡ map address_range ranges.now) }
-    ensures memory { IfErr result (λ fault. (fault ≡ NoMemory) × WasRefused (M.refuses memory.now)) }
+    ensures memory { IfErr result (λ fault. (fault ≡ NoMemory) × IsRefused (M.refuses memory.now) (length ranges.now)) }
 {
     let mut addresses = Vec::new(memory.alloc());
     for range in ranges {
@@ -40,7 +40,7 @@ fn address_ranges<M: Memory>(
 /// Where these ranges are, for the look-up.
 fn ranges_of<M: Memory>(memory: &M, ranges: &[ExecutableRange]) -> Result<CodeRanges, FileFault>
     ensures has { IfOk result (λ code. (a : ℕ) → has_code code a ≡ list_any (is_in a) (map address_range ranges.now)) }
-    ensures memory { IfErr result (λ fault. (fault ≡ NoMemory) × WasRefused (M.refuses memory.now)) }
+    ensures memory { IfErr result (λ fault. (fault ≡ NoMemory) × IsRefused (M.refuses memory.now) (length ranges.now)) }
 {
     let addresses = address_ranges(memory, ranges)?;
     match CodeRanges::build(memory, addresses.as_slice()) {
@@ -52,7 +52,8 @@ fn ranges_of<M: Memory>(memory: &M, ranges: &[ExecutableRange]) -> Result<CodeRa
 /// The ranges in which sequences are live: those of the code, where the file is linked and has any.
 fn live_ranges<M: Memory>(memory: &M, code: &Code) -> Result<Option<CodeRanges>, FileFault>
     ensures live { IfOk result (λ ranges. AreLive ranges code.now) }
-    ensures memory { IfErr result (λ fault. (fault ≡ NoMemory) × (code.now.ranges.items ≢ []) × WasRefused (M.refuses memory.now)) }
+    ensures memory { IfErr result (λ fault. (fault ≡ NoMemory) × (code.now.ranges.items ≢ [])
+        × IsRefused (M.refuses memory.now) (length code.now.ranges.items)) }
 {
     if !code.is_linked || code.ranges.is_empty() {
         return Ok(None);

@@ -1,5 +1,5 @@
 //! The directories in which the units of a file were compiled, as its `.debug_info` says them. DWARF 5, section 3.1.1.
-ghost use Rattle.std.specs.Prelude.{◌≡◌, ℕ, List, Option, IfErr, IfOk, IsTrue, MatchResult};
+ghost use Rattle.std.specs.Prelude.{◌≡◌, ◌+◌, ℕ, List, Option, IfErr, IfOk, IsTrue, MatchResult, length};
 ghost use Rattle.std.specs.Option.{option_map};
 ghost use Rattle.dl_elf.specs.Source.{ForBytes};
 ghost use Rattle.dl_dirs.specs.Directories.{directory_at};
@@ -8,8 +8,8 @@ ghost use Rattle.dl_dirs.specs.Texts.{texts_of};
 ghost use Rattle.dl_num.specs.declared.fixed.Order.{Order};
 ghost use Rattle.dl_file.specs.InfoTable.{GivesInfo, InfoTable};
 ghost use Rattle.dl_file.specs.LineTable.{Content, Gives, GivesLine, GivesOption};
-ghost use Rattle.dl_open.specs.Directories.{AreDirectories, RefusesDirectories, said_in};
-ghost use Rattle.dl_file.specs.LineReader.{LineReaderFails};
+ghost use Rattle.dl_open.specs.Directories.{AreDirectories, RefusesDirectories, info_size, said_in, section_size, texts_size};
+ghost use Rattle.dl_open.specs.Tables.{bytes_of};
 ghost use Rattle.dl_open.specs.Pieces.{IsUnread};
 ghost use Rattle.dl_open.specs.Walked.{AreFound, AreHad, ArePlaces, IsHadWhere, IsWalked};
 
@@ -29,7 +29,8 @@ fn whole_where<M: Memory, S: ReadAt>(
 ) -> Result<Option<Vec<u8>>, Unread>
     ensures { (source : _) (content : Option Content)
         → GivesOption S.all_bytes S.fails_with (S.fails_with source) section.entry content → MatchResult result
-        (λ held. IsHadWhere (IsTrue wanted) content (option_map (λ v. v.items) held)) (IsUnread (M.refuses memory.now) (S.fails_with source)) }
+        (λ held. IsHadWhere (IsTrue wanted) content (option_map (λ v. v.items) held))
+        (IsUnread (M.refuses memory.now) (section_size content) (S.fails_with source)) }
 {
     if !wanted {
         return Ok(None);
@@ -49,7 +50,8 @@ fn walk_over<'a, M: Memory, S: ReadAt>(
 ) -> Result<Option<Walk<'a>>, Unread>
     ensures walked { (source : _) (content : Content) → GivesLine S.all_bytes S.fails_with (S.fails_with source) info.old content
         → IfOk result (IsWalked order abbreviations.entry.now content) }
-    ensures fails { IfErr result (IsUnread (M.refuses memory.now) (LineReaderFails S.all_bytes S.fails_with info.old)) }
+    ensures fails { (source : _) (content : Content) → GivesLine S.all_bytes S.fails_with (S.fails_with source) info.old content
+        → IfErr result (IsUnread (M.refuses memory.now) (length (bytes_of content)) (S.fails_with source)) }
 {
     let mut left = SECTION_LIMIT;
     let mut buffer = [0; PIECE];
@@ -77,7 +79,8 @@ fn walk_through<M: Memory, S: ReadAt>(
 ) -> Result<Option<Places>, Unread>
     ensures places { (source : _) (content : Content) → GivesLine S.all_bytes S.fails_with (S.fails_with source) info.old content
         → IfOk result (ArePlaces order abbreviations.now content) }
-    ensures fails { IfErr result (IsUnread (M.refuses memory.now) (LineReaderFails S.all_bytes S.fails_with info.old)) }
+    ensures fails { (source : _) (content : Content) → GivesLine S.all_bytes S.fails_with (S.fails_with source) info.old content
+        → IfErr result (IsUnread (M.refuses memory.now) (length (bytes_of content)) (S.fails_with source)) }
 {
     let Some(walk) = walk_over(memory, order, abbreviations, info)? else {
         return Ok(None);
@@ -97,7 +100,8 @@ fn places_of<M: Memory, S: ReadAt>(
 ) -> Result<Option<Places>, Unread>
     ensures { (source : _) (a i : Content) → Gives S.all_bytes S.fails_with (S.fails_with source) abbreviations.entry a
         → GivesLine S.all_bytes S.fails_with (S.fails_with source) info.old i
-        → MatchResult result (AreFound order a i) (IsUnread (M.refuses memory.now) (S.fails_with source)) }
+        → MatchResult result (AreFound order a i)
+        (IsUnread (M.refuses memory.now) (length (bytes_of a) + length (bytes_of i)) (S.fails_with source)) }
 {
     match whole(memory, &mut LineReader::File(abbreviations))? {
         Some(abbreviations) => walk_through(memory, order, &abbreviations, info),
@@ -119,7 +123,8 @@ fn texts_for<M: Memory, S: ReadAt>(
         → GivesOption S.all_bytes S.fails_with (S.fails_with source) debug_str.entry t.str
         → GivesOption S.all_bytes S.fails_with (S.fails_with source) debug_line_str.entry t.line_str
         → MatchResult result (λ texts. (order : Order) (abbreviations b : List ℕ)
-        → AreOf places.now order abbreviations b → AreHad order abbreviations b t (texts_of texts)) (IsUnread (M.refuses memory.now) (S.fails_with source)) }
+        → AreOf places.now order abbreviations b → AreHad order abbreviations b t (texts_of texts))
+        (IsUnread (M.refuses memory.now) (texts_size t) (S.fails_with source)) }
 {
     Ok(Texts {
         str_offsets: whole_where(memory, places.wants_str_offsets(), str_offsets)?,
@@ -134,7 +139,8 @@ fn read_directories<M: Memory, S: ReadAt>(
     file: InfoFile<'_, S>,
 ) -> Result<Directories, Unread>
     ensures { (source : _) (t : InfoTable) → GivesInfo S.all_bytes S.fails_with (S.fails_with source) file.entry t
-        → MatchResult result (λ d. (n : ℕ) → directory_at d n ≡ said_in t n) (IsUnread (M.refuses memory.now) (S.fails_with source)) }
+        → MatchResult result (λ d. (n : ℕ) → directory_at d n ≡ said_in t n)
+        (IsUnread (M.refuses memory.now) (info_size t) (S.fails_with source)) }
 {
     let InfoFile {
         order,

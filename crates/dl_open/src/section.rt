@@ -5,6 +5,7 @@ ghost use Rattle.dl_file.specs.Faults.{FailsOnly};
 ghost use Rattle.dl_file.specs.LineReader.{LineReaderFails, line_damage, line_remaining};
 ghost use Rattle.dl_file.specs.LineTable.{Content, GivesLine};
 ghost use Rattle.dl_open.specs.Directories.{bytes_had};
+ghost use Rattle.dl_open.specs.Tables.{bytes_of};
 ghost use Rattle.dl_open.specs.Pieces.{IsPiece, IsRead, IsReadError, IsUnread};
 
 use crate::strings::STRINGS_LIMIT;
@@ -120,7 +121,8 @@ pub(crate) fn whole<M: Memory, S: ReadAt>(
 ) -> Result<Option<Vec<u8>>, Unread>
     ensures bytes { (source : _) (content : Content) → GivesLine S.all_bytes S.fails_with (S.fails_with source) section.old content
         → IfOk result (λ held. option_map (λ v. v.items) held ≡ bytes_had STRINGS_LIMIT content) }
-    ensures fails { IfErr result (IsUnread (M.refuses memory.now) (LineReaderFails S.all_bytes S.fails_with section.old)) }
+    ensures fails { (source : _) (content : Content) → GivesLine S.all_bytes S.fails_with (S.fails_with source) section.old content
+        → IfErr result (IsUnread (M.refuses memory.now) (length (bytes_of content)) (S.fails_with source)) }
 {
     let mut left = STRINGS_LIMIT;
     let mut buffer = [0; PIECE];

@@ -11,7 +11,7 @@ returns-in-Err g c f known short =
     inl (
       Elf fault,
       refuses {S = g.row.S.Denot} (g.M.Memory.refuses c.args.memory.now) g.S.ReadAt.all_bytes g.S.ReadAt.fails_with (g.S.ReadAt.fails_with c.args.file.now) f LineSection
-          opened.result fault c.in-Err.is (opened.ensures.opens f known short) opened.ensures.read (opened.ensures.refused f known short),
+          opened.result fault c.in-Err.is (opened.ensures.opens f known short) opened.ensures.read (opened.ensures.most f known short),
       refl,
     )
     )

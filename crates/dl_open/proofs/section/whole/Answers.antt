@@ -1,6 +1,8 @@
-use Rattle.std.proofs.Common.{◌+◌, List, ℕ, ap, length, subst, sym, ◌∙◌}
+use Rattle.std.proofs.Common.{◌+◌, ◌++◌, List, ℕ, ap, arith, length, length-append, subst, sym, ◌∙◌}
 use Rattle.std.specs.Io.KnownBytes.{Consumes}
-use Rattle.dl_open.proofs.SectionLemmas.{had_all, lost, taken}
+use Rattle.std.proofs.lemmas.Result.{err_from_is_err_and}
+use Rattle.dl_open.proofs.DirectoriesLemmas.{line_only, read_unread}
+use Rattle.dl_open.proofs.SectionLemmas.{had_all, lost, taken, taken_few}
 use Rattle.dl_open.proofs.section.whole.Goals as goal
 
 pub loop-bytes-preserved : goal.loop-bytes-preserved
@@ -28,3 +30,21 @@ returns-in-Lost-clause-bytes g c source content gives =
     lost {S = g.row.S.Denot} g.S.ReadAt.all_bytes g.S.ReadAt.fails_with fails c.args.section.now c.loop-bytes.section c.next_piece.new.section
     content _ _ _ c.loop-bytes.bytes.items c.in_ok-piece.field-0 c.in-Lost.is gives c.loop-bytes.invariant.read
     c.loop-bytes.invariant.room c.loop-bytes.invariant.damage c.in_ok-piece.ensures.piece
+
+pub returns-in_default-clause-fails : goal.returns-in_default-clause-fails
+returns-in_default-clause-fails g c source content gives =
+    let l = c.loop-bytes in
+    let piece = c.in-Bytes.piece.now in
+    let more = taken _ _ _ _ _ _ _ l.bytes.items c.in_ok-piece.field-0 c.in-Bytes.is l.invariant.read l.invariant.room
+    c.in_ok-piece.ensures.piece in
+    let few = taken_few {S = g.row.S.Denot} g.S.ReadAt.all_bytes g.S.ReadAt.fails_with (g.S.ReadAt.fails_with source) c.args.section.now
+    content _ (l.bytes.items ++ piece) gives more.0 in
+    (length l.bytes.items + length piece, omega (arith, few, length-append l.bytes.items piece), c.in_default.ensures.refused)
+
+pub returns-in_err-piece-clause-fails : goal.returns-in_err-piece-clause-fails
+returns-in_err-piece-clause-fails g c source content gives =
+    let fails = g.S.ReadAt.fails_with source in
+    let p = err_from_is_err_and c.from_residual.result c.from_residual.ensures.1 in
+    rw (p.1, p.2) (read_unread (g.M.Memory.refuses c.args.memory.now) _ _ _ fails _ c.loop-bytes.invariant.later
+    (line_only {S = g.row.S.Denot} g.S.ReadAt.all_bytes g.S.ReadAt.fails_with fails c.args.section.now content gives)
+    c.in_err-piece.ensures.fails)
