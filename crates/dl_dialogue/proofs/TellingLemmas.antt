@@ -26,13 +26,13 @@ path_is [] is path known same = ap (λ b. path_if b path) known
 path_is (t ∷ texts) is path known same = ap (λ b. path_if b path) known ∙ ap (λ p. Some p) same
 
 -- a text that lies in the file
-pub text_fails : (known : Option (List ℕ)) (Fails : Error → Type 0) (refuses : ℕ → Type 0) (place : Range) (r : Result (Unit {0}) TextFault)
-    → IfErr r (TextFails known Fails refuses (place.offset + place.size)) → ForBytes known (λ b. Lies b (Some place))
+pub text_fails : (known : Option (List ℕ)) (Fails : Error → Type 0) (refuses : ℕ → Type 0) (before : ℕ) (place : Range) (r : Result (Unit {0}) TextFault)
+    → IfErr r (TextFails known Fails refuses before place) → ForBytes known (λ b. Lies b (Some place))
     → IfErr (as_told r) (FileFails known Fails refuses)
-text_fails known Fails refuses place (Ok x) fails lies = tt
-text_fails known Fails refuses place (Err of.NoMemory) fails lies = fails
-text_fails known Fails refuses place (Err (of.Read error)) (inl fails) lies = inl fails
-text_fails known Fails refuses place (Err (of.Read error)) (inr (kind, ends)) lies =
+text_fails known Fails refuses before place (Ok x) fails lies = tt
+text_fails known Fails refuses before place (Err of.NoMemory) (n, few, stands, refused) lies = (n, refused)
+text_fails known Fails refuses before place (Err (of.Read error)) (inl fails) lies = inl fails
+text_fails known Fails refuses before place (Err (of.Read error)) (inr (kind, ends)) lies =
     inr (kind, λ b is below. (let short = ends b is below in let within = lies b is below in omega (arith, short, within)))
 
 pub text_read : (r : Result (Unit {0}) TextFault) (old new bytes : List ℕ) → IfOk r (λ _. new ≡ old ++ bytes)

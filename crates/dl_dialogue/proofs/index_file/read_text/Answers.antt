@@ -1,4 +1,4 @@
-use Rattle.std.proofs.Common.{subst}
+use Rattle.std.proofs.Common.{length, subst}
 use Rattle.dl_elf.specs.Elf.{bytes_at}
 use Rattle.dl_elf.specs.Source.{ForBytes}
 use Rattle.dl_index_file.specs.Opening.{source_of}
@@ -15,5 +15,6 @@ returns-in-Some-clause-text g c = λ f is below.
 pub returns-in-Some-clause-fails : goal.returns-in-Some-clause-fails
 returns-in-Some-clause-fails g c = λ lies.
     rw c.as_told.ensures (text_fails (g.S.ReadAt.all_bytes (source_of c.args.index.now))
-    (g.S.ReadAt.fails_with (source_of c.args.index.now)) (g.M.Memory.refuses c.args.memory.now) c.in-Some.place c.read_text.result c.read_text.ensures.fails
+    (g.S.ReadAt.fails_with (source_of c.args.index.now)) (g.M.Memory.refuses c.args.memory.now)
+    (length c.args.path.now.items) c.in-Some.place c.read_text.result c.read_text.ensures.fails
     (subst (λ t. ForBytes (g.S.ReadAt.all_bytes (source_of c.args.index.now)) (λ b. Lies b t)) c.in-Some.is lies))
