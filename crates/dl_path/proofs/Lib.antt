@@ -8,3 +8,4 @@ pub mod ShownLemmas
 pub mod FrontLemmas
 pub mod PrintLemmas
 pub mod HeaderTextLemmas
+pub mod RoomLemmas

@@ -3,6 +3,7 @@ pub mod Paths
 pub mod PathLaws
 pub mod PathTexts
 pub mod TextLaws
+pub mod TextRoom
 pub mod Parts
 pub mod Shown
 pub mod PathParts
