@@ -12,3 +12,4 @@ pub mod SpanAnswers
 pub mod StretchLemmas
 pub mod TellLemmas
 pub mod UnitLemmas
+pub mod StretchCounts

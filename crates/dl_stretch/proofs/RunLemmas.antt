@@ -33,7 +33,7 @@ use Rattle.dl_stretch.proofs.LastBegun.{last_begun-push, rise_push, rise_front, 
 pub at_most_begun : (p : Place) (a : ℕ) → is_at_most p (place_at a) ≡ nat_le (first_address p) a
 at_most_begun p a = grind (arith, nat_tests)
 
-below_begun : (p : Place) (a : ℕ) → is_below (place_at a) p ≡ nat_lt a (first_address p)
+pub below_begun : (p : Place) (a : ℕ) → is_below (place_at a) p ≡ nat_lt a (first_address p)
 below_begun p a = grind (arith, nat_tests)
 
 pub covers_addresses : CoversAddresses

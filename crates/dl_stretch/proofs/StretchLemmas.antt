@@ -23,7 +23,7 @@ rise (x ∷ []) a = tt
 rise (x ∷ y ∷ s) (apart, rest) = (apart.0, rise (y ∷ s) rest)
 
 -- what is told at a from the first stretch on, where before is told before it
-abbrev told_from : Option Told → List Stretch → ℕ → Option Told
+abbrev pub told_from : Option Told → List Stretch → ℕ → Option Told
 told_from before [] a = before
 told_from before (s ∷ rest) a = if nat_lt a s.start then before else told_from s.told rest a
 
@@ -54,21 +54,21 @@ or-none : (o : Option Stretch) → told_or None o ≡ option_and_then (λ (s : S
 or-none None = refl
 or-none (Some s) = refl
 
-told_from-at : (s : List Stretch) (a : ℕ) → Rise start_of s → told_from None s a ≡ told_at s a
+pub told_from-at : (s : List Stretch) (a : ℕ) → Rise start_of s → told_from None s a ≡ told_at s a
 told_from-at s a r = told_from-last None s a r ∙ or-none (last_begun start_of s a)
 
 -- stretches from low on, after something that tells otherwise than the first of them
-abbrev From : ℕ → Option Told → List Stretch → Type 0
+abbrev pub From : ℕ → Option Told → List Stretch → Type 0
 From low before [] = Unit {0}
 From low before (x ∷ s) = (low ≤ x.start) × (x.start < 2 ^ 64) × (before ≢ x.told) × From (suc x.start) x.told s
 
-before_first : (low : ℕ) (before : Option Told) (s : List Stretch) (a : ℕ) → From low before s → a < low
+pub before_first : (low : ℕ) (before : Option Told) (s : List Stretch) (a : ℕ) → From low before s → a < low
     → told_from before s a ≡ before
 before_first low before [] a f lt = refl
 before_first low before (x ∷ s) a f lt =
     ap (λ (b : Bool). if b then before else told_from x.told s a) (lt-ltb a x.start (omega (arith, f.0)))
 
-at_first : (low : ℕ) (before : Option Told) (x : Stretch) (s : List Stretch) → From low before (x ∷ s)
+pub at_first : (low : ℕ) (before : Option Told) (x : Stretch) (s : List Stretch) → From low before (x ∷ s)
     → told_from before (x ∷ s) x.start ≡ x.told
 at_first low before x s f =
     ap (λ (b : Bool). if b then before else told_from x.told s x.start) (le-ltb x.start x.start (omega arith))
@@ -121,7 +121,7 @@ no_gap : (o : Option Told) → is_none o ≡ false → None ≢ o
 no_gap None e n = absurd (false≢true (sym e))
 no_gap (Some t) e n = cc
 
-from_start : (s : List Stretch) → Neighbours Apart s → AtAddresses s → is_gap_first s ≡ false → From 0 None s
+pub from_start : (s : List Stretch) → Neighbours Apart s → AtAddresses s → is_gap_first s ≡ false → From 0 None s
 from_start [] apart all first = tt
 from_start (x ∷ s) apart all first = from_apart 0 None x s apart all (omega arith) (no_gap x.told first)
 

@@ -24,7 +24,7 @@ pub struct RunSpans {
 }
 
 impl RunSpans {
-    ghost use Rattle.std.specs.Prelude.{◌≡◌, ℕ, ◌+◌, ◌*◌, ◌<◌, ◌≤◌, ◌^◌, IfOk, OnErr, true, List, [], ◌∷◌, ◌++◌, Bool, None};
+    ghost use Rattle.std.specs.Prelude.{◌≡◌, ℕ, ◌+◌, ◌*◌, ◌<◌, ◌≤◌, ◌^◌, IfOk, OnErr, true, List, [], ◌∷◌, ◌++◌, Bool, None, length};
     ghost use Rattle.std.specs.Option.{option_or, option_map};
     ghost use Rattle.dl_rows.specs.declared.row.Row as each;
     ghost use Rattle.dl_look.specs.Answer.{place_of};
@@ -36,7 +36,7 @@ impl RunSpans {
     ghost use Rattle.dl_stretch.specs.Stands.{whole_answer, unit_answer, Holds};
     ghost use Rattle.dl_stretch.specs.Stretches.{AreStretches};
     ghost use Rattle.dl_stretch.specs.ToldUnits.{NameFiles};
-    ghost use Rattle.dl_stretch.specs.Kept.{kept_in};
+    ghost use Rattle.dl_stretch.specs.Kept.{kept_in, unit_in, whole_in};
     ghost use Rattle.dl_memory.specs.Refusals.{IsRefused};
 
     /// No unit yet.
@@ -57,6 +57,7 @@ impl RunSpans {
     #[inline(always)]
     pub fn row<M: Memory>(&mut self, memory: &M, row: &Row) -> Result<(), NoMemory>
         ensures more { kept_in self.new ≤ kept_in self.old + 1 }
+        ensures ended { whole_in self.new ≡ whole_in self.old }
         ensures refused { OnErr result (IsRefused (M.refuses memory.now) (kept_in self.old + 1)) }
         ensures whole { IfOk result (λ _. (a : ℕ) → whole_answer self.new a ≡ whole_answer self.old a) }
         ensures unit { IfOk result (λ _. (rows : List each.Row) → Holds self.old rows
@@ -72,6 +73,7 @@ impl RunSpans {
     /// Takes an end row, by its place.
     fn end_sequence<M: Memory>(&mut self, memory: &M, end: Place) -> Result<(), NoMemory>
         ensures more { kept_in self.new ≤ kept_in self.old + 1 }
+        ensures ended { whole_in self.new ≡ whole_in self.old }
         ensures refused { OnErr result (IsRefused (M.refuses memory.now) (kept_in self.old + 1)) }
         ensures whole { IfOk result (λ _. (a : ℕ) → whole_answer self.new a ≡ whole_answer self.old a) }
         ensures unit { IfOk result (λ _. (rows : List each.Row) (row : each.Row) → place_of row ≡ end
@@ -95,7 +97,8 @@ impl RunSpans {
 
     /// The runs of the sequences of the current unit that have ended.
     pub fn unit_runs(&self) -> &[Run]
-        ensures { (live : ℕ → Bool) (rows : List each.Row) → Holds self.now (live_rows live rows)
+        ensures count { length result.now ≡ unit_in self.now }
+        ensures named { (live : ℕ → Bool) (rows : List each.Row) → Holds self.now (live_rows live rows)
             → NameFiles live rows result.now }
     {
         &self.list.ended()[self.whole_runs..]
@@ -105,6 +108,7 @@ impl RunSpans {
     /// it.
     pub fn end_unit(&mut self, numbers: &[u64], other: u64)
         ensures count { kept_in self.new ≤ kept_in self.old }
+        ensures ended { whole_in self.new ≡ whole_in self.old + unit_in self.old }
         ensures whole { (a : ℕ) → a < 2 ^ 64 → whole_answer self.new a ≡ option_or (whole_answer self.old a)
             (option_map (renumbered (λ file. held (number_in numbers.now other file))) (unit_answer self.old a)) }
         ensures unit { Holds self.new [] }
@@ -117,6 +121,7 @@ impl RunSpans {
     /// Forgets the rows of the current unit.
     pub fn forget_unit(&mut self)
         ensures count { kept_in self.new ≤ kept_in self.old }
+        ensures ended { whole_in self.new ≡ whole_in self.old }
         ensures whole { (a : ℕ) → whole_answer self.new a ≡ whole_answer self.old a }
         ensures unit { Holds self.new [] }
     {
@@ -127,6 +132,8 @@ impl RunSpans {
     /// The stretches of what the units answer that have ended.
     pub fn stretches<M: Memory>(&self, memory: &M) -> Result<RunStretches<'_>, NoMemory>
         ensures refused { OnErr result (IsRefused (M.refuses memory.now) (2 * kept_in self.now + 1)) }
+        ensures few { IfOk result (λ stretches. (list : List kept.Stretch) → StandFor stretches list
+            → length list ≤ 2 * kept_in self.now) }
         ensures made { IfOk result (λ stretches. (list : List kept.Stretch) → StandFor stretches list
             → AreStretches (whole_answer self.now) list) }
     {

@@ -26,7 +26,7 @@ pub struct Runs {
 }
 
 impl Runs {
-    ghost use Rattle.std.specs.Prelude.{◌≡◌, ◌↔◌, ℕ, ◌+◌, ◌*◌, ◌≤◌, Bool, IfOk, OnErr, IsTrue, List, [], ◌∷◌, ◌++◌};
+    ghost use Rattle.std.specs.Prelude.{◌≡◌, ◌↔◌, ℕ, ◌+◌, ◌*◌, ◌≤◌, Bool, IfOk, OnErr, IsTrue, List, [], ◌∷◌, ◌++◌, length};
     ghost use Rattle.dl_rows.specs.declared.row.Row as each;
     ghost use Rattle.dl_look.specs.FinderRows.{unended};
     ghost use Rattle.dl_stretch.specs.declared.stretch.Stretch as kept;
@@ -35,7 +35,7 @@ impl Runs {
     ghost use Rattle.dl_stretch.specs.Stands.{Stands};
     ghost use Rattle.dl_stretch.specs.Stretches.{AreStretches};
     ghost use Rattle.dl_stretch.specs.ToldUnits.{UnitRows, told_of_units, NameFiles};
-    ghost use Rattle.dl_stretch.specs.Kept.{kept_count};
+    ghost use Rattle.dl_stretch.specs.Kept.{kept_count, unit_count, whole_count};
     ghost use Rattle.dl_memory.specs.Refusals.{IsRefused};
 
     /// No unit yet.
@@ -63,6 +63,7 @@ impl Runs {
     #[inline(always)]
     pub fn row<M: Memory>(&mut self, memory: &M, row: &Row, live: bool) -> Result<(), NoMemory>
         ensures more { kept_count self.new ≤ kept_count self.old + 1 }
+        ensures whole { whole_count self.new ≡ whole_count self.old }
         ensures refused { OnErr result (IsRefused (M.refuses memory.now) (kept_count self.old + 1)) }
         ensures taken { IfOk result (λ _. (is_live : ℕ → Bool) (units : List UnitRows) (rows : List each.Row)
             → Stands is_live self.old units rows → (unended rows ≡ [] → live ≡ is_live row.now.address)
@@ -78,7 +79,8 @@ impl Runs {
     /// The runs of the sequences of the current unit that have ended, with the numbers of files that its rows give, or
     /// 2^63 - 1 for a greater one. They name all files of which `end_unit` is told the numbers.
     pub fn unit_runs(&self) -> &[Run]
-        ensures { (live : ℕ → Bool) (units : List UnitRows) (rows : List each.Row) → Stands live self.now units rows
+        ensures count { length result.now ≡ unit_count self.now }
+        ensures named { (live : ℕ → Bool) (units : List UnitRows) (rows : List each.Row) → Stands live self.now units rows
             → NameFiles live rows result.now }
     {
         self.spans.unit_runs()
@@ -89,6 +91,7 @@ impl Runs {
     /// above 2^63 - 1 counts as that one.
     pub fn end_unit(&mut self, numbers: &[u64], other: u64)
         ensures count { kept_count self.new ≤ kept_count self.old }
+        ensures whole { whole_count self.new ≡ whole_count self.old + unit_count self.old }
         ensures ended { (live : ℕ → Bool) (units : List UnitRows) (rows : List each.Row)
             → Stands live self.old units rows → Stands live self.new (units ++ record {
               number = held_in numbers.now other;
@@ -103,6 +106,7 @@ impl Runs {
     /// next unit.
     pub fn forget_unit(&mut self)
         ensures count { kept_count self.new ≤ kept_count self.old }
+        ensures whole { whole_count self.new ≡ whole_count self.old }
         ensures forgotten { (live : ℕ → Bool) (units : List UnitRows) (rows : List each.Row) → Stands live self.old units rows
             → Stands live self.new units [] }
     {
@@ -115,6 +119,8 @@ impl Runs {
     /// runs.
     pub fn stretches<M: Memory>(&self, memory: &M) -> Result<RunStretches<'_>, NoMemory>
         ensures refused { OnErr result (IsRefused (M.refuses memory.now) (2 * kept_count self.now + 1)) }
+        ensures few { IfOk result (λ stretches. (list : List kept.Stretch) → StandFor stretches list
+            → length list ≤ 2 * kept_count self.now) }
         ensures made { IfOk result (λ stretches. (live : ℕ → Bool) (units : List UnitRows) (rows : List each.Row)
             → Stands live self.now units rows → (list : List kept.Stretch) → StandFor stretches list
             → AreStretches (told_of_units live units) list) }

@@ -31,9 +31,11 @@ pub struct RunStretches<'a> {
 }
 
 impl<'a> RunStretches<'a> {
-    ghost use Rattle.std.specs.Prelude.{◌≡◌, ◌+◌, ◌*◌, IfOk, OnErr, length};
+    ghost use Rattle.std.specs.Prelude.{◌≡◌, ◌≤◌, ◌+◌, ◌*◌, IfOk, OnErr, List, length};
     ghost use Rattle.dl_memory.specs.Refusals.{IsRefused};
+    ghost use Rattle.dl_stretch.specs.declared.stretch.Stretch as each;
     ghost use Rattle.dl_stretch.specs.Spans.{AreSound};
+    ghost use Rattle.dl_stretch.specs.StandFor.{StandFor};
 
     /// The stretches of what the spans answer, each of which has its runs among these.
     pub(crate) fn new<M: Memory>(
@@ -45,6 +47,8 @@ impl<'a> RunStretches<'a> {
         ensures refused { OnErr result (IsRefused (M.refuses memory.now) (2 * length spans.now + 1)) }
         ensures runs { IfOk result (λ s. s.runs.now ≡ runs.now) }
         ensures spans { IfOk result (λ s. s.spans.now ≡ spans.now) }
+        ensures few { IfOk result (λ s. (list : List each.Stretch) → StandFor s list
+            → length list ≤ length runs.now + 2 * length spans.now) }
     {
         let cuts = cuts_of(memory, spans)?;
         Ok(RunStretches { runs, spans, cuts })

@@ -4,8 +4,8 @@ use Rattle.dl_stretch.specs.ToldUnits.{NameFiles}
 use Rattle.dl_stretch.proofs.NameLemmas.{names_files}
 use Rattle.dl_stretch.proofs.run_spans.RunSpans.unit_runs.Goals as goal
 
-pub returns : goal.returns
-returns c = λ live rows holds. (
+pub returns-clause-named : goal.returns-clause-named
+returns-clause-named c = λ live rows holds. (
     let s = c.args.self.now in
     let seen = c.ended.result.now in
     subst (NameFiles live rows)
