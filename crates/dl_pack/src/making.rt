@@ -1,6 +1,6 @@
 //! The bytes of an index.
 
-ghost use Rattle.std.specs.Prelude.{◌≡◌, ℕ, ◌+◌, ◌*◌, ◌<◌, ◌≤◌, ◌++◌, List, [], None, Err, length, map, IfOk, IfErr, OnErr};
+ghost use Rattle.std.specs.Prelude.{◌≡◌, ◌⊎◌, ℕ, ◌+◌, ◌*◌, ◌<◌, ◌≤◌, ◌++◌, List, [], None, Err, length, map, IfOk, IfErr, OnErr};
 ghost use Rattle.dl_memory.specs.Refusals.{IsRefused, WasRefused};
 ghost use Rattle.std.specs.List.{All, flat_map};
 ghost use Rattle.dl_stretch.specs.declared.stretch.Stretch as each;
@@ -201,6 +201,9 @@ pub fn index_bytes<M: Memory, T: Stretches>(
     ensures fails { IfErr result (PackFails (M.refuses memory.now) build_id.now (files_of names.now) (T.stands stretches.now)) }
     ensures refused { result ≡ Err PackFault.NoMemory → (list : List each.Stretch) → T.stands stretches.now list
         → IsRefused (M.refuses memory.now) (index_room list (files_of names.now) (texts_of names.now)) }
+    ensures wants { result ≡ Err PackFault.NoMemory → IsRefused (M.refuses memory.now) (length (files_of names.now))
+        ⊎ ((list : List each.Stretch) × T.stands stretches.now list
+        × IsRefused (M.refuses memory.now) (index_room list (files_of names.now) (texts_of names.now))) }
 {
     if build_id.len() > 32 {
         return Err(PackFault::BuildId);

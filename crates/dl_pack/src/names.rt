@@ -72,6 +72,7 @@ impl Names {
         ensures number { IfOk result (λ n. slice_get (named_files self.new) n ≡ Some (file_of (texts_of self.old) unit texts)) }
         ensures small { IfOk result (λ n. n < 2 ^ 63) }
         ensures grows { Grows (named_files self.old) (named_files self.new) }
+        ensures few { length (named_files self.new) ≤ length (named_files self.old) + 1 }
         ensures once { Once (named_files self.new) }
         ensures texts { texts_of self.new ≡ texts_of self.old }
     {

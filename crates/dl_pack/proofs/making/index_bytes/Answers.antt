@@ -1,4 +1,4 @@
-use Rattle.std.proofs.Common.{refl, arith, length}
+use Rattle.std.proofs.Common.{refl, arith, length, inl, inr}
 use Rattle.std.proofs.lemmas.Result.{err_from_is_err_and}
 use Rattle.dl_pack.specs.IndexOf.{file_order}
 use Rattle.dl_pack.specs.Shown.{files_of, texts_of}
@@ -31,3 +31,14 @@ returns-in_err-texts-clause-refused g c is list stands =
     let p = err_from_is_err_and q.result q.ensures.1 in
     at_most _ _ _ (omega arith) (c.texts_named.ensures.refused
     (err_same c.texts_named.result q.result p.0 c.in_err-texts.field-0.0 _ p.1 p.2 is c.in_err-texts.was))
+
+pub returns-in_err-totals-clause-wants : goal.returns-in_err-totals-clause-wants
+returns-in_err-totals-clause-wants g c is =
+    let p = err_from_is_err_and c.from_residual.result c.from_residual.ensures.1 in
+    inl (c.totals_of.ensures.refused
+    (err_same c.totals_of.result c.from_residual.result p.0 c.in_err-totals.field-0.0 _ p.1 p.2 is c.in_err-totals.was))
+
+pub returns-in_err-texts-clause-wants : goal.returns-in_err-texts-clause-wants
+returns-in_err-texts-clause-wants g c is =
+    let some = c.in_ok-totals.ensures.some in
+    inr (some.0, some.1, returns-in_err-texts-clause-refused g c is some.0 some.1)

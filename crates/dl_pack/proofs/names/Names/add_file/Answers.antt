@@ -1,5 +1,5 @@
 use Rattle.std.specs.Prelude.{slice_get}
-use Rattle.std.proofs.Common.{rules, map, ◌≡◌, ◌∙◌, ◌++◌, ap, ap₂, sym, subst, ℕ, length, Some, Decides}
+use Rattle.std.proofs.Common.{arith, rules, map, List, ◌≡◌, ◌≤◌, ◌+◌, ◌∙◌, ◌++◌, ap, ap₂, sym, subst, ℕ, length, Some, Decides}
 use Rattle.std.specs.Global.{Vec}
 use Rattle.std.specs.List.{All}
 use Rattle.std.proofs.lemmas.List.{length-map}
@@ -11,6 +11,10 @@ use Rattle.dl_pack.specs.Within.{HasTexts, Packed, texts_in}
 use Rattle.dl_pack.proofs.NameLemmas.{same_items}
 use Rattle.dl_pack.proofs.OnceLemmas.{once_mapped, once_named, keys_after, all_after, grows_mapped, number_mapped, three_within}
 use Rattle.dl_pack.proofs.names.Names.add_file.Goals as goal
+
+few_mapped : {A B : Type 0} (f : A → B) (old new : List A) → length new ≤ length old + 1
+    → length (map f new) ≤ length (map f old) + 1
+few_mapped f old new few = omega (arith, few, length-map old f, length-map new f)
 
 decides : (f g : FileTexts) → Decides (eq-value.it f g) (f ≡ g)
 decides f g = search rules
@@ -57,3 +61,11 @@ returns-in-Ok-clause-grows g c =
     (record { unit = c.args.unit; texts = c.packed-texts.result })
     (keys_after eq-value.it c.args.self.now.files.keys c.insert_item.new.set.keys (record { unit = c.args.unit; texts = c.packed-texts.result })
     c.insert_item.result c.insert_item.ensures.keys c.insert_item.ensures.kept)
+
+pub returns-in-Ok-clause-few : goal.returns-in-Ok-clause-few
+returns-in-Ok-clause-few g c =
+    few_mapped (named (texts_in c.args.self.now.texts)) c.args.self.now.files.keys c.insert_item.new.set.keys c.insert_item.ensures.few
+
+pub returns-in-Err-clause-few : goal.returns-in-Err-clause-few
+returns-in-Err-clause-few g c =
+    few_mapped (named (texts_in c.args.self.now.texts)) c.args.self.now.files.keys c.insert_item.new.set.keys c.insert_item.ensures.few
