@@ -19,9 +19,9 @@ use Rattle.dl_making.specs.declared.maker.Maker.{Maker}
 use Rattle.dl_making.specs.Making.{Making, making_story}
 
 -- memory is wanted, and no read failed
-pub never_read : {M : Type 0} (Refused : M → Type 0) (first : Maker M) → Making Refused first first None None []
-    → NeverBlames (making_story Refused) first None
-never_read Refused first tells = record {
+pub never_read : {M : Type 0} (refuses : M → ℕ → Type 0) (first : Maker M) → Making refuses first first None None []
+    → NeverBlames (making_story refuses) first None
+never_read refuses first tells = record {
   tells = tells;
   out = Appends-nil None;
   never = λ visits e. (let is = e.is in absurd cc);

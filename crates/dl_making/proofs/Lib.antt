@@ -1,4 +1,10 @@
+pub mod VisitCounts
+pub mod EndCounts
+pub mod RoomLemmas
+pub mod FewLemmas
+pub mod KeepLemmas
 pub mod IndexLemmas
+pub mod IndexWants
 pub mod MakerLemmas
 pub mod MakingLemmas
 pub mod UntilLemmas

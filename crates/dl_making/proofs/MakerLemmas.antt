@@ -1,10 +1,11 @@
 -- What a maker keeps of what it is told.
-use Rattle.std.proofs.Common.{◌≡◌, ℕ, ◌+◌, ◌<◌, ◌^◌, Bool, true, false, List, [], ◌∷◌, ◌++◌, length, map, Option, Some, None}
+use Rattle.std.proofs.Common.{◌≡◌, ℕ, ◌+◌, ◌*◌, ◌<◌, ◌≤◌, ◌^◌, arith, Bool, true, false, List, [], ◌∷◌, ◌++◌, length, map, Option, Some, None}
 use Rattle.std.proofs.Common.{Result, Ok, Err, refl, sym, ap, ap₂, ◌∙◌, subst}
 use Rattle.std.specs.Prelude.{slice_get, unwrap_or}
 use Rattle.std.specs.List.{Contains}
 use Rattle.std.specs.Option.{option_map, option_or, option_copied}
 use Rattle.std.specs.Io.KnownBytes.{Appends}
+use Rattle.std.proofs.lemmas.List.Elements.{All-nil}
 use Rattle.dl_field.specs.HeaderData.{HeaderData}
 use Rattle.dl_rows.specs.declared.row.Row.{Row}
 use Rattle.dl_rows.specs.declared.sink.Flow.{Flow}
@@ -16,12 +17,12 @@ use Rattle.dl_print.specs.ValueText.{strings_of}
 use Rattle.dl_path.specs.Paths.{beside_table, has_directory_0}
 use Rattle.dl_dirs.specs.Compilation.{directory_by}
 use Rattle.dl_run.specs.declared.fault.RunFault.TheVariants as fault
-use Rattle.dl_run.specs.Copying.{offset_after}
+use Rattle.dl_run.specs.Copying.{offset_after, row_count}
 use Rattle.dl_run.specs.RowsTold.{rows_after}
 use Rattle.dl_run.specs.Section.{Visit, of_end, of_damage}
 use Rattle.dl_run.specs.declared.around.Damage.{Damage}
 use Rattle.dl_run.specs.GoingOn.{IsTold}
-use Rattle.dl_run.specs.Visiting.{GoesOn, StopsIn}
+use Rattle.dl_run.specs.Visiting.{GoesOn, StopsIn, header_told}
 use Rattle.dl_run.proofs.VisitLemmas.{rows_after-append}
 use Rattle.dl_run.proofs.Fronts.{or_none}
 use Rattle.dl_addr.specs.Locating.{located_after, located_under}
@@ -29,6 +30,7 @@ use Rattle.dl_addr.specs.Locations.{Located}
 use Rattle.dl_addr.proofs.LocatedLemmas.{located_after-append, offset_after-append}
 use Rattle.dl_index.specs.Stretches as index
 use Rattle.dl_stretch.specs.declared.told.Told.{Told}
+use Rattle.dl_stretch.specs.Kept.{kept_count, unit_count, whole_count}
 use Rattle.dl_stretch.specs.Runs.{place_at}
 use Rattle.dl_stretch.specs.Runs as runs
 use Rattle.dl_stretch.specs.Stands.{Stands}
@@ -39,13 +41,17 @@ use Rattle.dl_stretch.proofs.HeldLemmas.{held_as_given}
 use Rattle.dl_stretch.specs.ToldUnits.{NameFiles, UnitRows, file_of, told_of_units}
 use Rattle.dl_stretch.proofs.UnitLemmas.{told_of_units-push}
 use Rattle.dl_pack.specs.Named.{Named, Grows, Once}
-use Rattle.dl_pack.specs.Shown.{named_files}
+use Rattle.dl_pack.specs.Shown.{named_files, texts_of}
 use Rattle.dl_pack.specs.Telling.{named_told, told_as}
 use Rattle.dl_making.specs.declared.files.UnitFiles.{UnitFiles}
 use Rattle.dl_making.specs.declared.maker.Maker.{Maker}
-use Rattle.dl_making.specs.Making.{IsSame, Making, EndsUnit, code_of, file_named, making_story, told_after}
+use Rattle.dl_making.specs.Few.{AddsFew, TextsWithin}
+use Rattle.dl_making.specs.Making.{IsSame, Making, EndsUnit, RefusesAfter, code_of, file_named}
+use Rattle.dl_making.specs.Making.{making_story, text_in_unit, told_after}
+use Rattle.dl_making.specs.Room.{longest_text}
 use Rattle.dl_making.specs.Telling.{told_of}
 use Rattle.dl_making.specs.UnitFile.{file_in}
+use Rattle.dl_making.proofs.KeepLemmas.{keeps_ended, keeps_on, refuses_later}
 use Rattle.dl_making.proofs.NumberLemmas.{still_there}
 
 -- ---- visits that end no unit
@@ -60,15 +66,16 @@ told_more first visits more a none =
     ∙ ap (option_or (located_after (code_of first) (place_at a) [] first.unit visits)) none
     ∙ or_none (located_after (code_of first) (place_at a) [] first.unit visits))
 
-module _ {M : Type 0} {Refused : M → Type 0} (first old new : Maker M) (start held : Option (List ℕ)) (visits more : List Visit)
-    (s : Making Refused first old start held visits) where
+module _ {M : Type 0} {refuses : M → ℕ → Type 0} (first old new : Maker M) (start held : Option (List ℕ)) (visits more : List Visit)
+    (s : Making refuses first old start held visits) where
   -- it goes on with visits that end no unit
   pub goes_on : ((rows : List Row) (n : ℕ) (x : Place) → located_after (code_of first) x rows n more ≡ None)
       → IsSame old new → new.unit ≡ offset_after old.unit more → new.is_refused ≡ old.is_refused → new.names ≡ old.names
+      → kept_count new.runs ≤ kept_count old.runs + row_count more → whole_count new.runs ≡ whole_count old.runs
       → ((units : List UnitRows) → old.is_refused ≡ false → Stands (code_of first) old.runs units (rows_after [] visits)
       → Stands (code_of first) new.runs units (rows_after [] (visits ++ more)))
-      → Making Refused first new start held (visits ++ more)
-  goes_on none same unit refused names stands = record {
+      → Making refuses first new start held (visits ++ more)
+  goes_on none same unit refused names kept whole stands = record {
     same = record {
       memory = same.memory ∙ s.same.memory;
       code = same.code ∙ s.same.code;
@@ -84,16 +91,17 @@ module _ {M : Type 0} {Refused : M → Type 0} (first old new : Maker M) (start 
           ∙ ap (option_map Some) (sym (told_more first visits more a (none (rows_after [] visits) (offset_after first.unit visits) (place_at a))));
       once = subst (λ ns. Once (named_files ns)) (sym names) t.once;
     });
-    refused = λ e. s.refused (sym refused ∙ e);
+    few = λ e. keeps_on first old new visits more names kept whole (s.few (sym refused ∙ e));
+    refused = λ e. refuses_later refuses first visits more (s.refused (sym refused ∙ e));
     nothing = s.nothing;
   }
 
 -- it stops at a visit, for want of memory
-pub stops : {M : Type 0} (Refused : M → Type 0) (first old new : Maker M) (start held : Option (List ℕ)) (visits : List Visit)
-    (visit : Visit) → Making Refused first old start held visits → IsSame old new → new.unit ≡ old.unit
-    → new.is_refused ≡ true → Refused old.memory.now
-    → StopsIn (making_story Refused) first new start held visits (visit ∷ []) fault.NoMemory
-stops Refused first old new start held visits visit s same unit refused wanted = (
+pub stops : {M : Type 0} (refuses : M → ℕ → Type 0) (first old new : Maker M) (start held : Option (List ℕ)) (visits : List Visit)
+    (visit : Visit) → Making refuses first old start held visits → IsSame old new → new.unit ≡ old.unit
+    → new.is_refused ≡ true → RefusesAfter refuses first visits
+    → StopsIn (making_story refuses) first new start held visits (visit ∷ []) fault.NoMemory
+stops refuses first old new start held visits visit s same unit refused wanted = (
   visit ∷ [],
   [],
   refl,
@@ -110,10 +118,11 @@ stops Refused first old new start held visits visit s same unit refused wanted =
       };
       unit = unit ∙ s.unit;
       tells = λ e. absurd (Rattle.std.proofs.Common.true≢false (sym refused ∙ e));
-      refused = λ e. subst Refused s.same.memory wanted;
+      few = λ e. absurd (Rattle.std.proofs.Common.true≢false (sym refused ∙ e));
+      refused = λ e. wanted;
       nothing = s.nothing;
     },
-    record { is = refl; refused = subst Refused s.same.memory wanted },
+    record { is = refl; refused = refuses_later refuses first visits (visit ∷ []) wanted },
   ),
 )
 
@@ -155,8 +164,9 @@ module _ (old new : List Named) (grows : Grows old new) (number : ℕ → ℕ) (
     end_told (Some t) (Some l) found is right =
         ap Some (named_grown old new t (tell l) grows (some_same (named_told old t) (Some (tell l)) is))
 
-module _ {M : Type 0} {Refused : M → Type 0} (first old new : Maker M) (start held : Option (List ℕ)) (visits : List Visit)
-    (h : Option HeaderData) (s : Making Refused first old start held visits) (same : IsSame old new) (unit : new.unit ≡ old.unit)
+module _ {M : Type 0} {refuses : M → ℕ → Type 0} (first old new : Maker M) (start held : Option (List ℕ)) (visits : List Visit)
+    (h : Option HeaderData) (told : header_told None visits ≡ h) (s : Making refuses first old start held visits)
+    (same : IsSame old new) (unit : new.unit ≡ old.unit)
     (refused : new.is_refused ≡ old.is_refused) (ended : EndsUnit old new h) where
   abbrev live : ℕ → Bool
   live = code_of first
@@ -201,7 +211,7 @@ module _ {M : Type 0} {Refused : M → Type 0} (first old new : Maker M) (start 
       (or_none (located_under live (place_at a) rows offset h)
       ∙ ap (option_map located) (of_live_rows live rows (place_at a))))
 
-  pub ends : Making Refused first new start held (visits ++ of_end h ∷ [])
+  pub ends : Making refuses first new start held (visits ++ of_end h ∷ [])
   ends = record {
     same = record {
       memory = same.memory ∙ s.same.memory;
@@ -222,16 +232,18 @@ module _ {M : Type 0} {Refused : M → Type 0} (first old new : Maker M) (start 
           ∙ ap (option_map Some) (sym (told_then a));
       once = ended.once t.once;
     });
-    refused = λ e. s.refused (sym refused ∙ e);
+    few = λ e. keeps_ended first old start held visits s h told new ended (s.few (sym refused ∙ e));
+    refused = λ e. refuses_later refuses first visits (of_end h ∷ []) (s.refused (sym refused ∙ e));
     nothing = s.nothing;
   }
 
 -- ---- the beginning
 
-pub begins : {M : Type 0} (Refused : M → Type 0) (first : Maker M) (start : Option (List ℕ)) → first.is_refused ≡ false
-    → ((live : ℕ → Bool) → Stands live first.runs [] [])
-    → named_files first.names ≡ [] → Appends start start [] → Making Refused first first start start []
-begins Refused first start sufficed stands none nothing = record {
+pub begins : {M : Type 0} (refuses : M → ℕ → Type 0) (first : Maker M) (start : Option (List ℕ)) → first.is_refused ≡ false
+    → kept_count first.runs ≡ 0 → ((live : ℕ → Bool) → Stands live first.runs [] [])
+    → named_files first.names ≡ [] → texts_of first.names ≡ [] → Appends start start []
+    → Making refuses first first start start []
+begins refuses first start sufficed count stands none no_text nothing = record {
   same = record { memory = refl; code = refl; directories = refl; strings = refl };
   unit = refl;
   tells = λ e. record {
@@ -240,20 +252,30 @@ begins Refused first start sufficed stands none nothing = record {
     tells = λ a lt. refl;
     once = subst Once (sym none) (λ i j x at_i at_j. absurd (none_some x at_i));
   };
+  few = λ e. record {
+    kept = omega (arith, count);
+    files = omega (arith, ap length none);
+    texts = omega (arith, ap length no_text);
+    each = λ directory bytes d within. subst
+        (TextsWithin (longest_text (strings_of first.strings.now) directory bytes)) (sym no_text)
+        (All-nil (λ (text : List ℕ). length text ≤ longest_text (strings_of first.strings.now) directory bytes));
+  };
   refused = λ e. absurd (Rattle.std.proofs.Common.true≢false (sym e ∙ sufficed));
   nothing = nothing;
 }
 
 -- it has printed nothing
-pub settles : {M : Type 0} (Refused : M → Type 0) (first now : Maker M) (start held : Option (List ℕ)) (visits : List Visit)
-    (flow : Flow) → GoesOn (making_story Refused) first now start held visits flow
-    → GoesOn (making_story Refused) first now start held visits flow × Appends start held []
-settles Refused first now start held visits flow.On s = (s, s.nothing)
-settles Refused first now start held visits flow.Stop s = absurd s
+pub settles : {M : Type 0} (refuses : M → ℕ → Type 0) (first now : Maker M) (start held : Option (List ℕ)) (visits : List Visit)
+    (flow : Flow) → GoesOn (making_story refuses) first now start held visits flow
+    → GoesOn (making_story refuses) first now start held visits flow × Appends start held []
+settles refuses first now start held visits flow.On s = (s, s.nothing)
+settles refuses first now start held visits flow.Stop s = absurd s
 
 -- the files of a unit have their numbers, and its rows count
 module _ {M : Type 0} (old new : Maker M) (h : Option HeaderData) (u : UnitFiles) (runs : List Run) (numbers : List ℕ) (other : ℕ)
-    (are : AreHeld numbers other)
+    (are : AreHeld numbers other) (kept : kept_count new.runs ≤ kept_count old.runs)
+    (whole : whole_count new.runs ≡ whole_count old.runs + unit_count old.runs)
+    (few : AddsFew (3 * unit_count old.runs) (unit_count old.runs) (text_in_unit old h) old.names new.names)
     (grows : Grows (named_files old.names) (named_files new.names))
     (once : Once (named_files old.names) → Once (named_files new.names)) where
   pub ended : ((file : ℕ) → Contains (map file_of runs) (held file)
@@ -265,6 +287,9 @@ module _ {M : Type 0} (old new : Maker M) (h : Option HeaderData) (u : UnitFiles
       → Stands live new.runs (units ++ record { number = held_in numbers other; rows = rows } ∷ []) [])
       → EndsUnit old new h
   ended numbered named same stands = record {
+    kept = kept;
+    whole = whole;
+    few = few;
     grows = grows;
     once = once;
     number = held_in numbers other;
@@ -282,14 +307,15 @@ file_is old h u file strings directory header offset =
     (beside_table (has_directory_0 h) (directory_by old.directories old.unit)) hh n file) header offset
 
 -- a damaged unit is left out
-pub forgets : {M : Type 0} (Refused : M → Type 0) (old new : Maker M) (damage : Damage) → IsSame old new → new.unit ≡ old.unit → new.is_refused ≡ old.is_refused
-    → new.names ≡ old.names
+pub forgets : {M : Type 0} (refuses : M → ℕ → Type 0) (old new : Maker M) (damage : Damage) → IsSame old new → new.unit ≡ old.unit → new.is_refused ≡ old.is_refused
+    → new.names ≡ old.names → kept_count new.runs ≤ kept_count old.runs → whole_count new.runs ≡ whole_count old.runs
     → ((live : ℕ → Bool) (units : List UnitRows) (rows : List Row) → Stands live old.runs units rows
     → Stands live new.runs units [])
-    → IsTold (making_story Refused) old new damage
-forgets Refused old new damage same unit refused names forgot = record {
+    → IsTold (making_story refuses) old new damage
+forgets refuses old new damage same unit refused names kept whole forgot = record {
   tells = λ first start now visits s. (let more = of_damage damage.offset damage.kind ∷ [] in
       goes_on first old new start now visits more s (λ rows n x. refl) same unit refused names
+      (omega (arith, kept)) whole
       (λ units e stands. subst (Stands (code_of first) new.runs units) (sym (rows_after-append [] visits more))
       (forgot (code_of first) units (rows_after [] visits) stands)));
   quiet = λ first visits. refl;

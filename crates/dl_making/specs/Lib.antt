@@ -3,6 +3,7 @@ pub mod Files
 pub mod Telling
 pub mod IsIndexOf
 pub mod TellsMany
+pub mod Room
 pub mod Wants
 pub mod Makes
 pub mod Writes
@@ -12,4 +13,5 @@ pub mod LineLaws
 -- Of contracts inside the crate, and of proofs; no public contract reaches these.
 pub mod UnitFile
 pub mod Numbers
+pub mod Few
 pub mod Making

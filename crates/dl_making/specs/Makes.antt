@@ -45,9 +45,9 @@ Makes refuses dialect s table limit bytes left (Ok made) =
     (units : List (List ℕ)) × EndsAs dialect limit bytes left units [] [] (Ok made.summary)
     × IsIndexOf table.all (id_kept table) (told_in dialect s table units) made.index.items
 Makes refuses dialect s table limit bytes left (Err fault.NoMemory) =
-    WantsMemory refuses dialect limit bytes
+    WantsMemory refuses dialect s table limit bytes
     ⊎ ((units : List (List ℕ)) × (summary : Summary) × EndsAs dialect limit bytes left units [] [] (Ok summary)
-    × WantsIndex refuses (told_in dialect s table units))
+    × WantsIndex refuses s table limit bytes (told_in dialect s table units))
 Makes refuses dialect s table limit bytes left (Err f) =
     (units : List (List ℕ)) × (b : List ℕ) × (back : List ℕ) × EndsAs dialect limit bytes left units b back (Err f)
 
@@ -58,9 +58,9 @@ MakesAround refuses dialect s table limit bytes left (Ok made) =
     (blocks : List Block) × (rest : Rest) × EndsAround dialect limit bytes left blocks rest (Ok made.survey)
     × IsIndexOf table.all (id_kept table) (told_around dialect s table blocks) made.index.items
 MakesAround refuses dialect s table limit bytes left (Err fault.NoMemory) =
-    WantsMemoryAround refuses dialect limit bytes
+    WantsMemoryAround refuses dialect s table limit bytes
     ⊎ ((blocks : List Block) × (rest : Rest) × (survey : Survey)
     × EndsAround dialect limit bytes left blocks rest (Ok survey)
-    × WantsIndex refuses (told_around dialect s table blocks))
+    × WantsIndex refuses s table limit bytes (told_around dialect s table blocks))
 MakesAround refuses dialect s table limit bytes left (Err f) =
     (blocks : List Block) × (rest : Rest) × EndsAround dialect limit bytes left blocks rest (Err f)

@@ -17,10 +17,11 @@ use Rattle.dl_making.specs.IsIndexOf.{IsIndexOf}
 use Rattle.dl_making.specs.Makes.{id_kept, told_around, told_in}
 use Rattle.dl_making.specs.Wants.{WantsIndex, WantsMemory, WantsMemoryAround}
 
--- the index of what f tells; or memory was refused for one, or it would have too many files or texts
-abbrev pub IsIndexIf : (refuses : ℕ → Type 0) → Table → (f : ℕ → Option Told) → Result (Vec ℕ) NoMemory → Type 0
-IsIndexIf refuses table f index =
-    MatchResult index (λ i. IsIndexOf table.all (id_kept table) f i.items) (λ _. WantsIndex refuses f)
+-- the index of what f tells, of these bytes; or memory was refused for one, or it would have too many files or texts
+abbrev pub IsIndexIf : (refuses : ℕ → Type 0) → Strings → Table → (limit : ℕ) (bytes : List ℕ) → (f : ℕ → Option Told)
+    → Result (Vec ℕ) NoMemory → Type 0
+IsIndexIf refuses s table limit bytes f index =
+    MatchResult index (λ i. IsIndexOf table.all (id_kept table) f i.items) (λ _. WantsIndex refuses s table limit bytes f)
 
 -- memory was refused for the reading
 abbrev pub is_refused : Option RunFault → Bool
@@ -32,16 +33,16 @@ is_refused other = false
 abbrev pub MakesUntil : (refuses : ℕ → Type 0) → Dialect → Strings → Table → (limit : ℕ) (bytes : List ℕ) (left : Option (List ℕ))
     → Result Summary RunFault → Result (Vec ℕ) NoMemory → Type 0
 MakesUntil refuses dialect s table limit bytes left (Err fault.NoMemory) index =
-    (is_err index ≡ true) × WantsMemory refuses dialect limit bytes
+    (is_err index ≡ true) × WantsMemory refuses dialect s table limit bytes
 MakesUntil refuses dialect s table limit bytes left ended index =
     (units : List (List ℕ)) × (b : List ℕ) × (back : List ℕ) × EndsAs dialect limit bytes left units b back ended
-    × IsIndexIf refuses table (told_in dialect s table units) index
+    × IsIndexIf refuses s table limit bytes (told_in dialect s table units) index
 
 -- `make_index_until_around`
 abbrev pub MakesUntilAround : (refuses : ℕ → Type 0) → Dialect → Strings → Table → (limit : ℕ) (bytes : List ℕ) (left : Option (List ℕ))
     → Result Survey RunFault → Result (Vec ℕ) NoMemory → Type 0
 MakesUntilAround refuses dialect s table limit bytes left (Err fault.NoMemory) index =
-    (is_err index ≡ true) × WantsMemoryAround refuses dialect limit bytes
+    (is_err index ≡ true) × WantsMemoryAround refuses dialect s table limit bytes
 MakesUntilAround refuses dialect s table limit bytes left ended index =
     (blocks : List Block) × (rest : Rest) × EndsAround dialect limit bytes left blocks rest ended
-    × IsIndexIf refuses table (told_around dialect s table blocks) index
+    × IsIndexIf refuses s table limit bytes (told_around dialect s table blocks) index

@@ -1,13 +1,15 @@
 //! The files of units, of which each is kept once with the texts of its path. Sections 3.1.1 and 6.2.4.
 
-ghost use Rattle.std.specs.Prelude.{◌≡◌, ◌<◌, ◌≤◌, ◌^◌, ◌++◌, [], Some, IfOk, OnErr, length, slice_get};
+ghost use Rattle.std.specs.Prelude.{◌≡◌, ◌<◌, ◌≤◌, ℕ, ◌+◌, ◌^◌, ◌++◌, [], Some, IfOk, IfSome, OnErr, OnOk, length, slice_get};
 ghost use Rattle.std.specs.Option.{option_copied, option_map, option_map_or};
 ghost use Rattle.dl_path.specs.Parts.{path_apart, path_seen};
 ghost use Rattle.dl_path.specs.PathTexts.{folder, root_of, text_if_any, texts_under};
+ghost use Rattle.dl_path.specs.TextRoom.{PartsWithin};
 ghost use Rattle.dl_pack.specs.Named.{Grows, Once, parts_of, text_of};
 ghost use Rattle.dl_pack.specs.Shown.{named_files, texts_of};
 ghost use Rattle.dl_making.specs.UnitFile.{file_in};
-ghost use Rattle.dl_memory.specs.Refusals.{WasRefused};
+ghost use Rattle.dl_making.specs.Few.{AddsFew, names_room, path_text, unit_text};
+ghost use Rattle.dl_memory.specs.Refusals.{IsRefused};
 
 use dl_head::Header;
 use dl_memory::{Memory, NoMemory};
@@ -35,7 +37,8 @@ pub(crate) fn file_number<M: SetMemory>(
     unit: &UnitFiles<'_, '_>,
     file: u64,
 ) -> Result<u64, NoMemory>
-    ensures refused { OnErr result (WasRefused (M.refuses memory.now)) }
+    ensures refused { OnErr result (IsRefused (M.refuses memory.now) (names_room (unit_text unit.now) names.old 1)) }
+    ensures few { OnOk result (AddsFew 3 1 (unit_text unit.now) names.old names.new) }
     ensures number { IfOk result (λ n. slice_get (named_files names.new) n ≡ Some (file_in unit.now file)) }
     ensures small { IfOk result (λ n. n < 2 ^ 63) }
     ensures grows { Grows (named_files names.old) (named_files names.new) }
@@ -53,7 +56,10 @@ fn text_numbers<M: SetMemory>(
     directory: Option<&[u8]>,
     path: Option<Path<'_>>,
 ) -> Result<[u64; 3], NoMemory>
-    ensures refused { OnErr result (WasRefused (M.refuses memory.now)) }
+    ensures refused { OnErr result ((most : ℕ) → IfSome path.entry (λ p. PartsWithin most (path_apart p))
+        → IsRefused (M.refuses memory.now) (names_room (path_text (option_copied directory.entry) most) names.old 1)) }
+    ensures few { OnOk result ((most : ℕ) → IfSome path.entry (λ p. PartsWithin most (path_apart p))
+        → AddsFew 3 0 (path_text (option_copied directory.entry) most) names.old names.new) }
     ensures texts { IfOk result (λ numbers. parts_of (texts_of names.new) numbers
         ≡ option_map_or (texts_under (option_copied directory.entry)) (option_map path_apart path.entry) []) }
     ensures files { named_files names.new ≡ named_files names.old }
@@ -71,7 +77,10 @@ fn path_numbers<M: SetMemory>(
     directory: Option<&[u8]>,
     path: Path<'_>,
 ) -> Result<[u64; 3], NoMemory>
-    ensures refused { OnErr result (WasRefused (M.refuses memory.now)) }
+    ensures refused { OnErr result ((most : ℕ) → PartsWithin most (path_apart path.entry)
+        → IsRefused (M.refuses memory.now) (names_room (path_text (option_copied directory.entry) most) names.old 1)) }
+    ensures few { OnOk result ((most : ℕ) → PartsWithin most (path_apart path.entry)
+        → AddsFew 3 0 (path_text (option_copied directory.entry) most) names.old names.new) }
     ensures texts { IfOk result (λ numbers. parts_of (texts_of names.new) numbers
         ≡ texts_under (option_copied directory.entry) (path_apart path.entry)) }
     ensures files { named_files names.new ≡ named_files names.old }
@@ -103,7 +112,9 @@ fn folders_number<M: SetMemory>(
     first: &[u8],
     second: &[u8],
 ) -> Result<u64, NoMemory>
-    ensures refused { OnErr result (WasRefused (M.refuses memory.now)) }
+    ensures refused { OnErr result (IsRefused (M.refuses memory.now)
+        (length first.now + length second.now + length (texts_of names.old) + 3)) }
+    ensures few { OnOk result (AddsFew 1 0 (length first.now + length second.now + 2) names.old names.new) }
     ensures text { IfOk result (λ n. text_of (texts_of names.new) n
         ≡ text_if_any (folder first.now ++ folder second.now)) }
     ensures within { IfOk result (λ n. n ≤ length (texts_of names.new)) }
@@ -116,7 +127,8 @@ fn folders_number<M: SetMemory>(
 
 /// The number of a text, which is added where it isn't there; 0 of an empty one.
 fn text_number<M: SetMemory>(memory: &M, names: &mut Names, text: &[u8]) -> Result<u64, NoMemory>
-    ensures refused { OnErr result (WasRefused (M.refuses memory.now)) }
+    ensures refused { OnErr result (IsRefused (M.refuses memory.now) (length text.now + length (texts_of names.old) + 1)) }
+    ensures few { OnOk result (AddsFew 1 0 (length text.now) names.old names.new) }
     ensures text { IfOk result (λ n. text_of (texts_of names.new) n ≡ text_if_any text.now) }
     ensures within { IfOk result (λ n. n ≤ length (texts_of names.new)) }
     ensures grows { Grows (texts_of names.old) (texts_of names.new) }
@@ -130,7 +142,7 @@ fn text_number<M: SetMemory>(memory: &M, names: &mut Names, text: &[u8]) -> Resu
 
 /// Two directories, each with what stands between it and a path in it.
 fn folders<M: Memory>(memory: &M, first: &[u8], second: &[u8]) -> Result<Vec<u8>, NoMemory>
-    ensures refused { OnErr result (WasRefused (M.refuses memory.now)) }
+    ensures refused { OnErr result (IsRefused (M.refuses memory.now) (length first.now + length second.now + 2)) }
     ensures text { IfOk result (λ text. text.items ≡ folder first.now ++ folder second.now) }
 {
     let mut text = Vec::new(memory.alloc());
@@ -141,7 +153,7 @@ fn folders<M: Memory>(memory: &M, first: &[u8], second: &[u8]) -> Result<Vec<u8>
 
 /// Puts a directory after a text, and what stands between it and a path in it.
 fn put_folder<M: Memory>(memory: &M, text: &mut Vec<u8>, directory: &[u8]) -> Result<(), NoMemory>
-    ensures refused { OnErr result (WasRefused (M.refuses memory.now)) }
+    ensures refused { OnErr result (IsRefused (M.refuses memory.now) (length text.old.items + length directory.now + 1)) }
     ensures put { IfOk result (λ _. text.new.items ≡ text.old.items ++ folder directory.now) }
 {
     memory.extend_from_slice(text, directory)?;

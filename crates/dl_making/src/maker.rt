@@ -36,9 +36,8 @@ pub(crate) struct Maker<'s, 'o, 'q, M> {
 
 impl<W: Destination, M: SetMemory> Visitor<W> for Maker<'_, '_, '_, M> {
     ghost use Rattle.dl_making.specs.Making.{making_story};
-    ghost use Rattle.dl_memory.specs.Refusals.{WasRefused};
 
-    ghost story = { making_story (λ memory. WasRefused (M.refuses memory)) };
+    ghost story = { making_story M.refuses };
 
     fn header(&mut self, _output: &mut W, offset: u64, _header: &Header) -> Result<(), RunFault> {
         self.unit = offset;
@@ -98,16 +97,17 @@ fn is_code(code: Option<&CodeRanges>, address: u64) -> bool
 }
 
 impl<'s, 'o, 'q, M: SetMemory> Maker<'s, 'o, 'q, M> {
-    ghost use Rattle.dl_memory.specs.Refusals.{WasRefused};
+    ghost use Rattle.dl_memory.specs.Refusals.{IsRefused};
     ghost use Rattle.std.specs.Prelude.{◌≡◌, ℕ, Bool, false, List, [], OnOk, OnErr};
     ghost use Rattle.std.specs.Option.{option_copied};
     ghost use Rattle.dl_rows.specs.declared.row.Row.{Row};
     ghost use Rattle.dl_look.specs.FinderRows.{unended};
     ghost use Rattle.dl_addr.specs.Code.{is_code};
+    ghost use Rattle.dl_stretch.specs.Kept.{kept_count};
     ghost use Rattle.dl_stretch.specs.Stands.{Stands};
     ghost use Rattle.dl_stretch.specs.ToldUnits.{UnitRows};
-    ghost use Rattle.dl_pack.specs.Shown.{named_files};
-    ghost use Rattle.dl_making.specs.Making.{EndsUnit, IsSame};
+    ghost use Rattle.dl_pack.specs.Shown.{named_files, texts_of};
+    ghost use Rattle.dl_making.specs.Making.{EndsUnit, IsSame, end_room};
 
     /// A maker that was told of no unit.
     pub(crate) fn new(
@@ -122,7 +122,9 @@ impl<'s, 'o, 'q, M: SetMemory> Maker<'s, 'o, 'q, M> {
         ensures code { result.code ≡ code.entry }
         ensures directories { result.directories ≡ directories.entry }
         ensures runs { (live : ℕ → Bool) → Stands live result.runs [] [] }
+        ensures count { kept_count result.runs ≡ 0 }
         ensures names { named_files result.names ≡ [] }
+        ensures texts { texts_of result.names ≡ [] }
     {
         Maker {
             memory,
@@ -154,7 +156,7 @@ impl<'s, 'o, 'q, M: SetMemory> Maker<'s, 'o, 'q, M> {
         ensures same { IsSame self.old self.new }
         ensures unit { self.new.unit ≡ self.old.unit }
         ensures refused { self.new.is_refused ≡ self.old.is_refused }
-        ensures wants { OnErr result (WasRefused (M.refuses self.old.memory.now)) }
+        ensures wants { OnErr result (IsRefused (M.refuses self.old.memory.now) (end_room self.old (option_copied header.entry))) }
         ensures ended { OnOk result (EndsUnit self.old self.new (option_copied header.entry)) }
     {
         let unit = UnitFiles {

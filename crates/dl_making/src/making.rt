@@ -1,7 +1,6 @@
 //! The index of the units of a section. Section 6.2.4.
 
 ghost use Rattle.std.specs.Prelude.{◌≡◌, ◌≤◌, ℕ, List, None, Option, IfOk, OnErr, OnOk, take};
-ghost use Rattle.dl_memory.specs.Refusals.{WasRefused};
 ghost use Rattle.std.specs.Io.KnownBytes.{Consumes};
 ghost use Rattle.dl_input.specs.Failing.{Blames};
 ghost use Rattle.dl_run.specs.Commands.{strings_in};
@@ -9,8 +8,7 @@ ghost use Rattle.dl_run.specs.Section.{Visit};
 ghost use Rattle.dl_making.specs.declared.maker.Maker as makers;
 ghost use Rattle.dl_making.specs.IsIndexOf.{IsIndexOf};
 ghost use Rattle.dl_making.specs.Makes.{Makes, MakesAround, id_kept};
-ghost use Rattle.dl_making.specs.Making.{Making, WasTold, told_after};
-ghost use Rattle.dl_making.specs.Wants.{WantsIndex};
+ghost use Rattle.dl_making.specs.Making.{Making, WantsAfter, WasTold, told_after};
 
 use crate::maker::Maker;
 use dl_dirs::CompilationDirectories;
@@ -110,13 +108,13 @@ pub(crate) fn told_index<M: SetMemory>(
     maker: &Maker<'_, '_, '_, M>,
     table: &Table<'_>,
 ) -> Result<Vec<u8>, NoMemory>
-    requires { WasTold (λ memory. WasRefused (M.refuses memory)) maker.now }
+    requires { WasTold M.refuses maker.now }
     ensures index { IfOk result (λ index. (first : makers.Maker M) (start held : Option (List ℕ)) (visits : List Visit)
-        → Making (λ memory. WasRefused (M.refuses memory)) first maker.now start held visits
+        → Making M.refuses first maker.now start held visits
         → IsIndexOf table.now.all (id_kept table.now) (told_after first visits) index.items) }
     ensures wants { OnErr result ((first : makers.Maker M) (start held : Option (List ℕ)) (visits : List Visit)
-        → Making (λ memory. WasRefused (M.refuses memory)) first maker.now start held visits
-        → WantsIndex (M.refuses first.memory.now) (told_after first visits)) }
+        → Making M.refuses first maker.now start held visits
+        → WantsAfter M.refuses first visits) }
 {
     if maker.is_refused {
         return Err(NoMemory);

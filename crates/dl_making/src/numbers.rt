@@ -1,17 +1,19 @@
 //! The numbers of the files that a unit's runs name.
 
-ghost use Rattle.std.specs.Prelude.{◌≡◌, ℕ, ◌<◌, ◌^◌, Some, IfOk, OnOk, OnErr, length, map, replicate, slice_get};
+ghost use Rattle.std.specs.Prelude.{◌≡◌, ℕ, ◌+◌, ◌*◌, ◌<◌, ◌≤◌, ◌^◌, Some, IfOk, OnOk, OnErr, length, map, replicate, slice_get};
 ghost use Rattle.std.specs.List.{All, Contains};
 ghost use Rattle.std.specs.Option.{option_copied, option_map_or};
+ghost use Rattle.dl_field.specs.HeaderData.{header_cells};
 ghost use Rattle.dl_addr.specs.Texts.{files_end};
 ghost use Rattle.dl_pack.specs.Named.{Grows, Once};
 ghost use Rattle.dl_pack.specs.Shown.{named_files};
 ghost use Rattle.dl_stretch.specs.Held.{AreHeld, held};
 ghost use Rattle.dl_stretch.specs.Runs.{number_in};
 ghost use Rattle.dl_stretch.specs.ToldUnits.{file_of};
+ghost use Rattle.dl_making.specs.Few.{AddsFew, names_room, unit_text};
 ghost use Rattle.dl_making.specs.Numbers.{AreSeen, IsNumbered};
 ghost use Rattle.dl_making.specs.UnitFile.{file_in};
-ghost use Rattle.dl_memory.specs.Refusals.{WasRefused};
+ghost use Rattle.dl_memory.specs.Refusals.{IsRefused};
 
 use crate::files::{UnitFiles, file_number};
 use dl_head::Header;
@@ -30,7 +32,8 @@ pub(crate) fn numbers_of<M: SetMemory>(
     unit: &UnitFiles<'_, '_>,
     runs: &[Run],
 ) -> Result<(Vec<u64>, u64), NoMemory>
-    ensures refused { OnErr result (WasRefused (M.refuses memory.now)) }
+    ensures refused { OnErr result (IsRefused (M.refuses memory.now) (names_room (unit_text unit.now) names.old (length runs.now))) }
+    ensures few { OnOk result (AddsFew (3 * length runs.now) (length runs.now) (unit_text unit.now) names.old names.new) }
     ensures numbers { IfOk result (λ r. (file : ℕ) → Contains (map file_of runs.now) (held file)
         → slice_get (named_files names.new) (number_in r.0.items r.1 file) ≡ Some (file_in unit.now file)) }
     ensures held { IfOk result (λ r. AreHeld r.0.items r.1) }
@@ -48,7 +51,7 @@ pub(crate) fn numbers_of<M: SetMemory>(
 
 /// So many places of which no file was looked up.
 fn unseen<M: Memory>(memory: &M, count: usize) -> Result<Vec<u64>, NoMemory>
-    ensures refused { OnErr result (WasRefused (M.refuses memory.now)) }
+    ensures refused { OnErr result (IsRefused (M.refuses memory.now) count) }
     ensures unseen { IfOk result (λ numbers. numbers.items ≡ replicate count 0x7fffffffffffffff) }
 {
     let mut numbers = memory.with_capacity(count)?;
@@ -60,12 +63,17 @@ fn unseen<M: Memory>(memory: &M, count: usize) -> Result<Vec<u64>, NoMemory>
 
 /// A number from which on a unit's table has no files.
 fn files_end(header: Option<&Header>) -> usize
-    ensures { result ≡ option_map_or files_end (option_copied header.entry) 0 }
+    ensures end { result ≡ option_map_or files_end (option_copied header.entry) 0 }
+    ensures few { result ≤ option_map_or header_cells (option_copied header.entry) 0 + 1 }
 {
     match header {
-        Some(header) => header
-            .first_number()
-            .saturating_add(header.files().len() as u64) as usize,
+        Some(header) => {
+            // By what it says of a header, each file has a value.
+            let _params = header.params();
+            header
+                .first_number()
+                .saturating_add(header.files().len() as u64) as usize
+        }
         None => 0,
     }
 }
@@ -79,7 +87,8 @@ fn number_file<M: SetMemory>(
     file: u64,
 ) -> Result<(), NoMemory>
     requires { 0 < length numbers.old.items }
-    ensures refused { OnErr result (WasRefused (M.refuses memory.now)) }
+    ensures refused { OnErr result (IsRefused (M.refuses memory.now) (names_room (unit_text unit.now) names.old 1)) }
+    ensures few { OnOk result (AddsFew 3 1 (unit_text unit.now) names.old names.new) }
     ensures len { length numbers.new.items ≡ length numbers.old.items }
     ensures small { All (λ n. n < 2 ^ 63) numbers.old.items → All (λ n. n < 2 ^ 63) numbers.new.items }
     ensures seen { OnOk result (AreSeen unit.now (named_files names.old) numbers.old.items

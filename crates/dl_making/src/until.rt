@@ -1,7 +1,6 @@
 //! The index of the units of a section before its end or a fault. Section 6.2.4.
 
 ghost use Rattle.std.specs.Prelude.{◌≡◌, ◌≤◌, ℕ, List, Option, Some, IfOk, OnErr, OnOk, is_err, true, false};
-ghost use Rattle.dl_memory.specs.Refusals.{WasRefused};
 ghost use Rattle.std.specs.Io.KnownBytes.{Consumes};
 ghost use Rattle.dl_input.specs.Failing.{Blames};
 ghost use Rattle.dl_run.specs.declared.fault.RunFault.TheVariants as faults;
@@ -11,9 +10,8 @@ ghost use Rattle.dl_run.specs.Section.{Visit};
 ghost use Rattle.dl_making.specs.declared.maker.Maker as makers;
 ghost use Rattle.dl_making.specs.IsIndexOf.{IsIndexOf};
 ghost use Rattle.dl_making.specs.Makes.{id_kept};
-ghost use Rattle.dl_making.specs.Making.{Making, WasTold, told_after};
+ghost use Rattle.dl_making.specs.Making.{Making, WantsAfter, WasTold, told_after};
 ghost use Rattle.dl_making.specs.Until.{MakesUntil, MakesUntilAround, is_refused};
-ghost use Rattle.dl_making.specs.Wants.{WantsIndex};
 
 use crate::maker::Maker;
 use crate::making::{Table, told_index};
@@ -102,13 +100,13 @@ fn index_until<M: SetMemory>(
     table: &Table<'_>,
     fault: Option<RunFault>,
 ) -> Result<Vec<u8>, NoMemory>
-    requires { is_refused fault ≡ false → WasTold (λ memory. WasRefused (M.refuses memory)) maker.now }
+    requires { is_refused fault ≡ false → WasTold M.refuses maker.now }
     ensures told { IfOk result (λ index. (first : makers.Maker M) (start held : Option (List ℕ)) (visits : List Visit)
-        → Making (λ memory. WasRefused (M.refuses memory)) first maker.now start held visits
+        → Making M.refuses first maker.now start held visits
         → IsIndexOf table.now.all (id_kept table.now) (told_after first visits) index.items) }
     ensures wants { is_refused fault ≡ false → OnErr result ((first : makers.Maker M) (start held : Option (List ℕ))
-        (visits : List Visit) → Making (λ memory. WasRefused (M.refuses memory)) first maker.now start held visits
-        → WantsIndex (M.refuses first.memory.now) (told_after first visits)) }
+        (visits : List Visit) → Making M.refuses first maker.now start held visits
+        → WantsAfter M.refuses first visits) }
     ensures refused { fault ≡ Some faults.NoMemory → is_err result ≡ true }
 {
     if is_refused(fault) {

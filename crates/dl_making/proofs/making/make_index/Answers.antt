@@ -1,11 +1,8 @@
-use Rattle.std.proofs.Common.{None, ap, subst, ◌∙◌}
+use Rattle.std.proofs.Common.{None, ap, ◌∙◌}
 use Rattle.std.proofs.KnownBytes.{Appends-nil}
-use Rattle.dl_memory.specs.Refusals.{WasRefused}
 use Rattle.dl_print.specs.ValueText.{strings_of}
 use Rattle.dl_run.proofs.Names.{err_from_is_err_and}
 use Rattle.dl_run.specs.Commands.{strings_in}
-use Rattle.dl_making.specs.Making.{told_after}
-use Rattle.dl_making.specs.Wants.{WantsIndex}
 use Rattle.dl_making.proofs.MakerLemmas.{begins}
 use Rattle.dl_making.proofs.MakingLemmas.{Knows, fails, makes, was_told, unmade}
 use Rattle.dl_run.proofs.BlameLemmas.{blames_where, same_answer}
@@ -25,10 +22,9 @@ returns-in_err-summary-clause-ran g c =
     rw (p.1, p.2) (
       read.0,
       read.1,
-      fails options.dialect first c.args.table.now (strings_in options) knows (λ m. WasRefused (g.M.Memory.refuses m)) (g.M.Memory.refuses c.args.memory.now)
-          (subst (λ m. WasRefused (g.M.Memory.refuses m)) maker.memory) options.limit read.0
+      fails options.dialect first c.args.table.now (strings_in options) knows g.M.Memory.refuses c.args.memory.now maker.memory options.limit read.0
           (g.R.Read.remaining c.read_units.new.input) c.read_units.new.visitor None None _
-          (read.2 (begins (λ m. WasRefused (g.M.Memory.refuses m)) first None maker.sufficed maker.runs maker.names (Appends-nil None)) (Appends-nil None)),
+          (read.2 (begins g.M.Memory.refuses first None maker.sufficed maker.count maker.runs maker.names maker.texts (Appends-nil None)) (Appends-nil None)),
     )
 
 pub returns-in-Ok-clause-ran : goal.returns-in-Ok-clause-ran
@@ -42,11 +38,10 @@ returns-in-Ok-clause-ran g c =
     record { code = maker.code; directories = maker.directories; strings = ap strings_of maker.strings ∙ c.new-strings.ensures } in (
       read.0,
       read.1,
-      makes options.dialect first c.args.table.now (strings_in options) knows (λ m. WasRefused (g.M.Memory.refuses m)) (g.M.Memory.refuses c.args.memory.now)
-          (subst (λ m. WasRefused (g.M.Memory.refuses m)) maker.memory) options.limit read.0
+      makes options.dialect first c.args.table.now (strings_in options) knows g.M.Memory.refuses c.args.memory.now maker.memory options.limit read.0
           (g.R.Read.remaining c.read_units.new.input) new None None
           (record { index = c.in-Ok.index; summary = c.in_ok-summary.summary })
-          (read.2 (begins (λ m. WasRefused (g.M.Memory.refuses m)) first None maker.sufficed maker.runs maker.names (Appends-nil None)) (Appends-nil None))
+          (read.2 (begins g.M.Memory.refuses first None maker.sufficed maker.count maker.runs maker.names maker.texts (Appends-nil None)) (Appends-nil None))
           (λ visits m. c.in-Ok.ensures.index first None None visits m),
     )
 
@@ -56,15 +51,15 @@ told_index-requires g c =
     let maker = c.new-maker.ensures in
     let options = c.args.options.now in
     let first = c.new-maker.result in
-    was_told (λ m. WasRefused (g.M.Memory.refuses m)) options.dialect first options.limit read.0 (g.R.Read.remaining c.read_units.new.input) c.read_units.new.visitor
-    None None c.in_ok-summary.summary (read.2 (begins (λ m. WasRefused (g.M.Memory.refuses m)) first None maker.sufficed maker.runs maker.names (Appends-nil None)) (Appends-nil None))
+    was_told g.M.Memory.refuses options.dialect first options.limit read.0 (g.R.Read.remaining c.read_units.new.input) c.read_units.new.visitor
+    None None c.in_ok-summary.summary (read.2 (begins g.M.Memory.refuses first None maker.sufficed maker.count maker.runs maker.names maker.texts (Appends-nil None)) (Appends-nil None))
 
 pub returns-in_err-summary-clause-blames : goal.returns-in_err-summary-clause-blames
 returns-in_err-summary-clause-blames g c =
     let p = err_from_is_err_and c.from_residual.result c.from_residual.ensures.1 in
     let maker = c.new-maker.ensures in
     rw (p.1, p.2) (blames_where c.in_err-summary.ensures.blames (λ e. (
-      never_read (λ m. WasRefused (g.M.Memory.refuses m)) c.new-maker.result (begins (λ m. WasRefused (g.M.Memory.refuses m)) c.new-maker.result None maker.sufficed maker.runs maker.names (Appends-nil None)),
+      never_read g.M.Memory.refuses c.new-maker.result (begins g.M.Memory.refuses c.new-maker.result None maker.sufficed maker.count maker.runs maker.names maker.texts (Appends-nil None)),
       same_answer _ e,
     )))
 
@@ -84,17 +79,16 @@ returns-clause-ran g c =
     record { code = maker.code; directories = maker.directories; strings = ap strings_of maker.strings ∙ c.new-strings.ensures } in (
       read.0,
       read.1,
-      unmade options.dialect first c.args.table.now (strings_in options) knows (λ m. WasRefused (g.M.Memory.refuses m))
-          (g.M.Memory.refuses c.args.memory.now) (subst (λ m. WasRefused (g.M.Memory.refuses m)) maker.memory) options.limit
+      unmade options.dialect first c.args.table.now (strings_in options) knows g.M.Memory.refuses
+          c.args.memory.now maker.memory options.limit
           read.0 (g.R.Read.remaining c.read_units.new.input) c.read_units.new.visitor None None c.in_ok-summary.summary
-          (read.2 (begins (λ m. WasRefused (g.M.Memory.refuses m)) first None maker.sufficed maker.runs maker.names
+          (read.2 (begins g.M.Memory.refuses first None maker.sufficed maker.count maker.runs maker.names maker.texts
           (Appends-nil None)) (Appends-nil None))
-          (λ visits m. subst (λ mm. WantsIndex (g.M.Memory.refuses mm) (told_after first visits)) maker.memory
-          (c.in-Err.ensures.wants first None None visits m)),
+          (λ visits m. c.in-Err.ensures.wants first None None visits m),
     )
 
 pub returns-in-Ok-clause-over : goal.returns-in-Ok-clause-over
 returns-in-Ok-clause-over g c =
     let maker = c.new-maker.ensures in
-    only_left (λ done. done.1) (c.in_ok-summary.ensures.over (begins (λ m. WasRefused (g.M.Memory.refuses m)) c.new-maker.result None maker.sufficed maker.runs maker.names
+    only_left (λ done. done.1) (c.in_ok-summary.ensures.over (begins g.M.Memory.refuses c.new-maker.result None maker.sufficed maker.count maker.runs maker.names maker.texts
     (Appends-nil None)) (Appends-nil None))

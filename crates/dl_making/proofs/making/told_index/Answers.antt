@@ -1,8 +1,7 @@
-use Rattle.std.proofs.Common.{inl, inr, ◌<◌, arith, ◌∙◌, ap, sym, subst, ℕ, [], length}
+use Rattle.std.proofs.Common.{inl, inr, refl, ◌<◌, arith, ◌∙◌, ap, sym, subst, ℕ, [], length}
 use Rattle.std.specs.List.{All}
 use Rattle.std.proofs.lemmas.List.{length-map, length-take}
 use Rattle.std.specs.Option.{option_and_then}
-use Rattle.dl_memory.specs.Refusals.{WasRefused}
 use Rattle.dl_run.specs.RowsTold.{rows_after}
 use Rattle.dl_stretch.specs.ToldUnits.{told_of_units}
 use Rattle.dl_pack.specs.IndexOf.{files_told, index_of}
@@ -13,6 +12,8 @@ use Rattle.dl_making.specs.Making.{code_of, told_after}
 use Rattle.dl_pack.specs.Faults.{TellsUnnamed}
 use Rattle.dl_pack.specs.Telling.{named_told}
 use Rattle.dl_pack.proofs.FaultLemmas.{on_err}
+use Rattle.dl_pack.proofs.RoomLemmas.{at_most}
+use Rattle.dl_making.proofs.IndexWants.{files_want, index_wants, stretches_wants}
 use Rattle.dl_making.proofs.IndexLemmas.{is_index_of, named_is, rise}
 use Rattle.dl_making.proofs.NamedFiles.{none_unnamed}
 use Rattle.dl_making.proofs.making.told_index.Goals as goal
@@ -59,14 +60,19 @@ returns-then-maker-clause-wants g c first start held visits m = inl (m.refused c
 
 pub returns-in_err-stretches-clause-wants : goal.returns-in_err-stretches-clause-wants
 returns-in_err-stretches-clause-wants g c =
-    let refused = c.in_err-stretches.ensures.refused in
     on_err c.from_residual.result (λ first start held visits m.
-    inl (subst (λ memory. WasRefused (g.M.Memory.refuses memory)) m.same.memory (refused.0, refused.2)))
+    inl (stretches_wants first c.args.maker.now start held visits m (m.few c.if-maker.false) c.in_err-stretches.ensures.refused))
 
 pub returns-in-Err-NoMemory-clause-wants : goal.returns-in-Err-NoMemory-clause-wants
 returns-in-Err-NoMemory-clause-wants g c first start held visits m =
-    let fails = rw c.in-Err-NoMemory.field-0-is at c.in-Err-NoMemory.ensures.fails in
-    inl (subst (λ memory. WasRefused (g.M.Memory.refuses memory)) m.same.memory fails.1)
+    let names = c.args.maker.now.names in
+    let wants = rw c.in-Err-NoMemory.field-0-is at c.in-Err-NoMemory.ensures.wants in
+    inl (elim (wants refl) [
+      | inl refused ↦ files_want first c.args.maker.now start held visits m (m.few c.if-maker.false)
+          (at_most _ _ _ (omega (arith, length-map (files_of names) (named (texts_of names)))) refused)
+      | inr index ↦ index_wants first c.args.maker.now start held visits m (m.few c.if-maker.false) index.0
+          (c.in_ok-stretches.ensures.few index.0 index.1) index.2
+    ])
 
 pub returns-in-Err-TooMany-clause-wants : goal.returns-in-Err-TooMany-clause-wants
 returns-in-Err-TooMany-clause-wants g c first start held visits m =

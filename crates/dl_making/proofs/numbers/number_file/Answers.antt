@@ -2,6 +2,9 @@ use Rattle.std.proofs.Common.{◌≡◌, ap, ◌∙◌, ◌-◌, ◌<◌, ◌^�
 use Rattle.std.specs.Global.{Vec}
 use Rattle.std.proofs.lemmas.List.Elements.{All-set}
 use Rattle.dl_pack.specs.Shown.{named_files}
+use Rattle.std.proofs.Common.{refl}
+use Rattle.dl_making.specs.Few.{unit_text}
+use Rattle.dl_making.proofs.FewLemmas.{adds_none}
 use Rattle.dl_making.proofs.NumberLemmas.{seen_set, numbered_set, others_set, numbered_seen, any_default}
 use Rattle.dl_making.proofs.numbers.number_file.Goals as goal
 
@@ -34,3 +37,7 @@ returns-else-index-eq-UNSEEN-clause-numbered g c seen =
     c.min-entry.result c.requires
     (c.min-entry.ensures ∙ ap (λ n. min c.args.file (n - 1)) (c.len.ensures ∙ len_of c.args.numbers.now)) (λ e. c.if-index-eq-UNSEEN.false (c.index.ensures
     ∙ any_default c.args.numbers.now.items c.min-entry.result _ (omega (arith, c.requires, c.min-entry.ensures, c.len.ensures, len_of c.args.numbers.now)) ∙ e)) seen
+
+pub returns-else-index-eq-UNSEEN-clause-few : goal.returns-else-index-eq-UNSEEN-clause-few
+returns-else-index-eq-UNSEEN-clause-few g c =
+    adds_none c.args.names.now c.args.names.now refl refl 3 1 (unit_text c.args.unit.now)

@@ -1,6 +1,5 @@
 use Rattle.std.proofs.Common.{None, ap, subst, sym, ◌∙◌}
 use Rattle.std.proofs.KnownBytes.{Appends-nil}
-use Rattle.dl_memory.specs.Refusals.{WasRefused}
 use Rattle.dl_print.specs.ValueText.{strings_of}
 use Rattle.dl_run.specs.Commands.{strings_in}
 use Rattle.dl_making.specs.Until.{MakesUntil, is_refused}
@@ -30,10 +29,10 @@ returns-clause-ran g c =
           (until g.M.Memory.refuses options.dialect first c.args.table.now (strings_in options) knows options.limit read.0 left
           c.read_units-ended.new.visitor None None index ended
           (λ e. c.index_until.ensures.refused (refused_by ended c.err.result c.err.ensures.value e))
-          (λ some. told_index_is (λ m. WasRefused (g.M.Memory.refuses m)) g.M.Memory.refuses c.args.table.now
+          (λ some. told_index_is g.M.Memory.refuses c.args.table.now
           c.read_units-ended.new.visitor index c.index_until.ensures.told
           (c.index_until.ensures.wants (ap is_refused c.err.ensures.value ∙ some)))
-          (read.2 (begins (λ m. WasRefused (g.M.Memory.refuses m)) first None maker.sufficed maker.runs maker.names
+          (read.2 (begins g.M.Memory.refuses first None maker.sufficed maker.count maker.runs maker.names maker.texts
           (Appends-nil None)) (Appends-nil None))),
     )
 
@@ -43,16 +42,16 @@ index_until-requires g c =
     let maker = c.new-maker.ensures in
     let first = c.new-maker.result in
     let ended = c.read_units-ended.result in
-    λ some. told_until (λ m. WasRefused (g.M.Memory.refuses m)) c.args.options.now.dialect first c.args.options.now.limit read.0
+    λ some. told_until g.M.Memory.refuses c.args.options.now.dialect first c.args.options.now.limit read.0
     (g.R.Read.remaining c.read_units-ended.new.input) c.read_units-ended.new.visitor None None ended
     (ap is_refused (sym c.err.ensures.value) ∙ some)
-    (read.2 (begins (λ m. WasRefused (g.M.Memory.refuses m)) first None maker.sufficed maker.runs maker.names (Appends-nil None)) (Appends-nil None))
+    (read.2 (begins g.M.Memory.refuses first None maker.sufficed maker.count maker.runs maker.names maker.texts (Appends-nil None)) (Appends-nil None))
 
 pub returns-clause-blames : goal.returns-clause-blames
 returns-clause-blames g c =
     let maker = c.new-maker.ensures in
     blames_where c.read_units-ended.ensures.blames (λ e. (
-      never_read (λ m. WasRefused (g.M.Memory.refuses m)) c.new-maker.result (begins (λ m. WasRefused (g.M.Memory.refuses m)) c.new-maker.result None maker.sufficed maker.runs maker.names (Appends-nil None)),
+      never_read g.M.Memory.refuses c.new-maker.result (begins g.M.Memory.refuses c.new-maker.result None maker.sufficed maker.count maker.runs maker.names maker.texts (Appends-nil None)),
       e,
     ))
 
@@ -60,5 +59,5 @@ pub returns-clause-over : goal.returns-clause-over
 returns-clause-over g c =
     let maker = c.new-maker.ensures in
     only_over (g.R.Source.over c.read_units-ended.new.input) c.read_units-ended.result (c.read_units-ended.ensures.over
-    (begins (λ m. WasRefused (g.M.Memory.refuses m)) c.new-maker.result None maker.sufficed maker.runs maker.names
+    (begins g.M.Memory.refuses c.new-maker.result None maker.sufficed maker.count maker.runs maker.names maker.texts
     (Appends-nil None)) (Appends-nil None))

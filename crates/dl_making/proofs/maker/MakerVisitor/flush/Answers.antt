@@ -1,7 +1,6 @@
-use Rattle.dl_memory.specs.Refusals.{WasRefused}
 use Rattle.dl_making.proofs.MakerLemmas.{settles}
 use Rattle.dl_making.proofs.maker.MakerVisitor.flush.Goals as goal
 
 pub returns-clause-settled : goal.returns-clause-settled
 returns-clause-settled g c flow first start visits s =
-    settles (λ memory. WasRefused (g.M.Memory.refuses memory)) first c.args.self.now start (g.W.Write.contents c.args._output.now) visits flow s
+    settles g.M.Memory.refuses first c.args.self.now start (g.W.Write.contents c.args._output.now) visits flow s

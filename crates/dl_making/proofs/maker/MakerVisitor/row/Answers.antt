@@ -5,8 +5,8 @@ use Rattle.dl_run.specs.Section.{of_row}
 use Rattle.dl_run.proofs.VisitLemmas.{rows_after-append}
 use Rattle.dl_addr.specs.Code.{is_code}
 use Rattle.dl_stretch.specs.Stands.{Stands}
-use Rattle.dl_memory.specs.Refusals.{WasRefused}
 use Rattle.dl_making.specs.Making.{code_of}
+use Rattle.dl_making.proofs.KeepLemmas.{row_wants}
 use Rattle.dl_making.proofs.MakerLemmas.{goes_on, stops}
 use Rattle.dl_making.proofs.maker.MakerVisitor.row.Goals as goal
 
@@ -19,13 +19,14 @@ returns-in-Ok-clause-heard g c first start visits s =
     goes_on first c.args.self.now (record c.args.self.now { runs = c.row.new.self }) start
     (g.W.Write.contents c.args._output.now) visits more s
     (λ rows n x. refl) (record { memory = refl; code = refl; directories = refl; strings = refl }) refl refl refl
+    c.row.ensures.more c.row.ensures.whole
     (λ units e stands. subst (Stands live c.row.new.self units) (sym (rows_after-append [] visits more))
     (c.in-Ok.ensures.taken live units rows stands (λ none. c.begins_live-is_live.ensures live units rows stands none
     ∙ ap (λ code. is_code (option_copied code) r.address) s.same.code)))
 
 pub returns-in-Err-clause-heard : goal.returns-in-Err-clause-heard
 returns-in-Err-clause-heard g c first start visits s =
-    stops (λ memory. WasRefused (g.M.Memory.refuses memory)) first c.args.self.now (record c.args.self.now { runs = c.row.new.self; is_refused = true }) start
+    stops g.M.Memory.refuses first c.args.self.now (record c.args.self.now { runs = c.row.new.self; is_refused = true }) start
     (g.W.Write.contents c.args._output.now) visits (of_row c.args.row.now) s
     (record { memory = refl; code = refl; directories = refl; strings = refl }) refl refl
-    (c.in-Err.ensures.refused.0, c.in-Err.ensures.refused.2)
+    (row_wants first c.args.self.now start (g.W.Write.contents c.args._output.now) visits s c.in-Err.ensures.refused)

@@ -1,4 +1,4 @@
-use Rattle.std.proofs.Common.{[], ◌∷◌, refl, subst, sym}
+use Rattle.std.proofs.Common.{arith, [], ◌∷◌, refl, subst, sym}
 use Rattle.dl_run.specs.Section.{of_open}
 use Rattle.dl_run.proofs.VisitLemmas.{rows_after-append}
 use Rattle.dl_stretch.specs.Stands.{Stands}
@@ -11,4 +11,5 @@ returns-clause-heard g c first start visits s =
     let more = of_open ∷ [] in
     goes_on first c.args.self.now c.args.self.now start (g.W.Write.contents c.args._output.now) visits more s
     (λ rows n x. refl) (record { memory = refl; code = refl; directories = refl; strings = refl }) refl refl refl
+    (omega arith) refl
     (λ units e stands. subst (Stands (code_of first) c.args.self.now.runs units) (sym (rows_after-append [] visits more)) stands)
