@@ -1,7 +1,7 @@
 //! The words of `addr` that name the file of which an index has to be made.
 use crate::refusal::refusal;
 use clap::error::ErrorKind;
-use dl_cmd::{Job, read_job};
+use dl_cmd::{Job, Words, read_words};
 use std::test::Fail;
 
 /// A command line, the path of its FILE, that of the file of which an index has to be made, and the addresses.
@@ -65,10 +65,15 @@ const ROWS: &[Row] = &[
     (&["dwline", "addr", "program.dli"], INDEX, None, &[]),
 ];
 
-fn says(job: Option<&Job<'_>>, row: &Row) -> bool {
+fn says(said: Option<&Words<'_>>, row: &Row) -> bool {
     let (_, file, made_of, addresses) = *row;
-    match job {
-        Some(Job::Addr(said)) => {
+    match said {
+        Some(
+            Words {
+                job: Job::Addr(said),
+                ..
+            },
+        ) => {
             said.file == file && said.made_of == made_of && said.addresses.as_slice() == addresses
         }
         _ => false,
@@ -78,8 +83,8 @@ fn says(job: Option<&Job<'_>>, row: &Row) -> bool {
 #[test]
 fn words_of_addr(rt: HostRuntime) -> Result<(), Fail> {
     for row in ROWS {
-        let job = read_job(rt.alloc(), row.0)?;
-        assert!(rt; says(job.as_ref(), row), "{:?}", row.0);
+        let said = read_words(rt.alloc(), row.0)?;
+        assert!(rt; says(said.as_ref(), row), "{:?}", row.0);
     }
     Ok(())
 }

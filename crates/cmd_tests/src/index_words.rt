@@ -1,7 +1,7 @@
 //! The words of `index`, and those that it refuses.
 use crate::refusal::refusal;
 use clap::error::ErrorKind;
-use dl_cmd::{IndexWords, Job, UnitWords, read_job};
+use dl_cmd::{IndexWords, Job, UnitWords, Words, read_words};
 use std::test::Fail;
 
 /// What is said of `program`, of which an index is made, where nothing else is.
@@ -85,9 +85,14 @@ const ROWS: &[(&[&str], IndexWords<'static>)] = &[
     ),
 ];
 
-fn says(job: Option<&Job<'_>>, words: &IndexWords<'_>) -> bool {
-    match job {
-        Some(Job::Index(said)) => said == words,
+fn says(said: Option<&Words<'_>>, words: &IndexWords<'_>) -> bool {
+    match said {
+        Some(
+            Words {
+                job: Job::Index(said),
+                ..
+            },
+        ) => said == words,
         _ => false,
     }
 }
@@ -95,8 +100,8 @@ fn says(job: Option<&Job<'_>>, words: &IndexWords<'_>) -> bool {
 #[test]
 fn words_of_index(rt: HostRuntime) -> Result<(), Fail> {
     for (line, words) in ROWS {
-        let job = read_job(rt.alloc(), line)?;
-        assert!(rt; says(job.as_ref(), words), "{line:?}");
+        let said = read_words(rt.alloc(), line)?;
+        assert!(rt; says(said.as_ref(), words), "{line:?}");
     }
     Ok(())
 }

@@ -1,6 +1,6 @@
-//! Want of memory while the words of the command line are read. What they ask for is in the contract of `read_job`,
+//! Want of memory while the words of the command line are read. What they ask for is in the contract of `read_words`,
 //! and the built program is tried with words that are refused.
-use dl_cmd::{read_job, word_status};
+use dl_cmd::{read_words, word_status};
 use std::test::Fail;
 use test_support::{hoard_but, hoard_most};
 
@@ -11,11 +11,11 @@ fn wants_memory(rt: HostRuntime) -> Result<(), Fail> {
     let _most = hoard_most(rt.alloc())?;
     for step in 0..200usize {
         let blocks = hoard_but(rt.alloc(), 2048 + step * 1024)?;
-        let read = read_job(rt.alloc(), words.as_slice());
+        let read = read_words(rt.alloc(), words.as_slice());
         drop(blocks);
         match read {
-            Ok(job) => {
-                assert!(rt; job.is_some());
+            Ok(said) => {
+                assert!(rt; said.is_some());
                 assert!(rt; 4 < refusals);
                 return Ok(());
             }

@@ -2,7 +2,7 @@
 use Rattle.std.proofs.Common.{◌≡◌, ◌∙◌, ◌&&◌, ◌||◌, Bool, ℕ, true, false, not, List, [], ◌∷◌, Option, Some, None, Result, Ok, Err}
 use Rattle.std.proofs.Common.{IsErrAnd, refl, sym, ap, ap₂, subst, codes, is_some, true≢false}
 use Rattle.std.proofs.lemmas.Result.{IfOk-weaker}
-use Rattle.std.specs.Prelude.{⊤, Box, IfOk, find, fold, if◌then◌else◌, option_map, unwrap_or}
+use Rattle.std.specs.Prelude.{⊤, Box, IfOk, IfSome, find, fold, if◌then◌else◌, option_map, unwrap_or}
 use Rattle.std.specs.Option.{option_map_or}
 use Rattle.std.specs.Box.{box_value}
 use Rattle.std.specs.List.{list_all}
@@ -21,17 +21,19 @@ use Rattle.clap.specs.Walk.{subcommand_or_other, to_positional, trailing, value,
 use Rattle.clap.specs.Walk.{finished, settled, word_met}
 use Rattle.clap.specs.declared.error.Error.{Error}
 use Rattle.clap.specs.declared.error.kind.ErrorKind.{ErrorKind}
-use Rattle.clap.specs.declared.error.kind.ErrorKind.TheVariants.{DisplayHelp, InvalidSubcommand, OutOfMemory}
+use Rattle.clap.specs.declared.error.kind.ErrorKind.TheVariants.{ArgumentConflict, DisplayHelp, InvalidSubcommand}
+use Rattle.clap.specs.declared.error.kind.ErrorKind.TheVariants.{MissingRequiredArgument, OutOfMemory}
 use Rattle.clap.specs.declared.parser.matches.SubCommand.{SubCommand}
 use Rattle.clap.specs.declared.parser.matches.ArgMatches.TheViews.{out-SubCommand}
 use Rattle.clap.specs.Words.{is_simple, kind_of, subcommand_of, subcommand_rows}
 use Rattle.clap.proofs.FaultLemmas.{failed_up, first_fails}
 use Rattle.clap.proofs.WalkLemmas.{both}
 use Rattle.dl_cmd.specs.CommandLine.{command_line}
-use Rattle.dl_cmd.specs.Job.{Request}
+use Rattle.dl_cmd.specs.Job.{Request, WordTexts}
 use Rattle.dl_cmd.specs.Memory.{WantsRefused, clap_refused}
-use Rattle.dl_cmd.specs.Refusals.{refusal_of, word_faults}
-use Rattle.dl_cmd.specs.Words.{request_of, requested}
+use Rattle.dl_cmd.specs.Refusals.{has_conflict, lacks_word, refusal_of, word_faults}
+use Rattle.dl_cmd.specs.Words.{files_words_of, follow_by, follow_said_of, follow_words_of, request_of, requested, said}
+use Rattle.dl_cmd.specs.Words.{said_of}
 
 abbrev is_nil : {X : Type 0} → List X → Bool
 is_nil [] = true
@@ -255,16 +257,16 @@ subcommand_entered (Some b) name rows named has =
     sym (ap₂ (λ (n : Text) (r : List Row). Some (n, r)) (ap (λ (x : Option Text). unwrap_or x name) named)
     (ap (λ (x : Option (List Row)). unwrap_or x rows) has))
 
--- what these words ask for is what the subcommand asks for that a parse of them met
-pub request_met : {Z : Type 0} {X : Type 0} (app : App) (words : List Text) (o : Option (Box SubCommand Z))
+-- the subcommand that these words name is the one that a parse of them met
+pub named_by : {Z : Type 0} {X : Type 0} (app : App) (words : List Text) (o : Option (Box SubCommand Z))
     (name : Text) (rows : List Row) → app ≡ command_line
     → (is_simple app ≡ true → X × (subcommand_rows o ≡ subcommand_of app words))
     → Some name ≡ option_map (λ b. (out-SubCommand (box_value b)).name.now) o
     → Some rows ≡ option_map (λ p. p.1) (subcommand_rows o)
-    → requested (subcommand_of command_line words) ≡ request_of name rows
-request_met app words o name rows is matches named has =
+    → subcommand_of command_line words ≡ Some (name, rows)
+named_by app words o name rows is matches named has =
     let met = (matches (rw is refl)).1 ∙ ap (λ (a : App). subcommand_of a words) is in
-    ap requested (sym met ∙ subcommand_entered o name rows named has)
+    sym met ∙ subcommand_entered o name rows named has
 
 -- a parse that answers Ok found no fault
 pub no_fault : (app : App) (words : List Text) → app ≡ command_line
@@ -285,21 +287,88 @@ pub clap_wants : {T : Type 0} (r : Result T Error) (e : Error) → IsErrAnd r (�
 clap_wants (Ok x) e err = tt
 clap_wants (Err y) e err = λ wants. clap_refused e (subst (λ (z : Error). kind_of z ≡ OutOfMemory) err wants)
 
--- past a parse the kinds are those of the job
-pub refused_by : {T : Type 0} (r : Result T Error) (words : List Text) (request : Option Request)
-    → fault_of command_line words ≡ [] → requested (subcommand_of command_line words) ≡ request
-    → FailsBy (option_map_or refusal_of request []) r → FailsBy (word_faults words) r
-refused_by r words request none is kinds =
-    let past = ap (λ (ks : Kinds). or_else ks (option_map_or refusal_of (requested (subcommand_of command_line words)) []))
-    none ∙ ap (λ (o : Option Request). option_map_or refusal_of o []) is in
+-- past a parse the kinds are those of what the words say
+pub refused_by : {T : Type 0} (r : Result T Error) (words : List Text) (name : Text) (rows : List Row)
+    → fault_of command_line words ≡ [] → subcommand_of command_line words ≡ Some (name, rows)
+    → FailsBy (option_map_or refusal_of (said_of name rows) []) r → FailsBy (word_faults words) r
+refused_by r words name rows none is kinds =
+    let past = ap (λ (ks : Kinds). or_else ks (option_map_or refusal_of (said (subcommand_of command_line words)) []))
+    none ∙ ap (λ (o : Option (Text × List Row)). option_map_or refusal_of (said o) []) is in
     subst (λ (ks : Kinds). FailsBy ks r) (sym past) kinds
 
-some_made : {T : Type 0} (made : T → Request) (job : Option T) → is_some job ≡ is_some (option_map made job)
+some_made : {T : Type 0} (made : T → Request) (words : Option T) → is_some words ≡ is_some (option_map made words)
 some_made made None = refl
-some_made made (Some job) = refl
+some_made made (Some words) = refl
 
--- where words ask for a job there is one
-pub some_job : {T : Type 0} (r : Result (Option T) Error) (made : T → Request) (request : Option Request)
-    → is_some request ≡ true → IfOk r (λ job. option_map made job ≡ request) → IfOk r (λ job. is_some job ≡ true)
-some_job r made request some same =
-    IfOk-weaker r _ _ (λ job is. some_made made job ∙ ap is_some is ∙ some) same
+-- what was asked of the subcommand that words name is what they ask for
+pub asked_by : {T : Type 0} (r : Result (Option T) Error) (made : T → Request) (words : List Text) (name : Text)
+    (rows : List Row) → subcommand_of command_line words ≡ Some (name, rows)
+    → IfOk r (λ o. option_map made o ≡ request_of name rows)
+    → IfOk r (λ o. option_map made o ≡ requested (subcommand_of command_line words))
+asked_by r made words name rows is same =
+    IfOk-weaker r _ _ (λ o are. are ∙ sym (ap requested is)) same
+
+-- where words have no fault something is asked for
+pub some_asked : {T : Type 0} (r : Result (Option T) Error) (made : T → Request) (words : List Text)
+    → fault_of command_line words ≡ []
+    → IfOk r (λ o. option_map made o ≡ requested (subcommand_of command_line words)) → IfOk r (λ o. is_some o ≡ true)
+some_asked r made words none same =
+    IfOk-weaker r _ _ (λ o are. some_made made o ∙ ap is_some are ∙ asks words none) same
+
+said_beside : {T X : Type 0} (made : T → X) (x : X) (o : Option T) → is_some o ≡ true
+    → IfSome o (λ w. made w ≡ x) → option_map made o ≡ Some x
+said_beside made x None some are = absurd (true≢false (sym some))
+said_beside {X = X} made x (Some w) some are = ap (λ (y : X). Some y) are
+
+-- what is said beside a job, of the subcommand that words name
+pub beside_by : {T X : Type 0} (r : Result (Option T) Error) (made : T → X) (of : Text → List Row → X)
+    (words : List Text) (name : Text) (rows : List Row) → subcommand_of command_line words ≡ Some (name, rows)
+    → IfOk r (λ o. is_some o ≡ true) → IfOk r (λ o. IfSome o (λ w. made w ≡ of name rows))
+    → IfOk r (λ o. option_map made o ≡ option_map (λ p. of p.0 p.1) (subcommand_of command_line words))
+beside_by (Ok o) made of words name rows is some are =
+    said_beside made (of name rows) o some are ∙ sym (ap (option_map (λ (p : Text × List Row). of p.0 p.1)) is)
+beside_by (Err e) made of words name rows is some are = tt
+
+is_memory : ErrorKind → Bool
+is_memory OutOfMemory = true
+is_memory _ = false
+
+wants_memory : Kinds → Bool
+wants_memory [] = false
+wants_memory (k ∷ ks) = is_memory k
+
+refusal_by : (conflict lack : Bool) (k : ErrorKind)
+    → (if conflict then ArgumentConflict ∷ [] else (if lack then MissingRequiredArgument ∷ [] else [])) ≡ k ∷ []
+    → k ≡ OutOfMemory → ⊥
+unfolding wants_memory is_memory
+refusal_by true lack k is memory = true≢false (sym (ap wants_memory is ∙ ap is_memory memory))
+refusal_by false true k is memory = true≢false (sym (ap wants_memory is ∙ ap is_memory memory))
+refusal_by false false k is memory = absurd (no_kind k [] (sym is))
+
+-- no words are refused for want of memory
+pub refused_for_words : (w : WordTexts) (k : ErrorKind) → refusal_of w ≡ k ∷ [] → k ≡ OutOfMemory → ⊥
+refused_for_words w k = refusal_by (has_conflict w) (lacks_word w) k
+
+-- what words say beside a job, as they stand
+said_rows : (name : Text) (rows : List Row) (w : WordTexts) (request : Option Request)
+    → Some w ≡ option_map (λ r. record {
+      request = r;
+      follow = follow_said_of rows;
+      files = files_words_of name rows;
+    }) request
+    → (w.follow ≡ follow_said_of rows) × (w.files ≡ files_words_of name rows)
+said_rows name rows w None is = absurd (none-some w (sym is))
+said_rows name rows w (Some r) is =
+    let same = ap (λ (o : Option WordTexts). unwrap_or o w) is in
+    (ap (λ (x : WordTexts). x.follow) same, ap (λ (x : WordTexts). x.files) same)
+
+-- and with what the subcommand does by it
+pub beside_job : (name : Text) (rows : List Row) (w last : WordTexts) → Some w ≡ said_of name rows
+    → last ≡ record w { follow = follow_by name w.follow }
+    → (last.follow ≡ follow_words_of name rows) × (last.files ≡ files_words_of name rows)
+beside_job name rows w last says is =
+    let rows_say = said_rows name rows w (request_of name rows) says in
+    (
+      ap (λ (x : WordTexts). x.follow) is ∙ ap (follow_by name) rows_say.0,
+      ap (λ (x : WordTexts). x.files) is ∙ rows_say.1,
+    )

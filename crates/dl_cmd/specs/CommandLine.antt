@@ -32,6 +32,14 @@ op_rule = record (new_rule (codes "op")) {
   defaults = codes "0" ∷ [];
 }
 
+-- `--debug-dir DIR`, any number of them
+abbrev pub debug_dir_rule : Rule
+debug_dir_rule = record (new_rule (codes "debug-dir")) {
+  long = Some (codes "debug-dir");
+  action = Some Append;
+  value_names = 1;
+}
+
 -- `FILE`
 abbrev pub file_rule : Rule
 file_rule = record (new_rule (codes "file")) { value_names = 1 }
@@ -90,6 +98,11 @@ with_to_5 a =
 abbrev pub with_keep_going : App → App
 with_keep_going a = with_rule a (switch_rule (codes "keep-going"))
 
+-- which files are read in place of one without a line table
+abbrev pub with_follow : App → App
+with_follow a =
+    with_rule (with_rule (with_rule a debug_dir_rule) (switch_rule (codes "no-follow"))) (switch_rule (codes "verbose"))
+
 -- where the section comes from, in its order
 abbrev pub with_input : App → App
 with_input a = with_rule (with_rule a big_rule) file_rule
@@ -113,44 +126,45 @@ with_settings a =
 abbrev pub with_addresses : App → App
 with_addresses a =
     with_rule (with_rule (with_rule (with_rule (with_rule (with_rule
-    (with_rule (with_rule (with_units (with_settings a)) (value_rule (codes "comp-dir")))
-    (value_rule (codes "for"))) big_rule) line_str_rule) str_rule)
+    (with_follow (with_rule (with_rule (with_units (with_settings a)) (value_rule (codes "comp-dir")))
+    (value_rule (codes "for")))) big_rule) line_str_rule) str_rule)
     exe_rule) file_rule) addresses_rule
 
 -- `addr [-a] [-s] [--json] [--hex] [--base ADDRESS] [--all] [--stop] [-j NAME] [--older SIZE] [--address-size SIZE]
--- [--version-5] [--comp-dir DIR] [--for FILE] [--big] [--line-str PATH] [--str PATH] FILE [ADDRESS]..`, or with `-e FILE` in place
--- of `FILE`
+-- [--version-5] [--comp-dir DIR] [--for FILE] [--debug-dir DIR].. [--no-follow] [--verbose] [--big] [--line-str PATH]
+-- [--str PATH] FILE [ADDRESS]..`, or with `-e FILE` in place of `FILE`
 abbrev pub addr_app : App
 addr_app = with_addresses (new_app (codes "addr"))
 
 -- what an index is made of
 abbrev pub with_making : App → App
 with_making a =
-    with_rule (with_units_of_file (with_rule (with_keep_going (with_rule a (switch_rule (codes "all")))) section_rule))
-    (value_rule (codes "comp-dir"))
+    with_follow (with_rule (with_units_of_file (with_rule (with_keep_going (with_rule a (switch_rule (codes "all"))))
+    section_rule)) (value_rule (codes "comp-dir")))
 
--- `index [--all] [--keep-going] [-j NAME] [--address-size SIZE] [--version-5] [--comp-dir DIR] -o PATH FILE`, or
--- `index --list FILE`
+-- `index [--all] [--keep-going] [-j NAME] [--address-size SIZE] [--version-5] [--comp-dir DIR] [--debug-dir DIR]..
+-- [--no-follow] [--verbose] -o PATH FILE`, or `index [--verbose] --list FILE`
 abbrev pub index_app : App
 index_app =
     with_rule (with_rule (with_rule (with_making (new_app (codes "index"))) (switch_rule (codes "list"))) output_rule)
     index_file_rule
 
--- `dump [--keep-going] [--older SIZE] [--address-size SIZE] [--version-5] [--big] [--line-str PATH] [--str PATH]
--- [FILE]`
+-- `dump [--keep-going] [--older SIZE] [--address-size SIZE] [--version-5] [--debug-dir DIR].. [--no-follow] [--verbose]
+-- [--big] [--line-str PATH] [--str PATH] [FILE]`
 abbrev pub dump_app : App
-dump_app = with_strings (with_units (with_keep_going (new_app (codes "dump"))))
+dump_app = with_strings (with_follow (with_units (with_keep_going (new_app (codes "dump")))))
 
--- `check [--keep-going] [--older SIZE] [--address-size SIZE] [--version-5] [--big] [FILE]`
+-- `check [--keep-going] [--older SIZE] [--address-size SIZE] [--version-5] [--debug-dir DIR].. [--no-follow] [--verbose]
+-- [--big] [FILE]`
 abbrev pub check_app : App
-check_app = with_input (with_units (with_keep_going (new_app (codes "check"))))
+check_app = with_input (with_follow (with_units (with_keep_going (new_app (codes "check")))))
 
--- `find ADDRESS [--op N] [-j NAME] [--older SIZE] [--address-size SIZE] [--version-5] [--big] [--line-str PATH]
--- [--str PATH] [FILE]`
+-- `find ADDRESS [--op N] [-j NAME] [--older SIZE] [--address-size SIZE] [--version-5] [--debug-dir DIR].. [--no-follow]
+-- [--verbose] [--big] [--line-str PATH] [--str PATH] [FILE]`
 abbrev pub find_app : App
 find_app =
-    with_strings (with_units (with_rule (with_rule (with_rule (new_app (codes "find")) address_rule) op_rule)
-    section_rule))
+    with_strings (with_follow (with_units
+    (with_rule (with_rule (with_rule (new_app (codes "find")) address_rule) op_rule) section_rule)))
 
 -- `copy [--to-5] [--older SIZE] [--address-size SIZE] [--comp-dir DIR] [--big] [FILE]`
 abbrev pub copy_app : App

@@ -1,10 +1,13 @@
 -- What the words ask for, as a job.
-use Rattle.std.specs.Prelude.{ℕ, Bool, List, Option, map, option_map}
+use Rattle.std.specs.Prelude.{ℕ, Bool, List, Option, Some, map, option_map}
 use Rattle.dl_cmd.specs.declared.job.Job.{Job}
 use Rattle.dl_cmd.specs.declared.job.Job.TheVariants.{Addr, Dump, Check, Find, Copy, Index}
 use Rattle.dl_cmd.specs.declared.job.AddrWords.{AddrWords}
+use Rattle.dl_cmd.specs.declared.job.FilesWords.{FilesWords}
+use Rattle.dl_cmd.specs.declared.job.FollowWords.{FollowWords}
 use Rattle.dl_cmd.specs.declared.job.IndexWords.{IndexWords}
 use Rattle.dl_cmd.specs.declared.job.UnitWords.{UnitWords}
+use Rattle.dl_cmd.specs.declared.job.Words.{Words}
 
 -- the text of a word, by its bytes
 abbrev pub Text : Type 0
@@ -46,6 +49,19 @@ pub record IndexTexts : Type 0 where
   pub units : UnitTexts
   pub comp_dir : Option Text
 
+-- where the line table of a file that has none is looked for, by the texts of its words
+pub record FollowTexts : Type 0 where
+  pub debug_dirs : List Text
+  pub no_follow : Bool
+  pub verbose : Bool
+
+-- the files of `check` beside the first, by the texts of its words
+pub record FilesTexts : Type 0 where
+  pub others : List Text
+  pub files_from : Option Text
+  pub null : Bool
+  pub progress : Bool
+
 -- a job, by the texts of its words
 pub data Request : Type 0 where
   dump : (file : Option Text) (big : Bool) (units : UnitTexts) (line_str strings : Option Text)
@@ -56,6 +72,23 @@ pub data Request : Type 0 where
   copy : (file : Option Text) (big : Bool) (units : UnitTexts) (to_5 : Bool) (comp_dir : Option Text) → Request
   addr : AddrTexts → Request
   index : IndexTexts → Request
+
+-- all that words say, by their texts
+pub record WordTexts : Type 0 where
+  pub request : Request
+  pub follow : FollowTexts
+  pub files : FilesTexts
+
+-- the same job over the file at this path
+abbrev pub with_file : Request → (path : Text) → Request
+with_file (dump file big units line_str strings keep_going) path =
+    dump (Some path) big units line_str strings keep_going
+with_file (check file big units keep_going) path = check (Some path) big units keep_going
+with_file (find file big units address op section line_str strings) path =
+    find (Some path) big units address op section line_str strings
+with_file (copy file big units to_5 comp_dir) path = copy (Some path) big units to_5 comp_dir
+with_file (addr w) path = addr (record w { file = Some path })
+with_file (index w) path = index (record w { file = Some path })
 
 abbrev pub unit_words_made : UnitWords → UnitTexts
 unit_words_made w = record {
@@ -109,3 +142,25 @@ request_made (Copy file big units to_5 comp_dir) =
     copy (option_map (λ s. s.now) file) big (unit_words_made units) to_5 (option_map (λ s. s.now) comp_dir)
 request_made (Addr w) = addr (addr_words_made w)
 request_made (Index w) = index (index_words_made w)
+
+abbrev pub follow_words_made : FollowWords → FollowTexts
+follow_words_made w = record {
+  debug_dirs = map (λ s. s.now) w.debug_dirs.items;
+  no_follow = w.no_follow;
+  verbose = w.verbose;
+}
+
+abbrev pub files_words_made : FilesWords → FilesTexts
+files_words_made w = record {
+  others = map (λ s. s.now) w.others.items;
+  files_from = option_map (λ s. s.now) w.files_from;
+  null = w.null;
+  progress = w.progress;
+}
+
+abbrev pub words_made : Words → WordTexts
+words_made w = record {
+  request = request_made w.job;
+  follow = follow_words_made w.follow;
+  files = files_words_made w.files;
+}

@@ -4,9 +4,9 @@ use Rattle.clap.specs.Words.{fault_of, subcommand_of}
 use Rattle.clap.specs.declared.error.kind.ErrorKind.TheVariants.{ArgumentConflict, DisplayHelp, MissingRequiredArgument}
 use Rattle.clap.specs.declared.error.kind.ErrorKind.TheVariants.{MissingSubcommand, UnknownArgument}
 use Rattle.dl_cmd.specs.CommandLine.{command_line}
-use Rattle.dl_cmd.specs.Job.{Request, Text, UnitTexts, check, copy, dump, find}
+use Rattle.dl_cmd.specs.Job.{FilesTexts, FollowTexts, Request, Text, UnitTexts, WordTexts, check, copy, dump, find}
 use Rattle.dl_cmd.specs.Refusals.{has_conflict, lacks_word, says_of_input, word_faults}
-use Rattle.dl_cmd.specs.Words.{requested}
+use Rattle.dl_cmd.specs.Words.{requested, said}
 
 -- words without a fault ask for a job
 abbrev pub FaultlessWordsAsk : Type 0
@@ -15,32 +15,37 @@ FaultlessWordsAsk = (words : List Text) → word_faults words ≡ []
 
 -- whose words may stand together, and of which none is left out
 abbrev pub FaultlessWordsStand : Type 0
-FaultlessWordsStand = (words : List Text) (r : Request) → word_faults words ≡ []
-    → requested (subcommand_of command_line words) ≡ Some r → (has_conflict r ≡ false) × (lacks_word r ≡ false)
+FaultlessWordsStand = (words : List Text) (w : WordTexts) → word_faults words ≡ []
+    → said (subcommand_of command_line words) ≡ Some w → (has_conflict w ≡ false) × (lacks_word w ≡ false)
 
--- clap takes the words, and they ask for this
-abbrev pub AskFor : List Text → Request → Type 0
-AskFor words r = (fault_of command_line words ≡ []) × (requested (subcommand_of command_line words) ≡ Some r)
+-- clap takes the words, and they say this
+abbrev pub Say : List Text → WordTexts → Type 0
+Say words w = (fault_of command_line words ≡ []) × (said (subcommand_of command_line words) ≡ Some w)
 
 -- words that may not stand together have that fault alone
 abbrev pub ConflictIsFault : Type 0
-ConflictIsFault = (words : List Text) (r : Request) → AskFor words r → has_conflict r ≡ true
+ConflictIsFault = (words : List Text) (w : WordTexts) → Say words w → has_conflict w ≡ true
     → word_faults words ≡ ArgumentConflict ∷ []
 
 -- and others of which one is left out have this one
 abbrev pub LackIsFault : Type 0
-LackIsFault = (words : List Text) (r : Request) → AskFor words r → has_conflict r ≡ false → lacks_word r ≡ true
+LackIsFault = (words : List Text) (w : WordTexts) → Say words w → has_conflict w ≡ false → lacks_word w ≡ true
     → word_faults words ≡ MissingRequiredArgument ∷ []
+
+-- this job may not be asked for, whatever is said beside it
+abbrev pub IsRefused : Request → Type 0
+IsRefused r = (follow : FollowTexts) (files : FilesTexts)
+    → has_conflict (record { request = r; follow = follow; files = files }) ≡ true
 
 -- FILE may not stand beside `--big` or `--older`
 abbrev pub FileExcludesInput : Type 0
 FileExcludesInput = (file : Text) (big : Bool) (units : UnitTexts) → says_of_input big units ≡ true
     → ((line_str strings : Option Text) (keep_going : Bool)
-    → has_conflict (dump (Some file) big units line_str strings keep_going) ≡ true)
-    × ((keep_going : Bool) → has_conflict (check (Some file) big units keep_going) ≡ true)
+    → IsRefused (dump (Some file) big units line_str strings keep_going))
+    × ((keep_going : Bool) → IsRefused (check (Some file) big units keep_going))
     × ((address : Option Text) (op : ℕ) (section line_str strings : Option Text)
-    → has_conflict (find (Some file) big units address op section line_str strings) ≡ true)
-    × ((to_5 : Bool) (comp_dir : Option Text) → has_conflict (copy (Some file) big units to_5 comp_dir) ≡ true)
+    → IsRefused (find (Some file) big units address op section line_str strings))
+    × ((to_5 : Bool) (comp_dir : Option Text) → IsRefused (copy (Some file) big units to_5 comp_dir))
 
 -- the words of a command line, the program's name first
 abbrev pub words_of : List Text → List Text
@@ -55,6 +60,9 @@ WorkedWords =
     × (word_faults (words_of (codes "addr" ∷ codes "-e" ∷ codes "a" ∷ [])) ≡ [])
     × (word_faults (words_of (codes "addr" ∷ [])) ≡ MissingRequiredArgument ∷ [])
     × (word_faults (words_of (codes "index" ∷ codes "--list" ∷ codes "a" ∷ [])) ≡ [])
+    × (word_faults (words_of (codes "addr" ∷ codes "--no-follow" ∷ codes "--debug-dir" ∷ codes "d" ∷ codes "a" ∷ []))
+    ≡ ArgumentConflict ∷ [])
+    × (word_faults (words_of (codes "check" ∷ codes "--no-follow" ∷ [])) ≡ MissingRequiredArgument ∷ [])
     × (word_faults (words_of (codes "copy" ∷ codes "--str" ∷ codes "a" ∷ [])) ≡ UnknownArgument ∷ [])
     × (word_faults (words_of (codes "check" ∷ codes "-h" ∷ [])) ≡ DisplayHelp ∷ [])
     × (word_faults (words_of []) ≡ MissingSubcommand ∷ [])

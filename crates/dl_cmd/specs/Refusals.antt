@@ -1,12 +1,13 @@
--- What is refused of words that clap takes, by the job that they ask for, and which kinds of error words have.
-use Rattle.std.specs.Prelude.{◌&&◌, ◌||◌, Bool, not, List, [], ◌∷◌, Option, is_some, if◌then◌else◌}
+-- What is refused of words that clap takes, by what they say, and which kinds of error words have.
+use Rattle.std.specs.Prelude.{◌&&◌, ◌||◌, Bool, false, not, true, List, [], ◌∷◌, Option, is_some, if◌then◌else◌}
 use Rattle.std.specs.Option.{option_map_or}
 use Rattle.clap.specs.Words.{fault_of, subcommand_of}
 use Rattle.clap.specs.Kinds.{Kinds, or_else}
 use Rattle.clap.specs.declared.error.kind.ErrorKind.TheVariants.{ArgumentConflict, MissingRequiredArgument}
 use Rattle.dl_cmd.specs.CommandLine.{command_line}
-use Rattle.dl_cmd.specs.Job.{IndexTexts, Request, Text, UnitTexts, addr, check, copy, dump, find, index}
-use Rattle.dl_cmd.specs.Words.{requested}
+use Rattle.dl_cmd.specs.Job.{FollowTexts, IndexTexts, Request, Text, UnitTexts, WordTexts, addr, check, copy, dump}
+use Rattle.dl_cmd.specs.Job.{find, index}
+use Rattle.dl_cmd.specs.Words.{said}
 
 -- `--version-5` beside `--address-size`, which is said of units of other versions
 abbrev pub says_two_versions : UnitTexts → Bool
@@ -24,43 +25,64 @@ says_strings line_str strings = is_some line_str || is_some strings
 abbrev pub says_of_file : UnitTexts → Bool
 says_of_file units = units.version_5 || is_some units.address_size
 
+-- there is a word, or more of them
+abbrev pub is_there : List Text → Bool
+is_there [] = false
+is_there (word ∷ words) = true
+
+-- `--debug-dir` or `--no-follow`
+abbrev pub says_follow : FollowTexts → Bool
+says_follow follow = is_there follow.debug_dirs || follow.no_follow
+
+-- `--debug-dir` beside `--no-follow`, by which no other file is looked for
+abbrev pub says_both_follow : FollowTexts → Bool
+says_both_follow follow = is_there follow.debug_dirs && follow.no_follow
+
 -- something is said of an index that is made
-abbrev pub says_of_made : IndexTexts → Bool
-says_of_made w =
-    is_some w.output || (w.all || (w.keep_going || (is_some w.section || (says_of_file w.units || is_some w.comp_dir))))
+abbrev pub says_of_made : IndexTexts → FollowTexts → Bool
+says_of_made w follow =
+    is_some w.output || (w.all || (w.keep_going || (is_some w.section || (says_of_file w.units
+    || (is_some w.comp_dir || says_follow follow)))))
+
+-- words of a job stand together that may not
+abbrev pub job_conflicts : Request → FollowTexts → Bool
+job_conflicts (dump file big units line_str strings keep_going) follow =
+    says_two_versions units || (is_some file && (says_of_input big units || says_strings line_str strings))
+job_conflicts (check file big units keep_going) follow =
+    says_two_versions units || (is_some file && says_of_input big units)
+job_conflicts (find file big units address op section line_str strings) follow =
+    says_two_versions units || (is_some file && (says_of_input big units || says_strings line_str strings))
+job_conflicts (copy file big units to_5 comp_dir) follow = is_some file && says_of_input big units
+job_conflicts (addr w) follow = says_two_versions w.units || (w.json && w.with_addresses)
+job_conflicts (index w) follow = says_two_versions w.units || (w.list && says_of_made w follow)
 
 -- words stand together that may not
-abbrev pub has_conflict : Request → Bool
-has_conflict (dump file big units line_str strings keep_going) =
-    says_two_versions units || (is_some file && (says_of_input big units || says_strings line_str strings))
-has_conflict (check file big units keep_going) =
-    says_two_versions units || (is_some file && says_of_input big units)
-has_conflict (find file big units address op section line_str strings) =
-    says_two_versions units || (is_some file && (says_of_input big units || says_strings line_str strings))
-has_conflict (copy file big units to_5 comp_dir) = is_some file && says_of_input big units
-has_conflict (addr w) = says_two_versions w.units || (w.json && w.with_addresses)
-has_conflict (index w) = says_two_versions w.units || (w.list && says_of_made w)
+abbrev pub has_conflict : WordTexts → Bool
+has_conflict w = says_both_follow w.follow || job_conflicts w.request w.follow
 
--- a word isn't there that has to be beside others: FILE, `--to-5` or `--output`
-abbrev pub lacks_word : Request → Bool
-lacks_word (dump file big units line_str strings keep_going) = not (is_some file) && says_of_file units
-lacks_word (check file big units keep_going) = not (is_some file) && says_of_file units
-lacks_word (find file big units address op section line_str strings) =
-    not (is_some file) && (says_of_file units || is_some section)
-lacks_word (copy file big units to_5 comp_dir) =
+-- a word of a job isn't there that has to be beside others: FILE, `--to-5` or `--output`
+abbrev pub job_lacks : Request → FollowTexts → Bool
+job_lacks (dump file big units line_str strings keep_going) follow =
+    not (is_some file) && (says_of_file units || says_follow follow)
+job_lacks (check file big units keep_going) follow = not (is_some file) && (says_of_file units || says_follow follow)
+job_lacks (find file big units address op section line_str strings) follow =
+    not (is_some file) && (says_of_file units || (says_follow follow || is_some section))
+job_lacks (copy file big units to_5 comp_dir) follow =
     (not (is_some file) && is_some units.address_size)
     || (not to_5 && (is_some units.older || (is_some units.address_size || is_some comp_dir)))
-lacks_word (addr w) = not (is_some w.file)
-lacks_word (index w) = not w.list && not (is_some w.output)
+job_lacks (addr w) follow = not (is_some w.file)
+job_lacks (index w) follow = not w.list && not (is_some w.output)
+
+abbrev pub lacks_word : WordTexts → Bool
+lacks_word w = job_lacks w.request w.follow
 
 -- the kind of error of a job that isn't done for its words, if it isn't
-abbrev pub refusal_of : Request → Kinds
-refusal_of r =
-    if has_conflict r then ArgumentConflict ∷ [] else (if lacks_word r then MissingRequiredArgument ∷ [] else [])
+abbrev pub refusal_of : WordTexts → Kinds
+refusal_of w =
+    if has_conflict w then ArgumentConflict ∷ [] else (if lacks_word w then MissingRequiredArgument ∷ [] else [])
 
 -- the kinds of error that these words may have, none where they ask for a job: those of clap's reading, and else that of
 -- the job
 abbrev pub word_faults : List Text → Kinds
 word_faults words =
-    or_else (fault_of command_line words)
-    (option_map_or refusal_of (requested (subcommand_of command_line words)) [])
+    or_else (fault_of command_line words) (option_map_or refusal_of (said (subcommand_of command_line words)) [])

@@ -1,12 +1,14 @@
 -- What the words ask for, as clap reads them.
-use Rattle.std.specs.Prelude.{ℕ, Bool, List, [], ◌∷◌, Option, Some, None, unwrap_or, codes, if◌then◌else◌, false}
+use Rattle.std.specs.Prelude.{ℕ, Bool, List, [], ◌∷◌, Option, Some, None, unwrap_or, codes, if◌then◌else◌, false, true}
+use Rattle.std.specs.Prelude.{option_map}
 use Rattle.std.specs.Option.{option_map_or}
 use Rattle.std.specs.Str.{bytes_eq}
 use Rattle.clap.specs.Words.{Row, all_of, first_of, one_of}
 use Rattle.clap.specs.Walk.{byte_or_zero}
 use Rattle.clap.specs.declared.error.kind.ErrorKind.{ErrorKind}
 use Rattle.clap.specs.declared.error.kind.ErrorKind.TheVariants.{DisplayHelp, DisplayVersion, OutOfMemory}
-use Rattle.dl_cmd.specs.Job.{AddrTexts, IndexTexts, Request, Text, UnitTexts, addr, check, copy, dump, find, index}
+use Rattle.dl_cmd.specs.Job.{AddrTexts, FilesTexts, FollowTexts, IndexTexts, Request, Text, UnitTexts, WordTexts, addr}
+use Rattle.dl_cmd.specs.Job.{check, copy, dump, find, index}
 
 -- the value of an argument that is a text, texts, a byte or a flag, in the matches of a subcommand
 abbrev pub text_of : Text → List Row → Option Text
@@ -90,6 +92,45 @@ request_of name rows =
 abbrev pub requested : Option (Text × List Row) → Option Request
 requested None = None
 requested (Some p) = request_of p.0 p.1
+
+-- what is said of files that are read in place of FILE, as it stands
+abbrev pub follow_said_of : List Row → FollowTexts
+follow_said_of rows = record {
+  debug_dirs = texts_of (codes "debug-dir") rows;
+  no_follow = flag_of (codes "no-follow") rows;
+  verbose = flag_of (codes "verbose") rows;
+}
+
+-- the folder for separate debug files where none is said
+abbrev pub dirs_or_default : List Text → List Text
+dirs_or_default [] = codes "/usr/lib/debug" ∷ []
+dirs_or_default (dir ∷ dirs) = dir ∷ dirs
+
+-- what the subcommand of this name does by it: `copy` reads no other file
+abbrev pub follow_by : Text → FollowTexts → FollowTexts
+follow_by name said =
+    if bytes_eq name (codes "copy") then record { debug_dirs = []; no_follow = true; verbose = false }
+    else record said { debug_dirs = dirs_or_default said.debug_dirs }
+
+abbrev pub follow_words_of : Text → List Row → FollowTexts
+follow_words_of name rows = follow_by name (follow_said_of rows)
+
+-- the files of the subcommand of this name, beside the first
+abbrev pub files_words_of : Text → List Row → FilesTexts
+files_words_of name rows = record { others = []; files_from = None; null = false; progress = false }
+
+-- all that the words say of the subcommand of this name, as it stands: where no folder is said, there is none
+abbrev pub said_of : Text → List Row → Option WordTexts
+said_of name rows = option_map (λ r. record {
+  request = r;
+  follow = follow_said_of rows;
+  files = files_words_of name rows;
+}) (request_of name rows)
+
+-- the same of a reading of the words
+abbrev pub said : Option (Text × List Row) → Option WordTexts
+said None = None
+said (Some p) = said_of p.0 p.1
 
 -- the program's status where the words gave no job
 abbrev pub word_status_of : ErrorKind → ℕ

@@ -1,6 +1,6 @@
 //! The arguments of the command line, with their help. Which of them may not stand together is in `refusal`, and so is which
 //! have to be there beside others: of arguments that have no rule on one another clap's contract says each kind of error.
-ghost use Rattle.dl_cmd.specs.CommandLine.{IsRule, address_rule, addresses_rule, base_rule, big_rule, exe_rule, file_rule};
+ghost use Rattle.dl_cmd.specs.CommandLine.{IsRule, address_rule, addresses_rule, base_rule, big_rule, debug_dir_rule, exe_rule, file_rule};
 ghost use Rattle.dl_cmd.specs.CommandLine.{index_file_rule, letter_rule, line_str_rule, op_rule, output_rule, section_rule};
 ghost use Rattle.dl_cmd.specs.CommandLine.{str_rule, switch_rule, value_rule};
 ghost use Rattle.std.specs.Prelude.{codes};
@@ -238,6 +238,17 @@ pub fn comp_dir<'a>(alloc: Global) -> Arg<'a>
         "DIR",
         "Compilation directory of all units, in place of the one that .debug_info says",
     )
+}
+
+/// A folder for separate debug files.
+pub fn debug_dir<'a>(alloc: Global) -> Arg<'a>
+    ensures { IsRule debug_dir_rule result }
+{
+    Arg::new(alloc, "debug-dir")
+        .long("debug-dir")
+        .action(ArgAction::Append)
+        .value_name("DIR")
+        .help("Folder for separate debug files, in place of /usr/lib/debug; there may be several")
 }
 
 /// The file of which an index has to be made. A section on standard input has none.

@@ -2,14 +2,15 @@
 ghost use Rattle.std.specs.Prelude.{IfOk, OnErr, codes};
 ghost use Rattle.clap.specs.Words.{AddsArg, AddsSubcommand, App, Rule, with_rule, with_subcommand};
 ghost use Rattle.dl_cmd.specs.CommandLine.{IsApp, IsRule, addr_app, check_app, command_line, copy_app, dump_app, find_app};
-ghost use Rattle.dl_cmd.specs.CommandLine.{index_app, top_app, with_addresses, with_input, with_keep_going, with_making};
+ghost use Rattle.dl_cmd.specs.CommandLine.{index_app, top_app, with_addresses, with_follow, with_input, with_keep_going, with_making};
 ghost use Rattle.dl_cmd.specs.CommandLine.{with_printing, with_settings, with_strings, with_to_5, with_units};
 ghost use Rattle.dl_cmd.specs.CommandLine.{with_units_of_file};
 ghost use Rattle.dl_cmd.specs.Memory.{LibraryRefused};
 
 use crate::arguments::{
-    addr_file, address, address_size, addresses, all, base, big, comp_dir, exe, file, index_file,
-    json, letter, line_str, list, made_of, older, op, output, section, strings, switch, version_5,
+    addr_file, address, address_size, addresses, all, base, big, comp_dir, debug_dir, exe, file,
+    index_file, json, letter, line_str, list, made_of, older, op, output, section, strings, switch,
+    version_5,
 };
 use crate::job::Job;
 use crate::library::refused;
@@ -131,6 +132,24 @@ fn add_keep_going<'a>(
     with_arg(command, keep_going)
 }
 
+/// Which files are read in place of one without a line table.
+fn add_follow<'a>(
+    alloc: Global,
+    command: Result<Command<'a>, AllocError>,
+) -> Result<Command<'a>, AllocError>
+    ensures app { (a : App) → IfOk command.entry (IsApp a) → IfOk result (IsApp (with_follow a)) }
+    ensures refused { OnErr command.entry LibraryRefused → OnErr result LibraryRefused }
+{
+    let no_follow = switch(alloc, "no-follow", "Read no other file in place of FILE");
+    let verbose = switch(
+        alloc,
+        "verbose",
+        "Tell on standard error which file is read, and what is passed over",
+    );
+    let command = with_arg(command, debug_dir(alloc));
+    with_arg(with_arg(command, no_follow), verbose)
+}
+
 fn add_input<'a>(
     alloc: Global,
     command: Result<Command<'a>, AllocError>,
@@ -165,7 +184,8 @@ fn dump<'a>(alloc: Global) -> Result<Command<'a>, AllocError>
             "Examples:\n  dwline dump program\n  dwline dump --line-str debug_line_str < debug_line",
         );
     let command = add_keep_going(alloc, Ok(command));
-    add_strings(alloc, add_units(alloc, command))
+    let command = add_units(alloc, command);
+    add_strings(alloc, add_follow(alloc, command))
 }
 
 fn check<'a>(alloc: Global) -> Result<Command<'a>, AllocError>
@@ -177,7 +197,8 @@ fn check<'a>(alloc: Global) -> Result<Command<'a>, AllocError>
         .about("Read all units, and print how many units, sequences and rows there are")
         .after_help("Examples:\n  dwline check program\n  dwline check --big < debug_line");
     let command = add_keep_going(alloc, Ok(command));
-    add_input(alloc, add_units(alloc, command))
+    let command = add_units(alloc, command);
+    add_input(alloc, add_follow(alloc, command))
 }
 
 fn find<'a>(alloc: Global) -> Result<Command<'a>, AllocError>
@@ -193,7 +214,8 @@ fn find<'a>(alloc: Global) -> Result<Command<'a>, AllocError>
     let command = with_arg(Ok(command), address(alloc));
     let command = with_arg(command, op(alloc));
     let command = with_arg(command, section(alloc));
-    add_strings(alloc, add_units(alloc, command))
+    let command = add_units(alloc, command);
+    add_strings(alloc, add_follow(alloc, command))
 }
 
 fn copy<'a>(alloc: Global) -> Result<Command<'a>, AllocError>
@@ -266,6 +288,7 @@ fn add_addresses<'a>(
     let command = add_units(alloc, add_settings(alloc, command));
     let command = with_arg(command, comp_dir(alloc));
     let command = with_arg(command, made_of(alloc));
+    let command = add_follow(alloc, command);
     let command = with_arg(command, big(alloc));
     let command = with_arg(command, line_str(alloc));
     let command = with_arg(command, strings(alloc));
@@ -299,7 +322,7 @@ fn add_making<'a>(
     let command = add_keep_going(alloc, with_arg(command, all(alloc)));
     let command = with_arg(command, section(alloc));
     let command = add_units_of_file(alloc, command);
-    with_arg(command, comp_dir(alloc))
+    add_follow(alloc, with_arg(command, comp_dir(alloc)))
 }
 
 fn index<'a>(alloc: Global) -> Result<Command<'a>, AllocError>

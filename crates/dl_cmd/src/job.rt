@@ -1,5 +1,8 @@
 //! What the words of the command line ask for.
 
+ghost use Rattle.std.specs.Prelude.{◌≡◌};
+ghost use Rattle.dl_cmd.specs.Job.{request_made, with_file};
+
 /// What the words say of units of versions 2 to 4, whose headers don't have the size of an address. The sizes are the
 /// words as they stand.
 #[derive(Clone, Copy, Debug, PartialEq, Eq)]
@@ -67,6 +70,109 @@ pub enum Job<'a> {
     Addr(AddrWords<'a>),
     /// Make the index of a file, or list one.
     Index(IndexWords<'a>),
+}
+
+impl<'a> Job<'a> {
+    /// The same job over the file at this path.
+    pub fn of_file(self, path: &'a str) -> Job<'a>
+        ensures { request_made result ≡ with_file (request_made self.entry) path.entry.now }
+    {
+        let file = Some(path);
+        match self {
+            Job::Dump {
+                big,
+                units,
+                line_str,
+                strings,
+                keep_going,
+                ..
+            } => Job::Dump {
+                file,
+                big,
+                units,
+                line_str,
+                strings,
+                keep_going,
+            },
+            Job::Check {
+                big,
+                units,
+                keep_going,
+                ..
+            } => Job::Check {
+                file,
+                big,
+                units,
+                keep_going,
+            },
+            Job::Find {
+                big,
+                units,
+                address,
+                op,
+                section,
+                line_str,
+                strings,
+                ..
+            } => Job::Find {
+                file,
+                big,
+                units,
+                address,
+                op,
+                section,
+                line_str,
+                strings,
+            },
+            Job::Copy {
+                big,
+                units,
+                to_5,
+                comp_dir,
+                ..
+            } => Job::Copy {
+                file,
+                big,
+                units,
+                to_5,
+                comp_dir,
+            },
+            Job::Addr(words) => Job::Addr(AddrWords { file, ..words }),
+            Job::Index(words) => Job::Index(IndexWords { file, ..words }),
+        }
+    }
+}
+
+/// Where the line table of a file that has none is looked for, and what is told of it.
+#[derive(Debug, Drop, PartialEq, Eq)]
+pub struct FollowWords<'a> {
+    /// Folders for separate debug files, in the order of the words; `/usr/lib/debug` alone where none is said.
+    pub debug_dirs: Vec<&'a str>,
+    /// No other file is read in place of FILE.
+    pub no_follow: bool,
+    /// Which file is read and what is passed over is told on standard error.
+    pub verbose: bool,
+}
+
+/// The files of `check` beside the first, and how they are told.
+#[derive(Debug, Drop, PartialEq, Eq)]
+pub struct FilesWords<'a> {
+    /// FILEs after the first one.
+    pub others: Vec<&'a str>,
+    /// The path of a list of files; `-` stands for standard input.
+    pub files_from: Option<&'a str>,
+    /// Paths of the list end with a zero byte, and not with a newline.
+    pub null: bool,
+    /// A line on standard error tells how far the work is.
+    pub progress: bool,
+}
+
+/// What the words of the command line say.
+#[derive(Drop)]
+pub struct Words<'a> {
+    pub job: Job<'a>,
+    pub follow: FollowWords<'a>,
+    pub files: FilesWords<'a>,
 }
 
 /// The words of `index`.

@@ -11,6 +11,6 @@ mod refusal;
 mod words;
 
 pub use address::{digit_of, read_address, read_hex_address};
-pub use job::{AddrWords, IndexWords, Job, UnitWords};
+pub use job::{AddrWords, FilesWords, FollowWords, IndexWords, Job, UnitWords, Words};
 pub use laws::{faultless_words, file_excludes_input, refused_words, worked_words};
-pub use words::{read_job, word_status};
+pub use words::{read_words, word_status};

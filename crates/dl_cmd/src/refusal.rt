@@ -1,11 +1,12 @@
 //! Which words of a job may not stand together, and which have to be there beside others.
 ghost use Rattle.std.specs.Prelude.{◌≡◌, ◌∷◌, [], is_some, option_map};
 ghost use Rattle.std.specs.Option.{option_map_or};
-ghost use Rattle.dl_cmd.specs.Job.{index_words_made, request_made, unit_words_made};
-ghost use Rattle.dl_cmd.specs.Refusals.{has_conflict, lacks_word, refusal_of, says_of_file, says_of_input};
-ghost use Rattle.dl_cmd.specs.Refusals.{says_of_made, says_strings, says_two_versions};
+ghost use Rattle.dl_cmd.specs.Job.{follow_words_made, index_words_made, request_made, unit_words_made, words_made};
+ghost use Rattle.dl_cmd.specs.Refusals.{has_conflict, is_there, job_conflicts, job_lacks, lacks_word, refusal_of};
+ghost use Rattle.dl_cmd.specs.Refusals.{says_both_follow, says_follow, says_of_file, says_of_input, says_of_made};
+ghost use Rattle.dl_cmd.specs.Refusals.{says_strings, says_two_versions};
 
-use crate::job::{IndexWords, Job, UnitWords};
+use crate::job::{FollowWords, IndexWords, Job, UnitWords, Words};
 use clap::error::ErrorKind;
 
 /// Why a job isn't done for its words.
@@ -58,9 +59,48 @@ fn of_strings(line_str: Option<&str>, strings: Option<&str>) -> Option<&'static 
     }
 }
 
+/// Whether a folder is named.
+fn names_dir(follow: &FollowWords<'_>) -> bool
+    ensures { result ≡ is_there (follow_words_made follow.now).debug_dirs }
+{
+    match follow.debug_dirs.as_slice() {
+        [] => false,
+        [_, ..] => true,
+    }
+}
+
+fn says_to_follow(follow: &FollowWords<'_>) -> bool
+    ensures { result ≡ says_follow (follow_words_made follow.now) }
+{
+    names_dir(follow) || follow.no_follow
+}
+
+fn both_follow(follow: &FollowWords<'_>) -> Option<&'static str>
+    ensures { is_some result ≡ says_both_follow (follow_words_made follow.now) }
+{
+    if names_dir(follow) && follow.no_follow {
+        Some("the argument '--no-follow' cannot be used with '--debug-dir <DIR>'")
+    } else {
+        None
+    }
+}
+
+/// What is said of files that are read in place of FILE, and so may not stand beside `--list`.
+fn of_followed(follow: &FollowWords<'_>) -> Option<&'static str>
+    ensures { is_some result ≡ says_follow (follow_words_made follow.now) }
+{
+    if names_dir(follow) {
+        Some("the argument '--list' cannot be used with '--debug-dir <DIR>'")
+    } else if follow.no_follow {
+        Some("the argument '--list' cannot be used with '--no-follow'")
+    } else {
+        None
+    }
+}
+
 /// What is said of an index that is made, and so may not stand beside `--list`.
-fn of_made(words: &IndexWords<'_>) -> Option<&'static str>
-    ensures { is_some result ≡ says_of_made (index_words_made words.now) }
+fn of_made(words: &IndexWords<'_>, follow: &FollowWords<'_>) -> Option<&'static str>
+    ensures { is_some result ≡ says_of_made (index_words_made words.now) (follow_words_made follow.now) }
 {
     if words.output.is_some() {
         Some("the argument '--list' cannot be used with '--output <PATH>'")
@@ -77,13 +117,13 @@ fn of_made(words: &IndexWords<'_>) -> Option<&'static str>
     } else if words.comp_dir.is_some() {
         Some("the argument '--list' cannot be used with '--comp-dir <DIR>'")
     } else {
-        None
+        of_followed(follow)
     }
 }
 
 /// Two words of a job that may not stand together, as the user is told.
-fn conflict(job: &Job<'_>) -> Option<&'static str>
-    ensures { is_some result ≡ has_conflict (request_made job.now) }
+fn job_conflict(job: &Job<'_>, follow: &FollowWords<'_>) -> Option<&'static str>
+    ensures { is_some result ≡ job_conflicts (request_made job.now) (follow_words_made follow.now) }
 {
     match job {
         Job::Dump {
@@ -126,9 +166,16 @@ fn conflict(job: &Job<'_>) -> Option<&'static str>
         }
         Job::Index(words) => {
             let listed = words.list.then_some(());
-            two_versions(&words.units).or(listed.and(of_made(words)))
+            two_versions(&words.units).or(listed.and(of_made(words, follow)))
         }
     }
+}
+
+/// Two words that may not stand together, as the user is told.
+fn conflict(words: &Words<'_>) -> Option<&'static str>
+    ensures { is_some result ≡ has_conflict (words_made words.now) }
+{
+    both_follow(&words.follow).or(job_conflict(&words.job, &words.follow))
 }
 
 fn is_of_file(units: &UnitWords<'_>) -> bool
@@ -138,19 +185,23 @@ fn is_of_file(units: &UnitWords<'_>) -> bool
 }
 
 /// A word of a job that has to be there beside others and isn't, as the user is told.
-fn lack(job: &Job<'_>) -> Option<&'static str>
-    ensures { is_some result ≡ lacks_word (request_made job.now) }
+fn job_lack(job: &Job<'_>, follow: &FollowWords<'_>) -> Option<&'static str>
+    ensures { is_some result ≡ job_lacks (request_made job.now) (follow_words_made follow.now) }
 {
+    let follows = says_to_follow(follow);
     match job {
         Job::Dump { file, units, .. } | Job::Check { file, units, .. } => {
-            (file.is_none() && is_of_file(units)).then_some(NO_FILE)
+            (file.is_none() && (is_of_file(units) || follows)).then_some(NO_FILE)
         }
         Job::Find {
             file,
             units,
             section,
             ..
-        } => (file.is_none() && (is_of_file(units) || section.is_some())).then_some(NO_FILE),
+        } => {
+            let is_said = is_of_file(units) || follows || section.is_some();
+            (file.is_none() && is_said).then_some(NO_FILE)
+        }
         Job::Copy {
             file,
             units,
@@ -168,17 +219,24 @@ fn lack(job: &Job<'_>) -> Option<&'static str>
     }
 }
 
-/// Why a job isn't done for its words; None where it is.
-pub fn why_refused(job: &Job<'_>) -> Option<Refusal>
-    ensures { refusal_of (request_made job.now) ≡ option_map_or (λ r. r.kind ∷ []) result [] }
+/// A word that has to be there beside others and isn't, as the user is told.
+fn lack(words: &Words<'_>) -> Option<&'static str>
+    ensures { is_some result ≡ lacks_word (words_made words.now) }
 {
-    if let Some(message) = conflict(job) {
+    job_lack(&words.job, &words.follow)
+}
+
+/// Why a job isn't done for its words; None where it is.
+pub fn why_refused(words: &Words<'_>) -> Option<Refusal>
+    ensures { refusal_of (words_made words.now) ≡ option_map_or (λ r. r.kind ∷ []) result [] }
+{
+    if let Some(message) = conflict(words) {
         return Some(Refusal {
             kind: ErrorKind::ArgumentConflict,
             message,
         });
     }
-    let message = lack(job)?;
+    let message = lack(words)?;
     Some(Refusal {
         kind: ErrorKind::MissingRequiredArgument,
         message,

@@ -1,17 +1,19 @@
 //! The words of the command line, and the job that they ask for.
 
-ghost use Rattle.std.specs.Prelude.{◌≡◌, [], Option, IfOk, OnErr, is_some, map, option_map, true};
+ghost use Rattle.std.specs.Prelude.{◌≡◌, [], Option, IfOk, IfSome, OnErr, is_some, map, option_map, true};
 ghost use Rattle.std.specs.Option.{option_map_or};
 ghost use Rattle.clap.specs.Words.{FailsBy, found_of, kind_of, rows_of, subcommand_of};
 ghost use Rattle.dl_cmd.specs.CommandLine.{command_line};
-ghost use Rattle.dl_cmd.specs.Job.{addr_words_made, index_words_made, request_made, unit_words_made};
+ghost use Rattle.dl_cmd.specs.Job.{addr_words_made, files_words_made, follow_words_made, index_words_made};
+ghost use Rattle.dl_cmd.specs.Job.{request_made, unit_words_made, words_made};
 ghost use Rattle.dl_cmd.specs.Memory.{WantsRefused, LibraryRefused};
 ghost use Rattle.dl_cmd.specs.Refusals.{refusal_of, word_faults};
-ghost use Rattle.dl_cmd.specs.Words.{addr_words_of, byte_of, file_and_addresses, flag_of, request_of, requested};
-ghost use Rattle.dl_cmd.specs.Words.{index_words_of, text_of, texts_of, unit_words_of, word_status_of};
+ghost use Rattle.dl_cmd.specs.Words.{addr_words_of, byte_of, dirs_or_default, file_and_addresses, files_words_of};
+ghost use Rattle.dl_cmd.specs.Words.{flag_of, follow_by, follow_said_of, follow_words_of, index_words_of, request_of};
+ghost use Rattle.dl_cmd.specs.Words.{requested, said_of, text_of, texts_of, unit_words_of, word_status_of};
 
 use crate::command_line::{command_of, make_command_line};
-use crate::job::{AddrWords, IndexWords, Job, UnitWords};
+use crate::job::{AddrWords, FilesWords, FollowWords, IndexWords, Job, UnitWords, Words};
 use crate::library::refused;
 use crate::refusal::{Refusal, why_refused};
 use clap::error::ErrorKind;
@@ -183,6 +185,97 @@ fn job_of<'a>(
     Ok(Some(job))
 }
 
+/// The folder for separate debug files where none is said.
+const DEBUG_DIR: &str = "/usr/lib/debug";
+
+/// What is said of files that are read in place of FILE, as it stands.
+fn follow_said<'a>(alloc: Global, matches: &ArgMatches<'a>) -> Result<FollowWords<'a>, AllocError>
+    ensures words { IfOk result (λ w. follow_words_made w ≡ follow_said_of (rows_of (found_of matches.now))) }
+    ensures refused { OnErr result LibraryRefused }
+{
+    Ok(FollowWords {
+        debug_dirs: texts(alloc, matches, "debug-dir")?,
+        no_follow: flag(matches, "no-follow"),
+        verbose: flag(matches, "verbose"),
+    })
+}
+
+/// The folders that are said, or the one that stands for them.
+fn dirs_or_default<'a>(dirs: Vec<&'a str>) -> Result<Vec<&'a str>, AllocError>
+    ensures dirs { IfOk result (λ v. map (λ s. s.now) v.items ≡ dirs_or_default (map (λ s. s.now) dirs.entry.items)) }
+    ensures refused { OnErr result LibraryRefused }
+{
+    let mut dirs = dirs;
+    if !dirs.is_empty() {
+        return Ok(dirs);
+    }
+    match dirs.push(DEBUG_DIR) {
+        Ok(()) => Ok(dirs),
+        Err(error) => Err(refused(error.into())),
+    }
+}
+
+/// What the subcommand of this name does by what is said.
+fn follow_by<'a>(
+    alloc: Global,
+    name: &str,
+    said: FollowWords<'a>,
+) -> Result<FollowWords<'a>, AllocError>
+    ensures words { IfOk result (λ w. follow_words_made w ≡ follow_by name.now (follow_words_made said.entry)) }
+    ensures refused { OnErr result LibraryRefused }
+{
+    if name == "copy" {
+        return Ok(FollowWords {
+            debug_dirs: Vec::new(alloc),
+            no_follow: true,
+            verbose: false,
+        });
+    }
+    let FollowWords {
+        debug_dirs,
+        no_follow,
+        verbose,
+    } = said;
+    Ok(FollowWords {
+        debug_dirs: dirs_or_default(debug_dirs)?,
+        no_follow,
+        verbose,
+    })
+}
+
+fn files_words<'a>(
+    alloc: Global,
+    name: &str,
+    matches: &ArgMatches<'a>,
+) -> Result<FilesWords<'a>, AllocError>
+    ensures words { IfOk result (λ w. files_words_made w ≡ files_words_of name.now (rows_of (found_of matches.now))) }
+    ensures refused { OnErr result LibraryRefused }
+{
+    Ok(FilesWords {
+        others: Vec::new(alloc),
+        files_from: None,
+        null: false,
+        progress: false,
+    })
+}
+
+/// All that the words say of the subcommand of this name, as it stands.
+fn said<'a>(
+    alloc: Global,
+    name: &str,
+    matches: &ArgMatches<'a>,
+) -> Result<Option<Words<'a>>, AllocError>
+    ensures words { IfOk result (λ w. option_map words_made w ≡ said_of name.now (rows_of (found_of matches.now))) }
+    ensures refused { OnErr result LibraryRefused }
+{
+    let Some(job) = job_of(alloc, name, matches)? else {
+        return Ok(None);
+    };
+    let follow = follow_said(alloc, matches)?;
+    let files = files_words(alloc, name, matches)?;
+    Ok(Some(Words { job, follow, files }))
+}
+
 /// The error of a job that isn't done, with the usage of its subcommand.
 fn error_of(alloc: Global, job: &Job<'_>, refusal: Refusal) -> Result<Error, AllocError>
     ensures kind { IfOk result (λ e. kind_of e ≡ refusal.kind) }
@@ -203,49 +296,70 @@ fn error_of(alloc: Global, job: &Job<'_>, refusal: Refusal) -> Result<Error, All
     }
 }
 
-/// The job, where its words may stand together.
-fn allowed<'a>(alloc: Global, job: Job<'a>) -> Result<Job<'a>, Error>
-    ensures kinds { FailsBy (refusal_of (request_made job.entry)) result }
+/// The words, where they may stand together.
+fn allowed<'a>(alloc: Global, words: Words<'a>) -> Result<Words<'a>, Error>
+    ensures kinds { FailsBy (refusal_of (words_made words.entry)) result }
     ensures refused { WantsRefused result }
-    ensures same { IfOk result (λ r. r ≡ job.entry) }
+    ensures same { IfOk result (λ r. r ≡ words.entry) }
 {
-    match why_refused(&job) {
-        Some(refusal) => Err(error_of(alloc, &job, refusal)?),
-        None => Ok(job),
+    match why_refused(&words) {
+        Some(refusal) => Err(error_of(alloc, &words.job, refusal)?),
+        None => Ok(words),
     }
 }
 
-/// The job of the subcommand of this name, where its words may stand together.
-fn asked_job<'a>(
+/// The same words, with what the subcommand of this name does by what is said of other files.
+fn with_follow<'a>(alloc: Global, name: &str, words: Words<'a>) -> Result<Words<'a>, AllocError>
+    ensures words { IfOk result (λ w. words_made w ≡ record (words_made words.entry) {
+      follow = follow_by name.now (words_made words.entry).follow;
+    }) }
+    ensures refused { OnErr result LibraryRefused }
+{
+    let Words { job, follow, files } = words;
+    let follow = follow_by(alloc, name, follow)?;
+    Ok(Words { job, follow, files })
+}
+
+/// What the subcommand of this name is asked for, where its words may stand together.
+fn asked_words<'a>(
     alloc: Global,
     name: &str,
     matches: &ArgMatches<'a>,
-) -> Result<Option<Job<'a>>, Error>
-    ensures kinds { FailsBy (option_map_or refusal_of (request_of name.now (rows_of (found_of matches.now))) []) result }
+) -> Result<Option<Words<'a>>, Error>
+    ensures kinds { FailsBy (option_map_or refusal_of (said_of name.now (rows_of (found_of matches.now))) []) result }
     ensures refused { WantsRefused result }
-    ensures same { IfOk result (λ job. option_map request_made job
+    ensures job { IfOk result (λ words. option_map (λ w. request_made w.job) words
         ≡ request_of name.now (rows_of (found_of matches.now))) }
+    ensures follow { IfOk result (λ words. IfSome words (λ w. follow_words_made w.follow
+        ≡ follow_words_of name.now (rows_of (found_of matches.now)))) }
+    ensures files { IfOk result (λ words. IfSome words (λ w. files_words_made w.files
+        ≡ files_words_of name.now (rows_of (found_of matches.now)))) }
 {
-    match job_of(alloc, name, matches)? {
-        Some(job) => Ok(Some(allowed(alloc, job)?)),
-        None => Ok(None),
-    }
+    let Some(words) = said(alloc, name, matches)? else {
+        return Ok(None);
+    };
+    let words = allowed(alloc, words)?;
+    Ok(Some(with_follow(alloc, name, words)?))
 }
 
-/// The job that the words ask for, the program's name first. There is one wherever there is no error.
+/// What the words say, the program's name first. There is something wherever there is no error.
 ///
 /// The error's text says what isn't understood, or is the help that was asked for. It is want of memory only where the
 /// standard library or clap was refused some.
-pub fn read_job<'a>(alloc: Global, words: &'a [&'a str]) -> Result<Option<Job<'a>>, Error>
-    ensures job { IfOk result (λ job. option_map request_made job
+pub fn read_words<'a>(alloc: Global, words: &'a [&'a str]) -> Result<Option<Words<'a>>, Error>
+    ensures job { IfOk result (λ said. option_map (λ w. request_made w.job) said
         ≡ requested (subcommand_of command_line (map (λ w. w.now) words.entry.now))) }
-    ensures some { IfOk result (λ job. is_some job ≡ true) }
+    ensures follow { IfOk result (λ said. option_map (λ w. follow_words_made w.follow) said
+        ≡ option_map (λ p. follow_words_of p.0 p.1) (subcommand_of command_line (map (λ w. w.now) words.entry.now))) }
+    ensures files { IfOk result (λ said. option_map (λ w. files_words_made w.files) said
+        ≡ option_map (λ p. files_words_of p.0 p.1) (subcommand_of command_line (map (λ w. w.now) words.entry.now))) }
+    ensures some { IfOk result (λ said. is_some said ≡ true) }
     ensures kinds { FailsBy (word_faults (map (λ w. w.now) words.entry.now)) result }
     ensures refused { WantsRefused result }
 {
     let matches = make_command_line(alloc)?.try_get_matches_from(words)?;
     match matches.subcommand() {
-        Some((name, inner)) => asked_job(alloc, name, inner),
+        Some((name, inner)) => asked_words(alloc, name, inner),
         None => Ok(None),
     }
 }
