@@ -63,4 +63,4 @@ file_excludes_input file big units is = (
 
 pub worked_words : WorkedWords
 unfolding clap_on_literals
-worked_words = (refl, refl, refl, refl, refl, refl, refl, refl, refl, refl, refl)
+worked_words = (refl, refl, refl, refl, refl, refl, refl, refl, refl, refl, refl, refl, refl, refl)

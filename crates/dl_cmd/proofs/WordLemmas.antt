@@ -367,8 +367,7 @@ pub beside_job : (name : Text) (rows : List Row) (w last : WordTexts) → Some w
     → last ≡ record w { follow = follow_by name w.follow }
     → (last.follow ≡ follow_words_of name rows) × (last.files ≡ files_words_of name rows)
 beside_job name rows w last says is =
-    let rows_say = said_rows name rows w (request_of name rows) says in
-    (
+    let rows_say = said_rows name rows w (request_of name rows) says in (
       ap (λ (x : WordTexts). x.follow) is ∙ ap (follow_by name) rows_say.0,
       ap (λ (x : WordTexts). x.files) is ∙ rows_say.1,
     )

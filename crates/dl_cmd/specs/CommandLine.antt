@@ -44,6 +44,10 @@ debug_dir_rule = record (new_rule (codes "debug-dir")) {
 abbrev pub file_rule : Rule
 file_rule = record (new_rule (codes "file")) { value_names = 1 }
 
+-- `FILE` of `check`, any number of them
+abbrev pub files_rule : Rule
+files_rule = record file_rule { action = Some Append }
+
 -- `FILE` of `index`, which has to be there
 abbrev pub index_file_rule : Rule
 index_file_rule = record (new_rule (codes "file")) { required = true; value_names = 1 }
@@ -107,7 +111,13 @@ with_follow a =
 abbrev pub with_input : App → App
 with_input a = with_rule (with_rule a big_rule) file_rule
 
--- the same, and where its string sections come from
+-- which files are read, and whether it is told how far the work is
+abbrev pub with_files : App → App
+with_files a =
+    with_rule (with_rule (with_rule (with_rule (with_rule a big_rule) (value_rule (codes "files-from")))
+    (letter_rule (codes "null") 48)) (switch_rule (codes "progress"))) files_rule
+
+-- where the section comes from, and where its string sections do
 abbrev pub with_strings : App → App
 with_strings a = with_rule (with_rule (with_rule (with_rule a big_rule) line_str_rule) str_rule) file_rule
 
@@ -155,9 +165,9 @@ abbrev pub dump_app : App
 dump_app = with_strings (with_follow (with_units (with_keep_going (new_app (codes "dump")))))
 
 -- `check [--keep-going] [--older SIZE] [--address-size SIZE] [--version-5] [--debug-dir DIR].. [--no-follow] [--verbose]
--- [--big] [FILE]`
+-- [--big] [--files-from PATH] [-0] [--progress] [FILE]..`
 abbrev pub check_app : App
-check_app = with_input (with_follow (with_units (with_keep_going (new_app (codes "check")))))
+check_app = with_files (with_follow (with_units (with_keep_going (new_app (codes "check")))))
 
 -- `find ADDRESS [--op N] [-j NAME] [--older SIZE] [--address-size SIZE] [--version-5] [--debug-dir DIR].. [--no-follow]
 -- [--verbose] [--big] [--line-str PATH] [--str PATH] [FILE]`

@@ -5,7 +5,7 @@ use Rattle.clap.specs.Words.{fault_of, subcommand_of}
 use Rattle.clap.specs.Kinds.{Kinds, or_else}
 use Rattle.clap.specs.declared.error.kind.ErrorKind.TheVariants.{ArgumentConflict, MissingRequiredArgument}
 use Rattle.dl_cmd.specs.CommandLine.{command_line}
-use Rattle.dl_cmd.specs.Job.{FollowTexts, IndexTexts, Request, Text, UnitTexts, WordTexts, addr, check, copy, dump}
+use Rattle.dl_cmd.specs.Job.{FilesTexts, FollowTexts, IndexTexts, Request, Text, UnitTexts, WordTexts, addr, check, copy, dump}
 use Rattle.dl_cmd.specs.Job.{find, index}
 use Rattle.dl_cmd.specs.Words.{said}
 
@@ -44,37 +44,43 @@ says_of_made w follow =
     is_some w.output || (w.all || (w.keep_going || (is_some w.section || (says_of_file w.units
     || (is_some w.comp_dir || says_follow follow)))))
 
+-- `check` has a FILE, or a list of them
+abbrev pub has_files : (file : Option Text) → FilesTexts → Bool
+has_files file files = is_some file || is_some files.files_from
+
 -- words of a job stand together that may not
-abbrev pub job_conflicts : Request → FollowTexts → Bool
-job_conflicts (dump file big units line_str strings keep_going) follow =
+abbrev pub job_conflicts : Request → FollowTexts → FilesTexts → Bool
+job_conflicts (dump file big units line_str strings keep_going) follow files =
     says_two_versions units || (is_some file && (says_of_input big units || says_strings line_str strings))
-job_conflicts (check file big units keep_going) follow =
-    says_two_versions units || (is_some file && says_of_input big units)
-job_conflicts (find file big units address op section line_str strings) follow =
+job_conflicts (check file big units keep_going) follow files =
+    says_two_versions units || (has_files file files && says_of_input big units)
+job_conflicts (find file big units address op section line_str strings) follow files =
     says_two_versions units || (is_some file && (says_of_input big units || says_strings line_str strings))
-job_conflicts (copy file big units to_5 comp_dir) follow = is_some file && says_of_input big units
-job_conflicts (addr w) follow = says_two_versions w.units || (w.json && w.with_addresses)
-job_conflicts (index w) follow = says_two_versions w.units || (w.list && says_of_made w follow)
+job_conflicts (copy file big units to_5 comp_dir) follow files = is_some file && says_of_input big units
+job_conflicts (addr w) follow files = says_two_versions w.units || (w.json && w.with_addresses)
+job_conflicts (index w) follow files = says_two_versions w.units || (w.list && says_of_made w follow)
 
 -- words stand together that may not
 abbrev pub has_conflict : WordTexts → Bool
-has_conflict w = says_both_follow w.follow || job_conflicts w.request w.follow
+has_conflict w = says_both_follow w.follow || job_conflicts w.request w.follow w.files
 
--- a word of a job isn't there that has to be beside others: FILE, `--to-5` or `--output`
-abbrev pub job_lacks : Request → FollowTexts → Bool
-job_lacks (dump file big units line_str strings keep_going) follow =
+-- a word of a job isn't there that has to be beside others: FILE, `--files-from`, `--to-5` or `--output`
+abbrev pub job_lacks : Request → FollowTexts → FilesTexts → Bool
+job_lacks (dump file big units line_str strings keep_going) follow files =
     not (is_some file) && (says_of_file units || says_follow follow)
-job_lacks (check file big units keep_going) follow = not (is_some file) && (says_of_file units || says_follow follow)
-job_lacks (find file big units address op section line_str strings) follow =
+job_lacks (check file big units keep_going) follow files =
+    (not (has_files file files) && (says_of_file units || says_follow follow))
+    || (files.null && not (is_some files.files_from))
+job_lacks (find file big units address op section line_str strings) follow files =
     not (is_some file) && (says_of_file units || (says_follow follow || is_some section))
-job_lacks (copy file big units to_5 comp_dir) follow =
+job_lacks (copy file big units to_5 comp_dir) follow files =
     (not (is_some file) && is_some units.address_size)
     || (not to_5 && (is_some units.older || (is_some units.address_size || is_some comp_dir)))
-job_lacks (addr w) follow = not (is_some w.file)
-job_lacks (index w) follow = not w.list && not (is_some w.output)
+job_lacks (addr w) follow files = not (is_some w.file)
+job_lacks (index w) follow files = not w.list && not (is_some w.output)
 
 abbrev pub lacks_word : WordTexts → Bool
-lacks_word w = job_lacks w.request w.follow
+lacks_word w = job_lacks w.request w.follow w.files
 
 -- the kind of error of a job that isn't done for its words, if it isn't
 abbrev pub refusal_of : WordTexts → Kinds

@@ -1,6 +1,6 @@
 -- What the words ask for, as clap reads them.
 use Rattle.std.specs.Prelude.{ℕ, Bool, List, [], ◌∷◌, Option, Some, None, unwrap_or, codes, if◌then◌else◌, false, true}
-use Rattle.std.specs.Prelude.{option_map}
+use Rattle.std.specs.Prelude.{drop, option_map}
 use Rattle.std.specs.Option.{option_map_or}
 use Rattle.std.specs.Str.{bytes_eq}
 use Rattle.clap.specs.Words.{Row, all_of, first_of, one_of}
@@ -115,9 +115,15 @@ follow_by name said =
 abbrev pub follow_words_of : Text → List Row → FollowTexts
 follow_words_of name rows = follow_by name (follow_said_of rows)
 
--- the files of the subcommand of this name, beside the first
+-- the files of the subcommand of this name beside the first: `check` alone may have some
 abbrev pub files_words_of : Text → List Row → FilesTexts
-files_words_of name rows = record { others = []; files_from = None; null = false; progress = false }
+files_words_of name rows =
+    if bytes_eq name (codes "check") then record {
+      others = drop 1 (texts_of (codes "file") rows);
+      files_from = text_of (codes "files-from") rows;
+      null = flag_of (codes "null") rows;
+      progress = flag_of (codes "progress") rows;
+    } else record { others = []; files_from = None; null = false; progress = false }
 
 -- all that the words say of the subcommand of this name, as it stands: where no folder is said, there is none
 abbrev pub said_of : Text → List Row → Option WordTexts

@@ -1,6 +1,6 @@
 //! The arguments of the command line, with their help. Which of them may not stand together is in `refusal`, and so is which
 //! have to be there beside others: of arguments that have no rule on one another clap's contract says each kind of error.
-ghost use Rattle.dl_cmd.specs.CommandLine.{IsRule, address_rule, addresses_rule, base_rule, big_rule, debug_dir_rule, exe_rule, file_rule};
+ghost use Rattle.dl_cmd.specs.CommandLine.{IsRule, address_rule, addresses_rule, base_rule, big_rule, debug_dir_rule, exe_rule, file_rule, files_rule};
 ghost use Rattle.dl_cmd.specs.CommandLine.{index_file_rule, letter_rule, line_str_rule, op_rule, output_rule, section_rule};
 ghost use Rattle.dl_cmd.specs.CommandLine.{str_rule, switch_rule, value_rule};
 ghost use Rattle.std.specs.Prelude.{codes};
@@ -15,6 +15,31 @@ pub fn file<'a>(alloc: Global) -> Arg<'a>
     Arg::new(alloc, "file").value_name("FILE").help(
         "ELF file to read; without it the bytes of a section .debug_line are read from \
              standard input",
+    )
+}
+
+/// The ELF files of `check`.
+pub fn files<'a>(alloc: Global) -> Arg<'a>
+    ensures { IsRule files_rule result }
+{
+    Arg::new(alloc, "file")
+        .action(ArgAction::Append)
+        .value_name("FILE")
+        .help(
+            "ELF files to read; without one, and without --files-from, the bytes of a section .debug_line \
+             are read from standard input",
+        )
+}
+
+/// The list of files of `check`.
+pub fn files_from<'a>(alloc: Global) -> Arg<'a>
+    ensures { IsRule (value_rule (codes "files-from")) result }
+{
+    valued(
+        alloc,
+        "files-from",
+        "PATH",
+        "File with the paths of further files to read, one a line, or - for standard input",
     )
 }
 

@@ -2,15 +2,15 @@
 ghost use Rattle.std.specs.Prelude.{IfOk, OnErr, codes};
 ghost use Rattle.clap.specs.Words.{AddsArg, AddsSubcommand, App, Rule, with_rule, with_subcommand};
 ghost use Rattle.dl_cmd.specs.CommandLine.{IsApp, IsRule, addr_app, check_app, command_line, copy_app, dump_app, find_app};
-ghost use Rattle.dl_cmd.specs.CommandLine.{index_app, top_app, with_addresses, with_follow, with_input, with_keep_going, with_making};
+ghost use Rattle.dl_cmd.specs.CommandLine.{index_app, top_app, with_addresses, with_files, with_follow, with_input, with_keep_going, with_making};
 ghost use Rattle.dl_cmd.specs.CommandLine.{with_printing, with_settings, with_strings, with_to_5, with_units};
 ghost use Rattle.dl_cmd.specs.CommandLine.{with_units_of_file};
 ghost use Rattle.dl_cmd.specs.Memory.{LibraryRefused};
 
 use crate::arguments::{
     addr_file, address, address_size, addresses, all, base, big, comp_dir, debug_dir, exe, file,
-    index_file, json, letter, line_str, list, made_of, older, op, output, section, strings, switch,
-    version_5,
+    files, files_from, index_file, json, letter, line_str, list, made_of, older, op, output,
+    section, strings, switch, version_5,
 };
 use crate::job::Job;
 use crate::library::refused;
@@ -23,6 +23,10 @@ const VERSION: &str = "0.1.0";
 /// What stands at the head of the page of a command whose FILE may be left out.
 const WITHOUT_FILE: &str =
     "Without FILE the bytes of a section .debug_line are read from standard input, not an ELF file.";
+
+/// What stands at the head of the page of `check`.
+const WITHOUT_FILES: &str =
+    "Without FILE and --files-from the bytes of a section .debug_line are read from standard input, not an ELF file.";
 
 /// What stands at the head of the page of `addr`.
 const WITHOUT_ELF_FILE: &str =
@@ -160,6 +164,31 @@ fn add_input<'a>(
     with_arg(with_arg(command, big(alloc)), file(alloc))
 }
 
+/// Which files are read, and whether it is told how far the work is.
+fn add_files<'a>(
+    alloc: Global,
+    command: Result<Command<'a>, AllocError>,
+) -> Result<Command<'a>, AllocError>
+    ensures app { (a : App) → IfOk command.entry (IsApp a) → IfOk result (IsApp (with_files a)) }
+    ensures refused { OnErr command.entry LibraryRefused → OnErr result LibraryRefused }
+{
+    let command = with_arg(command, big(alloc));
+    let command = with_arg(command, files_from(alloc));
+    let null = letter(
+        alloc,
+        "null",
+        '0',
+        "Paths of --files-from end with a zero byte, as find -print0 writes them",
+    );
+    let command = with_arg(command, null);
+    let progress = switch(
+        alloc,
+        "progress",
+        "Tell on standard error how far the work is",
+    );
+    with_arg(with_arg(command, progress), files(alloc))
+}
+
 fn add_strings<'a>(
     alloc: Global,
     command: Result<Command<'a>, AllocError>,
@@ -193,12 +222,15 @@ fn check<'a>(alloc: Global) -> Result<Command<'a>, AllocError>
     ensures refused { OnErr result LibraryRefused }
 {
     let command = Command::new(alloc, "check")
-        .before_help(WITHOUT_FILE)
+        .before_help(WITHOUT_FILES)
         .about("Read all units, and print how many units, sequences and rows there are")
-        .after_help("Examples:\n  dwline check program\n  dwline check --big < debug_line");
+        .after_help(
+            "Examples:\n  dwline check program\n  dwline check --big < debug_line\n  \
+             find /usr/bin -type f -print0 | dwline check --files-from - -0",
+        );
     let command = add_keep_going(alloc, Ok(command));
     let command = add_units(alloc, command);
-    add_input(alloc, add_follow(alloc, command))
+    add_files(alloc, add_follow(alloc, command))
 }
 
 fn find<'a>(alloc: Global) -> Result<Command<'a>, AllocError>

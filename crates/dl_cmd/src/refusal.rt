@@ -1,12 +1,13 @@
 //! Which words of a job may not stand together, and which have to be there beside others.
-ghost use Rattle.std.specs.Prelude.{◌≡◌, ◌∷◌, [], is_some, option_map};
+ghost use Rattle.std.specs.Prelude.{◌≡◌, ◌&&◌, ◌∷◌, [], is_some, option_map};
 ghost use Rattle.std.specs.Option.{option_map_or};
-ghost use Rattle.dl_cmd.specs.Job.{follow_words_made, index_words_made, request_made, unit_words_made, words_made};
-ghost use Rattle.dl_cmd.specs.Refusals.{has_conflict, is_there, job_conflicts, job_lacks, lacks_word, refusal_of};
+ghost use Rattle.dl_cmd.specs.Job.{files_words_made, follow_words_made, index_words_made, request_made, unit_words_made};
+ghost use Rattle.dl_cmd.specs.Job.{words_made};
+ghost use Rattle.dl_cmd.specs.Refusals.{has_conflict, has_files, is_there, job_conflicts, job_lacks, lacks_word, refusal_of};
 ghost use Rattle.dl_cmd.specs.Refusals.{says_both_follow, says_follow, says_of_file, says_of_input, says_of_made};
 ghost use Rattle.dl_cmd.specs.Refusals.{says_strings, says_two_versions};
 
-use crate::job::{FollowWords, IndexWords, Job, UnitWords, Words};
+use crate::job::{FilesWords, FollowWords, IndexWords, Job, UnitWords, Words};
 use clap::error::ErrorKind;
 
 /// Why a job isn't done for its words.
@@ -18,6 +19,8 @@ pub struct Refusal {
 }
 
 const NO_FILE: &str = "the following required arguments were not provided:\n  <FILE>";
+
+const NO_LIST: &str = "the following required arguments were not provided:\n  --files-from <PATH>";
 
 const NO_TO_5: &str = "the following required arguments were not provided:\n  --to-5";
 
@@ -41,6 +44,38 @@ fn of_input(big: bool, units: &UnitWords<'_>) -> Option<&'static str>
         Some("the argument '--big' cannot be used with '[FILE]'")
     } else if units.older.is_some() {
         Some("the argument '--older <SIZE>' cannot be used with '[FILE]'")
+    } else {
+        None
+    }
+}
+
+/// The same, which may not stand beside a list of files either.
+fn of_input_listed(big: bool, units: &UnitWords<'_>) -> Option<&'static str>
+    ensures { is_some result ≡ says_of_input big (unit_words_made units.now) }
+{
+    if big {
+        Some("the argument '--big' cannot be used with '--files-from <PATH>'")
+    } else if units.older.is_some() {
+        Some("the argument '--older <SIZE>' cannot be used with '--files-from <PATH>'")
+    } else {
+        None
+    }
+}
+
+/// What is said of a section on standard input alone, where `check` reads files.
+fn beside_files(
+    file: Option<&str>,
+    files: &FilesWords<'_>,
+    big: bool,
+    units: &UnitWords<'_>,
+) -> Option<&'static str>
+    ensures { is_some result ≡ (has_files (option_map (λ s. s.now) file.entry) (files_words_made files.now)
+        && says_of_input big (unit_words_made units.now)) }
+{
+    if file.is_some() {
+        of_input(big, units)
+    } else if files.files_from.is_some() {
+        of_input_listed(big, units)
     } else {
         None
     }
@@ -122,8 +157,13 @@ fn of_made(words: &IndexWords<'_>, follow: &FollowWords<'_>) -> Option<&'static 
 }
 
 /// Two words of a job that may not stand together, as the user is told.
-fn job_conflict(job: &Job<'_>, follow: &FollowWords<'_>) -> Option<&'static str>
-    ensures { is_some result ≡ job_conflicts (request_made job.now) (follow_words_made follow.now) }
+fn job_conflict(
+    job: &Job<'_>,
+    follow: &FollowWords<'_>,
+    files: &FilesWords<'_>,
+) -> Option<&'static str>
+    ensures { is_some result ≡ job_conflicts (request_made job.now) (follow_words_made follow.now)
+        (files_words_made files.now) }
 {
     match job {
         Job::Dump {
@@ -150,7 +190,7 @@ fn job_conflict(job: &Job<'_>, follow: &FollowWords<'_>) -> Option<&'static str>
             big,
             units,
             ..
-        } => two_versions(units).or(file.and(of_input(*big, units))),
+        } => two_versions(units).or(beside_files(*file, files, *big, units)),
         Job::Copy {
             file,
             big,
@@ -175,7 +215,7 @@ fn job_conflict(job: &Job<'_>, follow: &FollowWords<'_>) -> Option<&'static str>
 fn conflict(words: &Words<'_>) -> Option<&'static str>
     ensures { is_some result ≡ has_conflict (words_made words.now) }
 {
-    both_follow(&words.follow).or(job_conflict(&words.job, &words.follow))
+    both_follow(&words.follow).or(job_conflict(&words.job, &words.follow, &words.files))
 }
 
 fn is_of_file(units: &UnitWords<'_>) -> bool
@@ -185,13 +225,20 @@ fn is_of_file(units: &UnitWords<'_>) -> bool
 }
 
 /// A word of a job that has to be there beside others and isn't, as the user is told.
-fn job_lack(job: &Job<'_>, follow: &FollowWords<'_>) -> Option<&'static str>
-    ensures { is_some result ≡ job_lacks (request_made job.now) (follow_words_made follow.now) }
+fn job_lack(job: &Job<'_>, follow: &FollowWords<'_>, files: &FilesWords<'_>) -> Option<&'static str>
+    ensures { is_some result ≡ job_lacks (request_made job.now) (follow_words_made follow.now) (files_words_made files.now) }
 {
     let follows = says_to_follow(follow);
     match job {
-        Job::Dump { file, units, .. } | Job::Check { file, units, .. } => {
+        Job::Dump { file, units, .. } => {
             (file.is_none() && (is_of_file(units) || follows)).then_some(NO_FILE)
+        }
+        Job::Check { file, units, .. } => {
+            let no_list = files.files_from.is_none();
+            let no_file = file.is_none() && no_list && (is_of_file(units) || follows);
+            no_file
+                .then_some(NO_FILE)
+                .or((files.null && no_list).then_some(NO_LIST))
         }
         Job::Find {
             file,
@@ -223,7 +270,7 @@ fn job_lack(job: &Job<'_>, follow: &FollowWords<'_>) -> Option<&'static str>
 fn lack(words: &Words<'_>) -> Option<&'static str>
     ensures { is_some result ≡ lacks_word (words_made words.now) }
 {
-    job_lack(&words.job, &words.follow)
+    job_lack(&words.job, &words.follow, &words.files)
 }
 
 /// Why a job isn't done for its words; None where it is.

@@ -1,6 +1,6 @@
 //! The words of the command line, and the job that they ask for.
 
-ghost use Rattle.std.specs.Prelude.{◌≡◌, [], Option, IfOk, IfSome, OnErr, is_some, map, option_map, true};
+ghost use Rattle.std.specs.Prelude.{◌≡◌, [], Option, IfOk, IfSome, OnErr, codes, drop, is_some, map, option_map, true};
 ghost use Rattle.std.specs.Option.{option_map_or};
 ghost use Rattle.clap.specs.Words.{FailsBy, found_of, kind_of, rows_of, subcommand_of};
 ghost use Rattle.dl_cmd.specs.CommandLine.{command_line};
@@ -243,6 +243,27 @@ fn follow_by<'a>(
     })
 }
 
+fn after_first<'a, 'b>(texts: &'b [&'a str]) -> &'b [&'a str]
+    ensures { result.now ≡ drop 1 texts.now }
+{
+    match texts {
+        [_, others @ ..] => others,
+        [] => texts,
+    }
+}
+
+/// FILEs after the first one.
+fn other_files<'a>(alloc: Global, matches: &ArgMatches<'a>) -> Result<Vec<&'a str>, AllocError>
+    ensures texts { IfOk result (λ v. map (λ s. s.now) v.items
+        ≡ drop 1 (texts_of (codes "file") (rows_of (found_of matches.now)))) }
+    ensures refused { OnErr result LibraryRefused }
+{
+    match matches.get_strs("file") {
+        Some(found) => copied(alloc, after_first(found)),
+        None => Ok(Vec::new(alloc)),
+    }
+}
+
 fn files_words<'a>(
     alloc: Global,
     name: &str,
@@ -251,11 +272,19 @@ fn files_words<'a>(
     ensures words { IfOk result (λ w. files_words_made w ≡ files_words_of name.now (rows_of (found_of matches.now))) }
     ensures refused { OnErr result LibraryRefused }
 {
+    if name != "check" {
+        return Ok(FilesWords {
+            others: Vec::new(alloc),
+            files_from: None,
+            null: false,
+            progress: false,
+        });
+    }
     Ok(FilesWords {
-        others: Vec::new(alloc),
-        files_from: None,
-        null: false,
-        progress: false,
+        others: other_files(alloc, matches)?,
+        files_from: text(matches, "files-from"),
+        null: flag(matches, "null"),
+        progress: flag(matches, "progress"),
     })
 }
 
