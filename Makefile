@@ -18,7 +18,7 @@ package = $(DESTDIR)$(PREFIX)/lib/pkgconfig/boxantrel.pc
 tries = compare-with-dwline try-damaged try-dwline try-files try-growth try-index try-sections try-truncated try-documents try-install \
 	try-library
 
-version = $(shell sed -n 's/^.* VERSION: &str = "\(.*\)";$$/\1/p' crates/dl_cmd/src/command_line.rt)
+version = $(shell sed -n 's/^.* VERSION: &str = "\(.*\)";$$/\1/p' crates/dl_options/src/command_line.rt)
 
 # The program, at crates/dwline/out/dwline. A line tells of each crate as its proof begins and ends; the last one is
 # proved with the program, whose log is crates/dwline/out/prove.log as those of the others.

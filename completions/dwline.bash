@@ -9,7 +9,7 @@ _dwline() {
         return
     fi
     case $before in
-        --line-str | --str | -e | --exe | --comp-dir | --for | -o | --output)
+        --line-str | --str | -e | --exe | --comp-dir | --debug-dir | --for | --files-from | -o | --output)
             mapfile -t COMPREPLY < <(compgen -f -- "$current")
             return
             ;;
@@ -23,12 +23,12 @@ _dwline() {
     esac
     local options
     case ${COMP_WORDS[1]} in
-        addr) options="-a --addresses -s --basenames --json --hex --base --all --stop -j --section -e --exe --older --address-size --version-5 --comp-dir --for --big --line-str --str -h --help" ;;
-        index) options="--all --keep-going -j --section --address-size --version-5 --comp-dir --list -o --output -h --help" ;;
-        dump) options="--keep-going --older --address-size --version-5 --big --line-str --str -h --help" ;;
-        check) options="--keep-going --older --address-size --version-5 --big -h --help" ;;
+        addr) options="-a --addresses -s --basenames --json --hex --base --all --stop -j --section -e --exe --older --address-size --version-5 --comp-dir --for --debug-dir --no-follow --verbose --big --line-str --str -h --help" ;;
+        index) options="--all --keep-going -j --section --address-size --version-5 --comp-dir --debug-dir --no-follow --verbose --list -o --output -h --help" ;;
+        dump) options="--keep-going --older --address-size --version-5 --debug-dir --no-follow --verbose --big --line-str --str -h --help" ;;
+        check) options="--keep-going --older --address-size --version-5 --debug-dir --no-follow --verbose --big --files-from -0 --null --progress -h --help" ;;
         copy) options="--to-5 --older --address-size --comp-dir --big -h --help" ;;
-        find) options="--op -j --section --older --address-size --version-5 --big --line-str --str -h --help" ;;
+        find) options="--op -j --section --older --address-size --version-5 --debug-dir --no-follow --verbose --big --line-str --str -h --help" ;;
         help)
             mapfile -t COMPREPLY < <(compgen -W "addr index dump check find copy help" -- "$current")
             return

@@ -1,4 +1,4 @@
-pub mod CommandLineLemmas
+pub mod CopiedLemmas
 pub mod WordLemmas
 pub mod WordLaws
 pub mod AddressLemmas

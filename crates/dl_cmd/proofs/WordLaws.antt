@@ -8,7 +8,7 @@ use Rattle.clap.specs.Kinds.{Kinds, or_else}
 use Rattle.clap.specs.Words.{subcommand_of}
 use Rattle.clap.specs.declared.error.kind.ErrorKind.TheVariants.{ArgumentConflict, MissingRequiredArgument}
 use Rattle.clap.proofs.OnLiterals.{clap_on_literals}
-use Rattle.dl_cmd.specs.CommandLine.{command_line}
+use Rattle.dl_options.specs.CommandLine.{command_line}
 use Rattle.dl_cmd.specs.Job.{Text, WordTexts}
 use Rattle.dl_cmd.specs.Laws.{ConflictIsFault, FaultlessWordsAsk, FaultlessWordsStand, FileExcludesInput, LackIsFault, Say}
 use Rattle.dl_cmd.specs.Laws.{WorkedWords}

@@ -28,9 +28,9 @@ use Rattle.clap.specs.declared.parser.matches.ArgMatches.TheViews.{out-SubComman
 use Rattle.clap.specs.Words.{is_simple, kind_of, subcommand_of, subcommand_rows}
 use Rattle.clap.proofs.FaultLemmas.{failed_up, first_fails}
 use Rattle.clap.proofs.WalkLemmas.{both}
-use Rattle.dl_cmd.specs.CommandLine.{command_line}
+use Rattle.dl_options.specs.CommandLine.{command_line}
 use Rattle.dl_cmd.specs.Job.{Request, WordTexts}
-use Rattle.dl_cmd.specs.Memory.{WantsRefused, clap_refused}
+use Rattle.dl_options.specs.Memory.{WantsRefused, clap_refused}
 use Rattle.dl_cmd.specs.Refusals.{has_conflict, lacks_word, refusal_of, word_faults}
 use Rattle.dl_cmd.specs.Words.{files_words_of, follow_by, follow_said_of, follow_words_of, request_of, requested, said}
 use Rattle.dl_cmd.specs.Words.{said_of}

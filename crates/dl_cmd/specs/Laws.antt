@@ -3,7 +3,7 @@ use Rattle.std.specs.Prelude.{◌≡◌, ℕ, Bool, List, [], ◌∷◌, Option,
 use Rattle.clap.specs.Words.{fault_of, subcommand_of}
 use Rattle.clap.specs.declared.error.kind.ErrorKind.TheVariants.{ArgumentConflict, DisplayHelp, MissingRequiredArgument}
 use Rattle.clap.specs.declared.error.kind.ErrorKind.TheVariants.{MissingSubcommand, UnknownArgument}
-use Rattle.dl_cmd.specs.CommandLine.{command_line}
+use Rattle.dl_options.specs.CommandLine.{command_line}
 use Rattle.dl_cmd.specs.Job.{FilesTexts, FollowTexts, Request, Text, UnitTexts, WordTexts, check, copy, dump, find}
 use Rattle.dl_cmd.specs.Refusals.{has_conflict, lacks_word, says_of_input, word_faults}
 use Rattle.dl_cmd.specs.Words.{requested, said}

@@ -4,7 +4,7 @@ use Rattle.std.specs.Option.{option_map_or}
 use Rattle.clap.specs.Words.{fault_of, subcommand_of}
 use Rattle.clap.specs.Kinds.{Kinds, or_else}
 use Rattle.clap.specs.declared.error.kind.ErrorKind.TheVariants.{ArgumentConflict, MissingRequiredArgument}
-use Rattle.dl_cmd.specs.CommandLine.{command_line}
+use Rattle.dl_options.specs.CommandLine.{command_line}
 use Rattle.dl_cmd.specs.Job.{FilesTexts, FollowTexts, IndexTexts, Request, Text, UnitTexts, WordTexts, addr, check, copy, dump}
 use Rattle.dl_cmd.specs.Job.{find, index}
 use Rattle.dl_cmd.specs.Words.{said}

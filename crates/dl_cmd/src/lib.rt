@@ -2,11 +2,8 @@
 #![tactic(auto)]
 
 mod address;
-mod arguments;
-mod command_line;
 mod job;
 mod laws;
-mod library;
 mod refusal;
 mod words;
 

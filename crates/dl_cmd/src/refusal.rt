@@ -53,13 +53,12 @@ fn of_input(big: bool, units: &UnitWords<'_>) -> Option<&'static str>
 fn of_input_listed(big: bool, units: &UnitWords<'_>) -> Option<&'static str>
     ensures { is_some result ≡ says_of_input big (unit_words_made units.now) }
 {
-    if big {
-        Some("the argument '--big' cannot be used with '--files-from <PATH>'")
-    } else if units.older.is_some() {
-        Some("the argument '--older <SIZE>' cannot be used with '--files-from <PATH>'")
+    let message = if big {
+        "the argument '--big' cannot be used with '--files-from <PATH>'"
     } else {
-        None
-    }
+        "the argument '--older <SIZE>' cannot be used with '--files-from <PATH>'"
+    };
+    of_input(big, units).and(Some(message))
 }
 
 /// What is said of a section on standard input alone, where `check` reads files.

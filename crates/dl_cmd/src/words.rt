@@ -3,21 +3,20 @@
 ghost use Rattle.std.specs.Prelude.{◌≡◌, [], Option, IfOk, IfSome, OnErr, codes, drop, is_some, map, option_map, true};
 ghost use Rattle.std.specs.Option.{option_map_or};
 ghost use Rattle.clap.specs.Words.{FailsBy, found_of, kind_of, rows_of, subcommand_of};
-ghost use Rattle.dl_cmd.specs.CommandLine.{command_line};
+ghost use Rattle.dl_options.specs.CommandLine.{command_line};
 ghost use Rattle.dl_cmd.specs.Job.{addr_words_made, files_words_made, follow_words_made, index_words_made};
 ghost use Rattle.dl_cmd.specs.Job.{request_made, unit_words_made, words_made};
-ghost use Rattle.dl_cmd.specs.Memory.{WantsRefused, LibraryRefused};
+ghost use Rattle.dl_options.specs.Memory.{WantsRefused, LibraryRefused};
 ghost use Rattle.dl_cmd.specs.Refusals.{refusal_of, word_faults};
 ghost use Rattle.dl_cmd.specs.Words.{addr_words_of, byte_of, dirs_or_default, file_and_addresses, files_words_of};
 ghost use Rattle.dl_cmd.specs.Words.{flag_of, follow_by, follow_said_of, follow_words_of, index_words_of, request_of};
 ghost use Rattle.dl_cmd.specs.Words.{requested, said_of, text_of, texts_of, unit_words_of, word_status_of};
 
-use crate::command_line::{command_of, make_command_line};
 use crate::job::{AddrWords, FilesWords, FollowWords, IndexWords, Job, UnitWords, Words};
-use crate::library::refused;
 use crate::refusal::{Refusal, why_refused};
 use clap::error::ErrorKind;
-use clap::{ArgMatches, Error};
+use clap::{ArgMatches, Command, Error};
+use dl_options::{make_command_line, refused};
 use std::alloc::{AllocError, Global};
 
 fn text<'a>(matches: &ArgMatches<'a>, id: &str) -> Option<&'a str>
@@ -303,6 +302,20 @@ fn said<'a>(
     let follow = follow_said(alloc, matches)?;
     let files = files_words(alloc, name, matches)?;
     Ok(Some(Words { job, follow, files }))
+}
+
+/// The subcommand that a job is asked for with, by itself.
+fn command_of<'a>(alloc: Global, job: &Job<'_>) -> Result<Command<'a>, AllocError>
+    ensures refused { OnErr result LibraryRefused }
+{
+    match job {
+        Job::Addr(_) => dl_options::addr(alloc),
+        Job::Index(_) => dl_options::index(alloc),
+        Job::Dump { .. } => dl_options::dump(alloc),
+        Job::Check { .. } => dl_options::check(alloc),
+        Job::Find { .. } => dl_options::find(alloc),
+        Job::Copy { .. } => dl_options::copy(alloc),
+    }
 }
 
 /// The error of a job that isn't done, with the usage of its subcommand.

@@ -2,7 +2,7 @@ use Rattle.std.proofs.Common.{◌∙◌, [], ℕ, List, Bor, Option, ap, codes, 
 use Rattle.std.specs.Prelude.{unwrap_or}
 use Rattle.clap.specs.Words.{Text, found_of}
 use Rattle.clap.proofs.WalkLemmas.{raw_values-rows}
-use Rattle.dl_cmd.proofs.CommandLineLemmas.{others_copied}
+use Rattle.dl_cmd.proofs.CopiedLemmas.{others_copied}
 use Rattle.dl_cmd.proofs.words.other_files.Goals as goal
 
 pub returns-in-Some-clause-texts : goal.returns-in-Some-clause-texts

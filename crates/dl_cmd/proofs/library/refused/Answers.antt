@@ -1,5 +1,0 @@
-use Rattle.dl_cmd.specs.Memory.{library_refused}
-use Rattle.dl_cmd.proofs.library.refused.Goals as goal
-
-pub returns : goal.returns
-returns c = library_refused c.args.error

@@ -1,0 +1,9 @@
+//! The command line: its subcommands with their options and other arguments, as `clap` reads it.
+#![tactic(auto)]
+
+mod arguments;
+mod command_line;
+mod library;
+
+pub use command_line::{addr, check, copy, dump, find, index, make_command_line};
+pub use library::refused;
