@@ -77,69 +77,16 @@ impl<'a> Job<'a> {
     pub fn of_file(self, path: &'a str) -> Job<'a>
         ensures { request_made result ≡ with_file (request_made self.entry) path.entry.now }
     {
-        let file = Some(path);
-        match self {
-            Job::Dump {
-                big,
-                units,
-                line_str,
-                strings,
-                keep_going,
-                ..
-            } => Job::Dump {
-                file,
-                big,
-                units,
-                line_str,
-                strings,
-                keep_going,
-            },
-            Job::Check {
-                big,
-                units,
-                keep_going,
-                ..
-            } => Job::Check {
-                file,
-                big,
-                units,
-                keep_going,
-            },
-            Job::Find {
-                big,
-                units,
-                address,
-                op,
-                section,
-                line_str,
-                strings,
-                ..
-            } => Job::Find {
-                file,
-                big,
-                units,
-                address,
-                op,
-                section,
-                line_str,
-                strings,
-            },
-            Job::Copy {
-                big,
-                units,
-                to_5,
-                comp_dir,
-                ..
-            } => Job::Copy {
-                file,
-                big,
-                units,
-                to_5,
-                comp_dir,
-            },
-            Job::Addr(words) => Job::Addr(AddrWords { file, ..words }),
-            Job::Index(words) => Job::Index(IndexWords { file, ..words }),
+        let mut job = self;
+        match &mut job {
+            Job::Dump { file, .. } => *file = Some(path),
+            Job::Check { file, .. } => *file = Some(path),
+            Job::Find { file, .. } => *file = Some(path),
+            Job::Copy { file, .. } => *file = Some(path),
+            Job::Addr(words) => words.file = Some(path),
+            Job::Index(words) => words.file = Some(path),
         }
+        job
     }
 }
 
