@@ -1,0 +1,2 @@
+-- What the public contracts say rests on these, in reading order.
+pub mod Holding
