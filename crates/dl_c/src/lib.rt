@@ -17,7 +17,7 @@ ghost use Rattle.dl_calls.specs.PathCalls.{TellsPath, both_strings};
 ghost use Rattle.dl_calls.specs.PathsCalls.{TellsPaths};
 ghost use Rattle.dl_calls.specs.Records.{status_code};
 ghost use Rattle.dl_calls.specs.UnitCalls.{Describes, Lists, length_told, written_over};
-ghost use Rattle.dl_memory.specs.Refusals.{MayRefuse, SystemRefuses};
+ghost use Rattle.dl_memory.specs.Refusals.{SystemRefuses};
 ghost use Rattle.dl_memory.specs.declared.system.System.{System};
 ghost use Rattle.dl_index_calls.specs.IndexFaultCalls as index_faults;
 ghost use Rattle.dl_index_calls.specs.IndexFindCalls.{FindsMany, FindsOne};
@@ -138,7 +138,7 @@ pub extern "C" fn boxantrel_copy(
     fault: &mut FaultRecord,
 ) -> u32
     ensures { (status : Status) × (result ≡ status_code status)
-        × Copies (MayRefuse {M = System} (λ memory. SystemRefuses)) SystemRefuses (dialect_of how) section.now room.old room.new len.old len.new fault.old fault.new status }
+        × Copies SystemRefuses (dialect_of how) section.now room.old room.new len.old len.new fault.old fault.new status }
 {
     dl_calls::copy(&System::new(alloc), section, how, room, len, fault).code()
 }

@@ -1,7 +1,9 @@
 -- What the call that writes all units anew answers. s: the bytes of a section. refuses: for how many items memory is
 -- refused. DWARF 5, section 6.2.4.
-use Rattle.std.specs.Prelude.{◌≡◌, ◌+◌, ◌<◌, ◌≤◌, ◌^◌, ⊤, ℕ, List, [], length, Option, Some, Result, Ok, Err}
+use Rattle.std.specs.Prelude.{◌≡◌, ◌<◌, ◌≤◌, ◌^◌, ⊤, ℕ, List, [], length, Option, Some, Result, Ok, Err, IfOk, OnErr}
 use Rattle.std.specs.Io.KnownBytes.{Consumes}
+use Rattle.std.specs.Global.{Vec}
+use Rattle.dl_memory.specs.declared.memory.NoMemory.{NoMemory}
 use Rattle.dl_head.specs.declared.dialect.Dialect.{Dialect}
 use Rattle.dl_head.specs.Dialect.{version_5}
 use Rattle.dl_table.specs.declared.fault.FaultKind.TheVariants.{UnitTooLong}
@@ -9,6 +11,7 @@ use Rattle.dl_print.specs.declared.summary.Summary.{Summary}
 use Rattle.dl_run.specs.declared.fault.RunFault.{RunFault}
 use Rattle.dl_run.specs.declared.fault.RunFault.TheVariants as run
 use Rattle.dl_run.specs.Commands as commands
+use Rattle.dl_held.specs.Holding.{CannotHold}
 use Rattle.dl_calls.specs.declared.record.FaultRecord.{FaultRecord}
 use Rattle.dl_calls.specs.declared.status.Status.{Status}
 use Rattle.dl_calls.specs.declared.status.Status.TheVariants as status
@@ -33,25 +36,32 @@ TellsFault (run.Damage offset kind) g = g ≡ record_of offset kind
 TellsFault (run.Emit offset f) g = g ≡ record_of offset UnitTooLong
 TellsFault other g = ⊥
 
--- a fault of the command for which memory, or the section's length, is to blame; may_refuse: some memory of the kind is
--- refused, which the copy is held in
-abbrev pub IsWant : (may_refuse : Type 0) → RunFault → Type 0
-IsWant may_refuse run.NoMemory = ⊤
-IsWant may_refuse (run.Write out) = out + 2 ^ 64 < 2 ^ 128 → may_refuse
-IsWant may_refuse run.SectionTooLong = ⊤
-IsWant may_refuse other = ⊥
+-- Memory, or the section's length, is to blame: that of the command, or for the copy, of which v was written. A write fails only
+-- where more bytes are out than can be counted.
+abbrev pub IsWant : (refuses : ℕ → Type 0) (v : List ℕ) → Result Summary RunFault → Type 0
+IsWant refuses v (Ok summary) = CannotHold refuses v
+IsWant refuses v (Err run.NoMemory) = ⊤
+IsWant refuses v (Err (run.Write out)) = CannotHold refuses v
+IsWant refuses v (Err run.SectionTooLong) = ⊤
+IsWant refuses v (Err other) = ⊥
 
 -- `copy`: of a room, a length and a fault, p, m and f before it, and q, n and g after it, only what the status says is
 -- written
-abbrev pub Copies : (may_refuse : Type 0) (refuses : ℕ → Type 0) → Dialect → (s p q : List ℕ) (m n : ℕ) (f g : FaultRecord) → Status → Type 0
-Copies may_refuse refuses dialect s p q m n f g status.Done =
+abbrev pub Copies : (refuses : ℕ → Type 0) → Dialect → (s p q : List ℕ) (m n : ℕ) (f g : FaultRecord) → Status → Type 0
+Copies refuses dialect s p q m n f g status.Done =
     (v : List ℕ) × (summary : Summary) × Runs refuses dialect s v (Ok summary) × Puts v p q n status.Done × (g ≡ f)
-Copies may_refuse refuses dialect s p q m n f g status.NoRoom =
+Copies refuses dialect s p q m n f g status.NoRoom =
     (v : List ℕ) × (summary : Summary) × Runs refuses dialect s v (Ok summary) × Puts v p q n status.NoRoom × (g ≡ f)
-Copies may_refuse refuses dialect s p q m n f g status.Fault =
+Copies refuses dialect s p q m n f g status.Fault =
     (v : List ℕ) × (r : RunFault) × Runs refuses dialect s v (Err r) × TellsFault r g × (q ≡ p) × (n ≡ m)
-Copies may_refuse refuses dialect s p q m n f g status.OtherVersion =
+Copies refuses dialect s p q m n f g status.OtherVersion =
     (v : List ℕ) × (offset : ℕ) × Runs refuses dialect s v (Err (run.ForeignUnit offset)) × (q ≡ p) × (n ≡ m) × (g ≡ f)
-Copies may_refuse refuses dialect s p q m n f g status.NoMemory =
-    (v : List ℕ) × (r : RunFault) × Runs refuses dialect s v (Err r) × IsWant may_refuse r × (q ≡ p) × (n ≡ m) × (g ≡ f)
-Copies may_refuse refuses dialect s p q m n f g status.NoAnswer = ⊥
+Copies refuses dialect s p q m n f g status.NoMemory =
+    (v : List ℕ) × (end : Result Summary RunFault) × Runs refuses dialect s v end × IsWant refuses v end × (q ≡ p) × (n ≡ m) × (g ≡ f)
+Copies refuses dialect s p q m n f g status.NoAnswer = ⊥
+
+-- of a copy that ended so, of which v was written: v is held, or can't be, and can't be where a write failed
+abbrev pub IsHeld : (refuses : ℕ → Type 0) (v : List ℕ) (end : Result Summary RunFault) → Result (Vec ℕ) NoMemory → Type 0
+IsHeld refuses v end bytes =
+    IfOk bytes (λ list. list.items ≡ v) × OnErr bytes (CannotHold refuses v)
+    × ((out : ℕ) → end ≡ Err (run.Write out) → CannotHold refuses v)
