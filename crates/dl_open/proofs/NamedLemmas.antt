@@ -4,7 +4,7 @@ use Rattle.std.proofs.Common.{Option, Some, None, Result, Ok, Err}
 use Rattle.std.proofs.Common.{refl, sym, ap, subst, ◌∙◌, arith, append_assoc, append-nil, length-append}
 use Rattle.std.proofs.Common.{◌∷◌}
 use Rattle.std.proofs.lemmas.Bool.{eqb-true}
-use Rattle.std.specs.Prelude.{IfSome, MatchResult, is_some, option_map}
+use Rattle.std.specs.Prelude.{◌⊎◌, IfSome, MatchResult, is_some, option_map}
 use Rattle.std.specs.declared.io.Error.{Error}
 use Rattle.dl_file.specs.declared.line_file.LineFile.{LineFile}
 use Rattle.dl_file.specs.declared.line_file.Wanted.TheVariants.{LineAndLineStrings}
@@ -16,7 +16,8 @@ use Rattle.dl_open.specs.declared.dialect.FileUnits.{FileUnits}
 use Rattle.dl_open.specs.declared.named.Sections.TheVariants.{LinesAndTexts}
 use Rattle.dl_open.specs.declared.stop.FileStop.{FileStop}
 use Rattle.dl_open.specs.Tables.{HasTable, IsNamed, NamedStops, NamingStops, OpeningStops, TableStops, file_dialect}
-use Rattle.dl_open.specs.Tables.{stream_of, with_strings}
+use Rattle.dl_open.specs.Tables.{HasNoDamage, bytes_of, stream_of, with_strings}
+use Rattle.dl_run.specs.declared.fault.RunFault.{RunFault}
 use Rattle.dl_elf.specs.declared.fault.ElfFault.TheVariants.{DamagedStream, Read}
 use Rattle.dl_elf.specs.declared.name.SectionName.{SectionName}
 use Rattle.dl_file.specs.declared.read_fault.ReadFault.{ReadFault}
@@ -61,6 +62,20 @@ pub over : (dialect : Dialect) (known left : Option (List ℕ)) (bs : List ℕ) 
     → IfSome known (λ bytes. IsTrue names ↔ Names dialect bytes)
 over dialect known left bs names consumes told same =
     settled dialect known left bs names consumes told (λ rest is. same rest)
+
+-- then no table names it, whatever bytes follow
+pub none_follow : (dialect : Dialect) (known left : Option (List ℕ)) (bs : List ℕ) (names : Bool) → Consumes known left bs
+    → IsTrue names ↔ Names dialect bs → ((rest : List ℕ) → Names dialect (bs ++ rest) ↔ Names dialect bs) → names ≡ false
+    → IfSome known (λ bytes. (rest : List ℕ) → Names dialect (bytes ++ rest) → ⊥)
+none_follow dialect None left bs names consumes told same none = tt
+none_follow dialect (Some bytes) None bs names consumes told same none = absurd consumes
+none_follow dialect (Some bytes) (Some back) bs names consumes told same none = λ rest named.
+    let split : bytes ++ rest ≡ bs ++ (back ++ rest) = ap (λ (z : List ℕ). z ++ rest) consumes ∙ append_assoc bs back rest in
+    let is : names ≡ true = told.1 ((same (back ++ rest)).0 (subst (Names dialect) split named)) in
+    let no : false ≡ true = sym none ∙ is in cc no
+
+pub said : (names : Bool) → ◌≡◌ {A = Result Bool RunFault} (Ok names) (Ok false) → names ≡ false
+said names is = cc
 
 -- memory was refused
 pub wants : (dialect : Dialect) (known left : Option (List ℕ)) (bs : List ℕ) (n : ℕ) → Consumes known left bs
@@ -117,6 +132,16 @@ held_plain all_bytes fails_with fails (Held cursor) (Plain own) bytes is gives =
     let same : Some bytes ≡ Some own = is ∙ gives.0 in
     let e : bytes ≡ own = cc same in ap Plain (sym e)
 
+-- it is read up to its end, or to where it is settled
+pub read_named : (fails : Error → Type 0) (dialect : Dialect) (content : Content) (names : Bool)
+    → IsTrue names ↔ Names dialect (bytes_of content)
+    → (names ≡ false → HasNoDamage content ⊎ ((rest : List ℕ) → Names dialect (bytes_of content ++ rest) → ⊥))
+    → IsNamed fails dialect content names
+read_named fails dialect (Plain bytes) names told settles = told
+read_named fails dialect (Inflated name bytes damage) true told settles = inl (told.0 refl)
+read_named fails dialect (Inflated name bytes damage) false told settles =
+    (λ named. (let no : false ≡ true = told.1 named in cc no), settles refl)
+
 -- a read of one that is inflated as it is read failed
 pub unread_named : (fails : Error → Type 0) (dialect : Dialect) (content : Content) (stream : Option SectionName)
     (read : Option ReadFault) → option_map (λ (s : Stream). s.0) (stream_of content) ≡ stream → is_some stream ≡ true
@@ -125,9 +150,9 @@ unread_named fails dialect (Plain bytes) stream read named some told =
     let none : false ≡ true = ap (λ (o : Option SectionName). is_some o) named ∙ some in absurd (cc none)
 unread_named fails dialect (Inflated name bytes damage) stream None named some told = absurd told
 unread_named fails dialect (Inflated name bytes damage) stream (Some (ReadOf error)) named some told =
-    inr (refl, (Read error, told))
+    inr (Read error, told)
 unread_named fails dialect (Inflated name bytes damage) stream (Some (DamageOf at)) named some (own, told) =
-    inr (refl, (DamagedStream own at, told))
+    inr (DamagedStream own at, told)
 
 -- ---- the sections that a command looks into
 

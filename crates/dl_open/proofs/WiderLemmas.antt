@@ -1,5 +1,5 @@
 -- The same stops, where more errors may come of opening and reading a file.
-use Rattle.std.proofs.Common.{ℕ, Bool, List, Option, Some, inl, inr}
+use Rattle.std.proofs.Common.{ℕ, Bool, true, false, List, Option, Some, inl, inr}
 use Rattle.std.specs.declared.io.Error.{Error}
 use Rattle.dl_elf.specs.declared.fault.ElfFault.{ElfFault}
 use Rattle.dl_elf.specs.declared.fault.ElfFault.TheVariants.{Read, NoMemory, DamagedStream}
@@ -100,9 +100,10 @@ opening_stops_weaker refuses fails wider path f wanted stop more (fault, why, at
 named_wider : (fails wider : Error → Type 0) (dialect : Dialect) (content : Content) (names : Bool)
     → ((e : Error) → fails e → wider e) → IsNamed fails dialect content names → IsNamed wider dialect content names
 named_wider fails wider dialect (Plain bytes) names more named = named
-named_wider fails wider dialect (Inflated name bytes damage) names more (inl named) = inl named
-named_wider fails wider dialect (Inflated name bytes damage) names more (inr (taken, (f, is))) =
-    inr (taken, (f, read_wider fails wider (Some (name, damage)) f more is))
+named_wider fails wider dialect (Inflated name bytes damage) false more named = named
+named_wider fails wider dialect (Inflated name bytes damage) true more (inl named) = inl named
+named_wider fails wider dialect (Inflated name bytes damage) true more (inr (f, is)) =
+    inr (f, read_wider fails wider (Some (name, damage)) f more is)
 
 looks_wider : (read : FileUnits) (fails wider : Error → Type 0) (sections : Sections) (f : List ℕ) (wanted : Wanted)
     → ((e : Error) → fails e → wider e) → LooksInto read fails sections f wanted → LooksInto read wider sections f wanted

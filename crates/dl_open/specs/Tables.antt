@@ -1,6 +1,6 @@
 -- The line table of an ELF file as commands look into it. f: the bytes of the file; t: its line table as dl_file defines
 -- it.
-use Rattle.std.specs.Prelude.{⊤, ◌≡◌, ◌⊎◌, ◌↔◌, ◌+◌, ◌^◌, ◌<◌, ◌≤◌, ℕ, Bool, true, false, IsTrue, if◌then◌else◌, List, length}
+use Rattle.std.specs.Prelude.{⊤, ◌≡◌, ◌⊎◌, ◌↔◌, ◌+◌, ◌^◌, ◌<◌, ◌≤◌, ℕ, Bool, true, false, IsTrue, if◌then◌else◌, List, ◌++◌, length}
 use Rattle.std.specs.Prelude.{Option, Some, None, option_map, IfSome, Ok, Err}
 use Rattle.std.specs.declared.io.Error.{Error}
 use Rattle.dl_file.specs.declared.line_file.Wanted.{Wanted}
@@ -129,12 +129,14 @@ OpeningStops refuses fails path f wanted stop = (fault : FileFault) × Refuses r
 
 -- ---- .debug_str, which is looked into only where a table of the line section names it
 
--- whether a table of a line section of these bytes names it. One that is inflated as it is read is taken to name it where
--- a read of it fails
+-- Whether a table of a line section of these bytes names it. One that is inflated as it is read is taken to name it where
+-- a read of it fails; and not to name it only where it has no damage, or where no table would whatever the bytes after it
 abbrev pub IsNamed : (fails : Error → Type 0) → Dialect → Content → (names : Bool) → Type 0
 IsNamed fails dialect (Plain bytes) names = IsTrue names ↔ Names dialect bytes
-IsNamed fails dialect (Inflated name bytes damage) names = (IsTrue names ↔ Names dialect bytes)
-    ⊎ (IsTrue names × ((f : ElfFault) × IsReadFault fails (Some (name, damage)) f))
+IsNamed fails dialect (Inflated name bytes damage) true =
+    Names dialect bytes ⊎ ((f : ElfFault) × IsReadFault fails (Some (name, damage)) f)
+IsNamed fails dialect (Inflated name bytes damage) false =
+    (Names dialect bytes → ⊥) × ((damage ≡ None) ⊎ ((rest : List ℕ) → Names dialect (bytes ++ rest) → ⊥))
 
 -- it can't be told: a read failed, or memory was refused for a header, or the section is too long
 abbrev pub StopsNaming : Dialect → (known : Option (List ℕ)) → RunFault → Type 0

@@ -1,5 +1,5 @@
 //! The line table of a file, with the string sections that are looked into.
-ghost use Rattle.std.specs.Prelude.{◌≡◌, ◌↔◌, Bool, Ok, IfSome, IsTrue, MatchResult};
+ghost use Rattle.std.specs.Prelude.{◌≡◌, ◌⊎◌, ◌↔◌, ◌++◌, ℕ, List, Bool, false, Ok, IfSome, IsTrue, MatchResult};
 ghost use Rattle.dl_elf.specs.Source.{ForBytes};
 ghost use Rattle.dl_file.specs.LineTable.{Content, GivesLine, GivesTable, HasLineTable, LineTable, Plain};
 ghost use Rattle.dl_forms.specs.Names.{Names};
@@ -36,6 +36,8 @@ fn names_str<R: Source>(alloc: Global, dialect: Dialect, input: &mut R) -> Resul
     ensures told { MatchResult result
         (λ names. IfSome (R.remaining input.old) (λ bytes. IsTrue names ↔ Names dialect bytes))
         (StopsNaming dialect (R.remaining input.old)) }
+    ensures settled { result ≡ Ok false → R.over input.new
+        ⊎ IfSome (R.remaining input.old) (λ bytes. (rest : List ℕ) → Names dialect (bytes ++ rest) → ⊥) }
     ensures blames { Blames R.follows R.fails input.old input.new (result ≡ Err RunFault.Read) }
 {
     let mut walk = StringWalk::new(alloc, dialect);

@@ -1,6 +1,6 @@
 use Rattle.std.proofs.Common.{arith, length, sym, ◌+◌, ◌∙◌}
 use Rattle.std.proofs.lemmas.Result.{err_from_is_err_and}
-use Rattle.dl_open.specs.Directories.{section_size, texts_size}
+use Rattle.dl_open.specs.Directories.{texts_size}
 use Rattle.dl_open.specs.Tables.{bytes_of}
 use Rattle.dl_dirs.specs.Directories.{directory_at}
 use Rattle.dl_open.proofs.DirectoriesLemmas.{none_found, some_found, unread_more}

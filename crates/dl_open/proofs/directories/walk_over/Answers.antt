@@ -1,5 +1,4 @@
-use Rattle.std.proofs.Common.{◌+◌, ◌++◌, arith, length, length-append, subst, sym, ◌∙◌}
-use Rattle.dl_dirs.specs.Standing.{Keeps}
+use Rattle.std.proofs.Common.{◌++◌, arith, length, length-append, sym, ◌∙◌}
 use Rattle.std.proofs.lemmas.Result.{err_from_is_err_and}
 use Rattle.dl_open.proofs.DirectoriesLemmas.{line_only, read_unread}
 use Rattle.dl_open.proofs.SectionLemmas.{had_all, lost, taken, taken_few}

@@ -1,11 +1,13 @@
-use Rattle.std.proofs.Common.{◌∙◌, ℕ, List, Option, Err, ap, subst, sym}
+use Rattle.std.proofs.Common.{◌∙◌, ◌↔◌, ◌++◌, IsTrue, ℕ, List, Option, Ok, Err, inl, inr, ⊎_elim, ap, subst, sym}
+use Rattle.std.specs.Prelude.{IfSome}
+use Rattle.dl_forms.specs.Names.{Names}
 use Rattle.dl_file.specs.LineReader.{line_remaining}
 use Rattle.dl_open.specs.Stops.{StopsAs}
 use Rattle.dl_open.specs.Tables.{StopsNaming, stream_of}
 use Rattle.dl_file.specs.LineReader.{line_fault}
-use Rattle.dl_open.proofs.NamedLemmas.{unread_named}
+use Rattle.dl_open.proofs.NamedLemmas.{read_named, unread_named}
 use Rattle.dl_open.proofs.BlameLemmas.{naming_reads, of_file}
-use Rattle.dl_open.proofs.ReaderLemmas.{reader_bytes, reader_stream, reader_told, stops_at}
+use Rattle.dl_open.proofs.ReaderLemmas.{line_whole, reader_bytes, reader_stream, reader_told, stops_at}
 use Rattle.dl_open.proofs.named.is_named.Goals as goal
 
 pub returns-in-Err-Read-clause-told : goal.returns-in-Err-Read-clause-told
@@ -41,3 +43,18 @@ returns-in-Err-clause-blames g c =
     rw (← c.in-Err.fault-is) c.at.ensures in
     of_file c.args.path.now c.stream_name-stream.result c.last_fault.result c.in-Err.fault c.at.result
     (naming_reads c.args.dialect (line_remaining g.S.ReadAt.all_bytes c.args.line.now) c.in-Err.fault c.in-Err.ensures.told) at
+
+pub returns-in-Ok-clause-told : goal.returns-in-Ok-clause-told
+returns-in-Ok-clause-told g c source content gives =
+    let fails = g.S.ReadAt.fails_with source in
+    let line = c.args.line.now in
+    let dialect = c.args.dialect in
+    let names = c.in-Ok.names in
+    let known = reader_bytes {S = g.row.S.Denot} g.S.ReadAt.all_bytes g.S.ReadAt.fails_with fails line content gives in
+    read_named fails dialect content names
+    (subst (λ (k : Option (List ℕ)). IfSome k (λ bytes. IsTrue names ↔ Names dialect bytes)) known c.in-Ok.ensures.told)
+    (λ none. ⊎_elim
+    (λ over. inl (line_whole {S = g.row.S.Denot} g.S.ReadAt.all_bytes g.S.ReadAt.fails_with fails line c.names_str.new.input content gives
+    c.names_str.ensures.blames over))
+    (λ settled. inr (subst (λ (k : Option (List ℕ)). IfSome k (λ bytes. (rest : List ℕ) → Names dialect (bytes ++ rest) → ⊥)) known settled))
+    (c.in-Ok.ensures.settled (ap Ok none)))

@@ -1,8 +1,8 @@
-use Rattle.std.proofs.Common.{◌++◌, [], ap, arith, append-nil, length, length-append, subst, sym, refl, ◌∙◌, List, ℕ}
+use Rattle.std.proofs.Common.{◌++◌, [], inl, inr, ap, arith, append-nil, length, length-append, subst, sym, refl, ◌∙◌, List, ℕ}
 use Rattle.std.proofs.KnownBytes.{Consumes-nil, Consumes-trans}
 use Rattle.dl_head.specs.declared.dialect.Dialect.{Dialect}
 use Rattle.dl_forms.specs.Names.{RefusesCellFrom}
-use Rattle.dl_open.proofs.NamedLemmas.{at_end, empty_is, over, told_in, wants}
+use Rattle.dl_open.proofs.NamedLemmas.{at_end, empty_is, none_follow, over, said, told_in, wants}
 use Rattle.dl_open.proofs.NamedLemmas.{too_long, same_over}
 use Rattle.dl_run.proofs.BlameLemmas.{blames_next}
 use Rattle.dl_open.proofs.named.names_str.Goals as goal
@@ -25,6 +25,7 @@ returns-then-is_empty g c =
           (told_in l.walk.dialect c.args.dialect read.0 (read.0 ++ c.in-Ok.piece.now) c.names_str.result l.invariant.dialect
           (sym (ap (λ (z : List ℕ). read.0 ++ z) nothing ∙ append-nil read.0)) (c.names_str.ensures read.0 read.2))
           (c.in-Ok.ensures.end nothing);
+      settled = λ e. inl (c.in-Ok.ensures.over nothing);
       blames = blames_next _ l.invariant.follows c.next_piece.ensures.blames (λ e. absurd cc);
     }
 
@@ -35,6 +36,7 @@ returns-then-left-piece g c =
     record {
       told = too_long _ _ read.0 c.in-Ok.piece.now l.left
           (Consumes-trans _ _ _ read.0 c.in-Ok.piece.now read.1 c.in-Ok.ensures.ok) read.3 c.if-left-piece.true;
+      settled = λ e. absurd cc;
       blames = blames_next _ l.invariant.follows c.next_piece.ensures.blames (λ e. absurd cc);
     }
 
@@ -47,6 +49,7 @@ returns-in-Err g c =
           (Consumes-trans _ _ _ read.0 c.in-Ok.piece.now read.1 c.in-Ok.ensures.ok)
           (subst (λ (d : Dialect). RefusesCellFrom d (length read.0) (read.0 ++ c.in-Ok.piece.now)) l.invariant.dialect
           (c.in-Err.ensures.memory read.0 read.2));
+      settled = λ e. absurd cc;
       blames = blames_next _ l.invariant.follows c.next_piece.ensures.blames (λ e. absurd cc);
     }
 
@@ -78,6 +81,11 @@ returns g c =
           (c.names_str-2.ensures read.0 read.2))
           (same_over l.walk.dialect c.args.dialect read.0 l.invariant.dialect
           (λ rest. c.is_over.ensures.settled read.0 rest read.2 c.loop-buffer-test.false));
+      settled = λ e. inr (none_follow c.args.dialect _ _ read.0 c.names_str-2.result read.1
+          (told_in l.walk.dialect c.args.dialect read.0 read.0 c.names_str-2.result l.invariant.dialect refl
+          (c.names_str-2.ensures read.0 read.2))
+          (same_over l.walk.dialect c.args.dialect read.0 l.invariant.dialect
+          (λ rest. c.is_over.ensures.settled read.0 rest read.2 c.loop-buffer-test.false)) (said c.names_str-2.result e));
       blames = λ first is. (l.invariant.follows first is, λ e. absurd cc);
     }
 
