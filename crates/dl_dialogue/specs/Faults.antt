@@ -1,7 +1,6 @@
 -- Why nothing is told of an address, and when a read or a write is blamed.
 use Rattle.std.specs.Prelude.{⊤, ℕ, ◌+◌, ◌^◌, ◌<◌, List, Option, Result, Ok, Err, IfErr}
 use Rattle.std.specs.declared.io.Error.{Error}
-use Rattle.dl_memory.specs.Refusals.{WasRefused}
 use Rattle.dl_index_file.specs.Reading.{ReadFails}
 use Rattle.dl_index_file.specs.declared.fault.TextFault as text
 use Rattle.dl_index_file.specs.declared.fault.TextFault.TheVariants as of
@@ -10,14 +9,14 @@ use Rattle.dl_dialogue.specs.declared.fault.AnswerFault.TheVariants as answer
 use Rattle.dl_dialogue.specs.declared.fault.TellFault.{TellFault}
 use Rattle.dl_dialogue.specs.declared.fault.TellFault.TheVariants.{NoMemory, Read}
 
--- a read failed with such an error, or memory was refused
-abbrev pub TellFails : (Fails : Error → Type 0) (refuses : ℕ → Type 0) → TellFault → Type 0
-TellFails Fails refuses (Read error) = Fails error
-TellFails Fails refuses NoMemory = WasRefused refuses
+-- a read failed with such an error, or memory was refused for so many items as it may be asked for
+abbrev pub TellFails : (Fails : Error → Type 0) (Asks refuses : ℕ → Type 0) → TellFault → Type 0
+TellFails Fails Asks refuses (Read error) = Fails error
+TellFails Fails Asks refuses NoMemory = (n : ℕ) × Asks n × refuses n
 
 -- of an index in a file with these bytes, where they are known
-abbrev pub FileFails : Option (List ℕ) → (Fails : Error → Type 0) (refuses : ℕ → Type 0) → TellFault → Type 0
-FileFails known Fails refuses fault = TellFails (ReadFails known Fails) refuses fault
+abbrev pub FileFails : Option (List ℕ) → (Fails : Error → Type 0) (Asks refuses : ℕ → Type 0) → TellFault → Type 0
+FileFails known Fails Asks refuses fault = TellFails (ReadFails known Fails) Asks refuses fault
 
 abbrev pub of_text : text.TextFault → TellFault
 of_text (of.Read error) = Read error

@@ -1,5 +1,6 @@
 -- What the public contracts say rests on these, in reading order.
 pub mod Faults
+pub mod Asking
 pub mod Staying
 pub mod Answers
 pub mod Dialogues

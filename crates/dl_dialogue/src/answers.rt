@@ -75,8 +75,8 @@ fn told<'a, M: Memory, T: Tell>(
 ) -> Result<Option<Location<'a>>, TellFault>
     ensures told { (m : Manner) → base ≡ m.base → Determines (T.tells teller.old) m.told
         → IfOk result (λ told. option_map location_seen told ≡ answer_by m asked) }
-    ensures fails { IfErr result (TellFails (T.fails_with teller.old) (M.refuses memory.now)) }
-    ensures stays { Stays T.tells T.fails_with teller.old teller.new }
+    ensures fails { IfErr result (TellFails (T.fails_with teller.old) (T.asks teller.old) (M.refuses memory.now)) }
+    ensures stays { Stays T.tells T.fails_with T.asks teller.old teller.new }
 {
     match asked.place(base) {
         Some(place) => teller.tell(memory, place.address, path),
@@ -126,13 +126,13 @@ impl<'q> Answers<'q> {
         output: &mut W,
         asked: Asked,
     ) -> Result<(), AnswerFault>
-        ensures stays { Stays T.tells T.fails_with teller.old teller.new }
+        ensures stays { Stays T.tells T.fails_with T.asks teller.old teller.new }
         ensures answers { (first : T) (m : Manner) (start : Option (List ℕ)) (before : List question.Asked)
-            → Stays T.tells T.fails_with first teller.old → Determines (T.tells first) m.told
+            → Stays T.tells T.fails_with T.asks first teller.old → Determines (T.tells first) m.told
             → Stands m start (W.contents output.old) before printer.old self.old
             → MatchResult result
             (λ _. Stands m start (W.contents output.new) (before ++ asked ∷ []) printer.new self.new)
-            (StopsBy m (TellFails (T.fails_with first) (M.refuses memory.now)) start (W.contents output.new) (before ++ asked ∷ [])) }
+            (StopsBy m (TellFails (T.fails_with first) (T.asks first) (M.refuses memory.now)) start (W.contents output.new) (before ++ asked ∷ [])) }
         ensures blames_writer { BlamesWriter W.fails result }
         ensures reads { ReadsNothing result }
     {
@@ -154,13 +154,13 @@ impl<'q> Answers<'q> {
         output: &mut W,
         asked: Option<Asked>,
     ) -> Result<(), AnswerFault>
-        ensures stays { Stays T.tells T.fails_with teller.old teller.new }
+        ensures stays { Stays T.tells T.fails_with T.asks teller.old teller.new }
         ensures answers { (first : T) (m : Manner) (start : Option (List ℕ)) (before : List question.Asked)
-            → Stays T.tells T.fails_with first teller.old → Determines (T.tells first) m.told
+            → Stays T.tells T.fails_with T.asks first teller.old → Determines (T.tells first) m.told
             → Stands m start (W.contents output.old) before printer.old self.old
             → MatchResult result
             (λ _. Stands m start (W.contents output.new) (before ++ and_asked asked []) printer.new self.new)
-            (StopsBy m (TellFails (T.fails_with first) (M.refuses memory.now)) start (W.contents output.new) (before ++ and_asked asked [])) }
+            (StopsBy m (TellFails (T.fails_with first) (T.asks first) (M.refuses memory.now)) start (W.contents output.new) (before ++ and_asked asked [])) }
         ensures blames_writer { BlamesWriter W.fails result }
         ensures reads { ReadsNothing result }
     {
@@ -179,14 +179,14 @@ impl<'q> Answers<'q> {
         output: &mut W,
         asked: Option<Asked>,
     ) -> Result<(), AnswerFault>
-        ensures stays { Stays T.tells T.fails_with teller.old teller.new }
+        ensures stays { Stays T.tells T.fails_with T.asks teller.old teller.new }
         ensures answers { (first : T) (m : Manner) (start : Option (List ℕ)) (before : List question.Asked)
-            → Stays T.tells T.fails_with first teller.old → Determines (T.tells first) m.told
+            → Stays T.tells T.fails_with T.asks first teller.old → Determines (T.tells first) m.told
             → Stands m start (W.contents output.old) before printer.old self.old
             → MatchResult result
             (λ _. Stands m start (W.contents output.new) (before ++ and_asked asked []) printer.new self.new
             × Appends start (W.contents output.new) (lines_by m (before ++ and_asked asked [])))
-            (StopsBy m (TellFails (T.fails_with first) (M.refuses memory.now)) start (W.contents output.new) (before ++ and_asked asked [])) }
+            (StopsBy m (TellFails (T.fails_with first) (T.asks first) (M.refuses memory.now)) start (W.contents output.new) (before ++ and_asked asked [])) }
         ensures blames_writer { BlamesWriter W.fails result }
         ensures reads { ReadsNothing result }
     {
@@ -225,7 +225,7 @@ pub fn answer_all<M: Memory, T: Tell, W: Destination>(
     output: &mut W,
 ) -> Result<Found, AnswerFault>
     ensures answers { (f : ℕ → Option locations.Location) → Determines (T.tells teller.old) f
-        → AnswersAll (record { style = style.entry; base = base; told = f }) (TellFails (T.fails_with teller.old) (M.refuses memory.now)) asked.now
+        → AnswersAll (record { style = style.entry; base = base; told = f }) (TellFails (T.fails_with teller.old) (T.asks teller.old) (M.refuses memory.now)) asked.now
         (W.contents output.old) (W.contents output.new) result }
     ensures blames_writer { BlamesWriter W.fails result }
     ensures reads { ReadsNothing result }

@@ -70,13 +70,13 @@ impl<'q> Dialogue<'q> {
         output: &mut W,
         piece: &[u8],
     ) -> Result<(), AnswerFault>
-        ensures stays { Stays T.tells T.fails_with teller.old teller.new }
+        ensures stays { Stays T.tells T.fails_with T.asks teller.old teller.new }
         ensures answers { (first : T) (m : Manner) (hex : Bool) (start : Option (List ℕ)) (done : List ℕ)
-            → Stays T.tells T.fails_with first teller.old → Determines (T.tells first) m.told
+            → Stays T.tells T.fails_with T.asks first teller.old → Determines (T.tells first) m.told
             → Talks m hex start (W.contents output.old) done printer.old self.old
             → MatchResult result
             (λ _. Talks m hex start (W.contents output.new) (done ++ piece.now) printer.new self.new)
-            (StopsIn m hex (TellFails (T.fails_with first) (M.refuses memory.now)) start (W.contents output.new) (done ++ piece.now)) }
+            (StopsIn m hex (TellFails (T.fails_with first) (T.asks first) (M.refuses memory.now)) start (W.contents output.new) (done ++ piece.now)) }
         ensures blames_writer { BlamesWriter W.fails result }
         ensures reads { ReadsNothing result }
     {
@@ -95,13 +95,13 @@ impl<'q> Dialogue<'q> {
         output: &mut W,
         byte: u8,
     ) -> Result<(), AnswerFault>
-        ensures stays { Stays T.tells T.fails_with teller.old teller.new }
+        ensures stays { Stays T.tells T.fails_with T.asks teller.old teller.new }
         ensures answers { (first : T) (m : Manner) (hex : Bool) (start : Option (List ℕ)) (done : List ℕ)
-            → Stays T.tells T.fails_with first teller.old → Determines (T.tells first) m.told
+            → Stays T.tells T.fails_with T.asks first teller.old → Determines (T.tells first) m.told
             → Speaks m hex start (W.contents output.old) done printer.old self.old
             → MatchResult result
             (λ _. Speaks m hex start (W.contents output.new) (done ++ byte ∷ []) printer.new self.new)
-            (StopsIn m hex (TellFails (T.fails_with first) (M.refuses memory.now)) start (W.contents output.new) (done ++ byte ∷ [])) }
+            (StopsIn m hex (TellFails (T.fails_with first) (T.asks first) (M.refuses memory.now)) start (W.contents output.new) (done ++ byte ∷ [])) }
         ensures blames_writer { BlamesWriter W.fails result }
         ensures reads { ReadsNothing result }
     {
@@ -118,12 +118,12 @@ impl<'q> Dialogue<'q> {
         printer: &mut Printer,
         output: &mut W,
     ) -> Result<Answered, AnswerFault>
-        ensures stays { Stays T.tells T.fails_with teller.old teller.new }
+        ensures stays { Stays T.tells T.fails_with T.asks teller.old teller.new }
         ensures answers { (first : T) (m : Manner) (hex : Bool) (start : Option (List ℕ)) (done : List ℕ)
-            → Stays T.tells T.fails_with first teller.old → Determines (T.tells first) m.told
+            → Stays T.tells T.fails_with T.asks first teller.old → Determines (T.tells first) m.told
             → Talks m hex start (W.contents output.old) done printer.old self.entry
             → MatchResult result (Ends m hex start (W.contents output.new) done)
-            (StopsBy m (TellFails (T.fails_with first) (M.refuses memory.now)) start (W.contents output.new) (asked_in hex done)) }
+            (StopsBy m (TellFails (T.fails_with first) (T.asks first) (M.refuses memory.now)) start (W.contents output.new) (asked_in hex done)) }
         ensures blames_writer { BlamesWriter W.fails result }
         ensures reads { ReadsNothing result }
     {
@@ -157,7 +157,7 @@ pub fn answer_lines<M: Memory, T: Tell, R: Source, W: Destination>(
 ) -> Result<Answered, AnswerFault>
     ensures answers { (bs : List ℕ) × Consumes (R.remaining input.old) (R.remaining input.new) bs
         × ((f : ℕ → Option Location) → Determines (T.tells teller.old) f
-        → AnswersLines (record { style = style.entry; base = base; told = f }) hex (TellFails (T.fails_with teller.old) (M.refuses memory.now)) bs
+        → AnswersLines (record { style = style.entry; base = base; told = f }) hex (TellFails (T.fails_with teller.old) (T.asks teller.old) (M.refuses memory.now)) bs
         (R.remaining input.new) (W.contents output.old) (W.contents output.new) result) }
     ensures blames { Blames R.follows R.fails input.old input.new ((result ≡ Err AnswerFault.Input)
         × ¬ IsLong (R.remaining input.old) (R.remaining input.new)) }

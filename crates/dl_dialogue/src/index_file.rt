@@ -1,6 +1,6 @@
 //! What an index tells that lies in a file.
 
-ghost use Rattle.std.specs.Prelude.{◌≡◌, ◌++◌, ℕ, List, IfOk, IfErr, IfSome, is_some, option_map};
+ghost use Rattle.std.specs.Prelude.{◌≡◌, ◌+◌, ◌≤◌, ◌++◌, ℕ, List, length, IfOk, IfErr, IfSome, is_some, option_map};
 ghost use Rattle.dl_elf.specs.Source.{ForBytes};
 ghost use Rattle.dl_addr.specs.Locations.{location_seen};
 ghost use Rattle.dl_index.specs.IsIndex.{IsIndex};
@@ -8,6 +8,7 @@ ghost use Rattle.dl_index.specs.Telling.{find_in};
 ghost use Rattle.dl_index_file.specs.FindsIn.{FindsIn};
 ghost use Rattle.dl_index_file.specs.Opening.{source_of};
 ghost use Rattle.dl_index_file.specs.Shown.{TextsLie, Lies, text_shown, texts_shown};
+ghost use Rattle.dl_dialogue.specs.Asking.{AsksForPath};
 ghost use Rattle.dl_dialogue.specs.Faults.{FileFails, as_told};
 ghost use Rattle.std.specs.List.{concat};
 ghost use Rattle.dl_making.specs.Telling.{location_told, path_told};
@@ -27,6 +28,7 @@ impl<S: ReadAt> Tell for FileFinder<'_, '_, S> {
     ghost use Rattle.dl_index_file.specs.Finder.{index_of};
     ghost use Rattle.dl_index_file.specs.Opening.{source_of};
     ghost use Rattle.dl_index_file.specs.Reading.{ReadFails};
+    ghost use Rattle.dl_dialogue.specs.Asking.{AsksForPath};
     ghost use Rattle.dl_making.specs.Telling.{location_told};
 
     ghost tells = { λ finder address told. ForBytes (S.all_bytes (source_of (index_of finder))) (λ b.
@@ -34,6 +36,8 @@ impl<S: ReadAt> Tell for FileFinder<'_, '_, S> {
 
     ghost fails_with = { λ finder error. ReadFails (S.all_bytes (source_of (index_of finder)))
         (S.fails_with (source_of (index_of finder))) error };
+
+    ghost asks = { λ finder n. AsksForPath (S.all_bytes (source_of (index_of finder))) n };
 
     fn tell<'a, M: Memory>(
         &mut self,
@@ -57,7 +61,7 @@ fn located<'a, S: ReadAt, M: Memory>(
         → IsIndex b → option_map location_seen told ≡ option_map location_told (find_in b address))) }
     ensures fails { ForBytes (S.all_bytes (source_of index.now)) (λ b. IfSome found (λ f. TextsLie b f.texts))
         → IfErr result (FileFails (S.all_bytes (source_of index.now)) (S.fails_with (source_of index.now))
-        (M.refuses memory.now)) }
+        (AsksForPath (S.all_bytes (source_of index.now))) (M.refuses memory.now)) }
 {
     let Some(found) = found else {
         return Ok(None);
@@ -91,7 +95,7 @@ fn read_texts<S: ReadAt, M: Memory>(
         (λ _. path.new.items ≡ concat (texts_shown b texts))) }
     ensures fails { ForBytes (S.all_bytes (source_of index.now)) (λ b. TextsLie b texts)
         → IfErr result (FileFails (S.all_bytes (source_of index.now)) (S.fails_with (source_of index.now))
-        (M.refuses memory.now)) }
+        (AsksForPath (S.all_bytes (source_of index.now))) (M.refuses memory.now)) }
 {
     path.clear();
     read_text(memory, index, texts.first, path)?;
@@ -110,7 +114,7 @@ fn read_text<S: ReadAt, M: Memory>(
         (λ _. path.new.items ≡ path.old.items ++ concat (text_shown b text))) }
     ensures fails { ForBytes (S.all_bytes (source_of index.now)) (λ b. Lies b text)
         → IfErr result (FileFails (S.all_bytes (source_of index.now)) (S.fails_with (source_of index.now))
-        (M.refuses memory.now)) }
+        (λ n. ForBytes (S.all_bytes (source_of index.now)) (λ b. n ≤ length path.old.items + length b)) (M.refuses memory.now)) }
 {
     match text {
         Some(place) => as_told(index.read_text(memory, place, path)),

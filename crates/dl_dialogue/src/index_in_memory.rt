@@ -1,6 +1,6 @@
 //! What an index in memory tells.
 
-ghost use Rattle.std.specs.Prelude.{◌≡◌, ◌++◌, IfOk, IfErr, is_some};
+ghost use Rattle.std.specs.Prelude.{◌≡◌, ◌+◌, ◌≤◌, ◌++◌, length, IfOk, IfErr, is_some};
 ghost use Rattle.dl_index.specs.Shown.{text_told, texts_told};
 ghost use Rattle.dl_dialogue.specs.Faults.{TellFails};
 ghost use Rattle.std.specs.List.{concat};
@@ -13,7 +13,7 @@ use dl_index::{IndexRef, PathTexts};
 use dl_memory::Memory;
 
 impl Tell for IndexRef<'_> {
-    ghost use Rattle.std.specs.Prelude.{◌≡◌, option_map};
+    ghost use Rattle.std.specs.Prelude.{◌≡◌, ◌*◌, ◌≤◌, length, option_map};
     ghost use Rattle.dl_index.specs.IsIndex.{IsIndex};
     ghost use Rattle.dl_index.specs.Shown.{bytes_of};
     ghost use Rattle.dl_index.specs.Telling.{find_in};
@@ -23,6 +23,8 @@ impl Tell for IndexRef<'_> {
         IsIndex (bytes_of index) → told ≡ option_map location_told (find_in (bytes_of index) address) };
 
     ghost fails_with = { λ _ error. ⊥ };
+
+    ghost asks = { λ index n. n ≤ 3 * length (bytes_of index) };
 
     fn tell<'a, M: Memory>(
         &mut self,
@@ -59,7 +61,8 @@ fn put_texts<M: Memory>(
     path: &mut Vec<u8>,
 ) -> Result<(), TellFault>
     ensures texts { IfOk result (λ _. path.new.items ≡ concat (texts_told texts.entry)) }
-    ensures fails { IfErr result (TellFails (λ _. ⊥) (M.refuses memory.now)) }
+    ensures fails { IfErr result (TellFails (λ _. ⊥) (λ n. n ≤ length (concat (texts_told texts.entry)))
+        (M.refuses memory.now)) }
 {
     path.clear();
     put_text(memory, texts.first, path)?;
@@ -70,7 +73,8 @@ fn put_texts<M: Memory>(
 /// Puts a text behind the others, where there is one.
 fn put_text<M: Memory>(memory: &M, text: Option<&[u8]>, path: &mut Vec<u8>) -> Result<(), TellFault>
     ensures text { IfOk result (λ _. path.new.items ≡ path.old.items ++ concat (text_told text.entry)) }
-    ensures fails { IfErr result (TellFails (λ _. ⊥) (M.refuses memory.now)) }
+    ensures fails { IfErr result (TellFails (λ _. ⊥)
+        (λ n. n ≤ length path.old.items + length (concat (text_told text.entry))) (M.refuses memory.now)) }
 {
     let Some(text) = text else {
         return Ok(());

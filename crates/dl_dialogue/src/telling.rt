@@ -23,6 +23,9 @@ pub trait Tell {
     /// The errors that its reads may give.
     ghost fails_with: { Self → Error → Type 0 };
 
+    /// For how many bytes memory may be asked to tell of an address.
+    ghost asks: { Self → ℕ → Type 0 };
+
     /// What is told of an address; None where nothing is. The path is put into `path`, in place of what stood there. What it
     /// tells of other addresses stays the same.
     fn tell<'a, M: Memory>(
@@ -32,8 +35,8 @@ pub trait Tell {
         path: &'a mut Vec<u8>,
     ) -> Result<Option<Location<'a>>, TellFault>
         ensures tells { IfOk result (λ told. tells self.old address (option_map location_seen told)) }
-        ensures fails { IfErr result (TellFails (fails_with self.old) (M.refuses memory.now)) }
-        ensures stays { Stays tells fails_with self.old self.new };
+        ensures fails { IfErr result (TellFails (fails_with self.old) (asks self.old) (M.refuses memory.now)) }
+        ensures stays { Stays tells fails_with asks self.old self.new };
 }
 
 /// The path, where it is known.
@@ -53,6 +56,8 @@ impl Tell for Nothing {
     ghost tells = { λ _ address told. told ≡ None };
 
     ghost fails_with = { λ _ error. ⊥ };
+
+    ghost asks = { λ _ n. ⊥ };
 
     fn tell<'a, M: Memory>(
         &mut self,

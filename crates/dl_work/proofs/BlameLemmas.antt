@@ -36,7 +36,7 @@ use Rattle.dl_work.specs.Blaming as stops
 use Rattle.dl_work.specs.Blaming.{BlamesOver, IsBlamedOver, IsNoRead, IsNoRun}
 use Rattle.dl_work.specs.Locate.{WordsStop}
 use Rattle.dl_work.specs.Located.{is_not_found, located, unless_damaged as located_unless}
-use Rattle.dl_work.specs.OverElfFile.{is_refused, located_after}
+use Rattle.dl_work.specs.OverElfFile.{located_after}
 use Rattle.dl_work.specs.Stops.{over_file}
 use Rattle.dl_work.specs.Work.{BlamesInput, stopped}
 use Rattle.dl_work.specs.Asked.{SectionWords, all_whole, answered, answered_around, file_of, section_of, unless_damaged}
@@ -289,21 +289,21 @@ pub by_read : (path : Bor Text) (answered : Result Answered AnswerFault) → loc
 by_read path (Ok answered) e = absurd cc
 by_read path (Err f) e = stop_read path f (same_located _ e)
 
--- of an index that is made first: a write that failed is memory that was refused for it
-made_writer : (fails other : Type 0) (f : RunFault) → is_refused (Err (at.Run f)) ≡ false → IsBlamedOver other (at.Run f)
+-- of an index that is made first, by writes that don't fail
+made_writer : (fails : Type 0) (f : RunFault) → IsBlamedOver ⊥ (at.Run f)
     → stops.IsBlamed fails (Run f)
-made_writer fails other (fault.Write out) some blames = absurd (cc some)
-made_writer fails other fault.Read some blames = absurd blames
-made_writer fails other f some blames = tt
+made_writer fails (fault.Write out) blames = λ few. absurd (blames few)
+made_writer fails fault.Read blames = absurd blames
+made_writer fails f blames = tt
 
-pub after_writer : (fails other : Type 0) (path : Bor Text) (answer : Result Survey FileStop)
-    (answered : Result Answered AnswerFault) → is_refused answer ≡ false → BlamesOver other answer
+pub after_writer : (fails : Type 0) (path : Bor Text) (answer : Result Survey FileStop)
+    (answered : Result Answered AnswerFault) → BlamesOver ⊥ answer
     → answers.BlamesWriter fails answered → stops.BlamesWriter fails (located_after path answer answered)
-after_writer fails other path answer (Err f) some over blames = stop_writer fails path f blames
-after_writer fails other path (Ok survey) (Ok answered) some over blames = damaged_writer fails survey.damaged _
-after_writer fails other path (Err (at.Run f)) (Ok answered) some over blames = made_writer fails other f some over
-after_writer fails other path (Err (at.File p g)) (Ok answered) some over blames = tt
-after_writer fails other path (Err (at.NoSection p n)) (Ok answered) some over blames = tt
+after_writer fails path answer (Err f) over blames = stop_writer fails path f blames
+after_writer fails path (Ok survey) (Ok answered) over blames = damaged_writer fails survey.damaged _
+after_writer fails path (Err (at.Run f)) (Ok answered) over blames = made_writer fails f over
+after_writer fails path (Err (at.File p g)) (Ok answered) over blames = tt
+after_writer fails path (Err (at.NoSection p n)) (Ok answered) over blames = tt
 
 after_reads : (other : Type 0) (path : Bor Text) (answer : Result Survey FileStop) (answered : Answered) → BlamesOver other answer
     → stops.ReadsNothing (located_after path answer (Ok answered))

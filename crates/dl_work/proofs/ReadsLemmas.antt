@@ -18,7 +18,7 @@ use Rattle.dl_index_file.specs.declared.fault.OpenFault.TheVariants as index
 use Rattle.dl_look.specs.declared.asked.Asked.{Asked}
 use Rattle.dl_open.specs.declared.fault.FileFault.{FileFault}
 use Rattle.dl_dialogue.specs.Faults.{TellFails}
-use Rattle.dl_work.specs.Answering.{AnswersAsked, AnswersGiven}
+use Rattle.dl_work.specs.Answering.{AnswersAsked, AnswersGiven, AsksOf}
 use Rattle.dl_work.specs.Locate.{asked_in_words}
 use Rattle.dl_work.specs.OverElfFile.{LocatesInElfFile}
 use Rattle.dl_work.specs.OverIndex.{IsNotOpened, LocatesInIndex, location_in}
@@ -28,25 +28,27 @@ use Rattle.dl_work.specs.declared.located.Located.{Located}
 use Rattle.dl_work.specs.declared.stop.Stop.{Stop}
 use Rattle.dl_work.proofs.TableLemmas.{on_file_as}
 
-module _ (refuses : ℕ → Type 0) (fails wider : Error → Type 0) (more : (e : Error) → fails e → wider e) where
-  -- ---- answers
+-- ---- answers
 
+module _ (refuses : ℕ → Type 0) (fails wider : Error → Type 0) (more : (e : Error) → fails e → wider e)
+    (asks others : ℕ → Type 0) (fewer : (n : ℕ) → asks n → others n) where
   stops_wider : (m : Manner) (start now : Option (List ℕ)) (asked : List Asked) (fault : AnswerFault)
-      → StopsBy m (TellFails fails refuses) start now asked fault → StopsBy m (TellFails wider refuses) start now asked fault
+      → StopsBy m (TellFails fails asks refuses) start now asked fault → StopsBy m (TellFails wider others refuses) start now asked fault
   stops_wider m start now asked (Write lost) stops = stops
   stops_wider m start now asked Input stops = stops
-  stops_wider m start now asked (Tell (NotRead error)) (answered, others, is, (reads, out)) =
-      (answered, others, is, (more error reads, out))
-  stops_wider m start now asked (Tell NoRoom) stops = stops
+  stops_wider m start now asked (Tell (NotRead error)) (answered, rest, is, (reads, out)) =
+      (answered, rest, is, (more error reads, out))
+  stops_wider m start now asked (Tell NoRoom) (answered, rest, is, ((n, few, refused), out)) =
+      (answered, rest, is, ((n, fewer n few, refused), out))
 
   all_wider : (m : Manner) (asked : List Asked) (start now : Option (List ℕ)) (r : Result Found AnswerFault)
-      → AnswersAll m (TellFails fails refuses) asked start now r → AnswersAll m (TellFails wider refuses) asked start now r
+      → AnswersAll m (TellFails fails asks refuses) asked start now r → AnswersAll m (TellFails wider others refuses) asked start now r
   all_wider m asked start now (Ok found) answers = answers
   all_wider m asked start now (Err fault) stops = stops_wider m start now asked fault stops
 
   lines_wider : (m : Manner) (hex : Bool) (bytes : List ℕ) (left start now : Option (List ℕ))
-      (r : Result Answered AnswerFault) → AnswersLines m hex (TellFails fails refuses) bytes left start now r
-      → AnswersLines m hex (TellFails wider refuses) bytes left start now r
+      (r : Result Answered AnswerFault) → AnswersLines m hex (TellFails fails asks refuses) bytes left start now r
+      → AnswersLines m hex (TellFails wider others refuses) bytes left start now r
   lines_wider m hex bytes left start now (Ok answered) answers = answers
   lines_wider m hex bytes left start now (Err Input) out = out
   lines_wider m hex bytes left start now (Err (Write lost)) stops =
@@ -55,20 +57,21 @@ module _ (refuses : ℕ → Type 0) (fails wider : Error → Type 0) (more : (e 
       stops_wider m start now (asked_in hex bytes) (Tell fault) stops
 
   given_wider : (w : AddrTexts) (m : Manner) (asked : List Asked) (bytes : List ℕ) (left start now : Option (List ℕ))
-      (r : Result Answered AnswerFault) → AnswersGiven refuses w m fails asked bytes left start now r
-      → AnswersGiven refuses w m wider asked bytes left start now r
+      (r : Result Answered AnswerFault) → AnswersGiven refuses w m fails asks asked bytes left start now r
+      → AnswersGiven refuses w m wider others asked bytes left start now r
   given_wider w m [] bytes left start now r answers = lines_wider m w.hex bytes left start now r answers
   given_wider w m (a ∷ asked) bytes left start now r (none, found, answers, is) =
       (none, found, all_wider m (a ∷ asked) start now found answers, is)
 
   pub answers_wider : (w : AddrTexts) (f : ℕ → Option Location) (bytes : List ℕ) (left start now : Option (List ℕ))
-      (r : Result Answered AnswerFault) → AnswersAsked refuses w f fails bytes left start now r
-      → AnswersAsked refuses w f wider bytes left start now r
+      (r : Result Answered AnswerFault) → AnswersAsked refuses w f fails asks bytes left start now r
+      → AnswersAsked refuses w f wider others bytes left start now r
   answers_wider w f bytes left start now r (m, is, answers) =
       (m, is, given_wider w m (asked_in_words w) bytes left start now r answers)
 
-  -- ---- an ELF file
+-- ---- an ELF file
 
+module _ (refuses : ℕ → Type 0) (fails wider : Error → Type 0) (more : (e : Error) → fails e → wider e) where
   pub refuses_wider : (are_wanted : Bool) (f : List ℕ) (fault : FileFault) → RefusesOpening refuses are_wanted fails f fault
       → RefusesOpening refuses are_wanted wider f fault
   refuses_wider are_wanted f fault why = search rules
@@ -148,6 +151,6 @@ index_wider refuses fails wider more held others path w b bytes left start now r
       answered,
       is,
       λ whole. answers_wider refuses (ReadFails (Some b) fails)
-          (ReadFails (Some b) wider) (reads_wider fails wider (Some b) more) w (location_in b) bytes left start now answered
+          (ReadFails (Some b) wider) (reads_wider fails wider (Some b) more) (AsksOf b) (AsksOf b) (λ n few. few) w (location_in b) bytes left start now answered
           (answers whole),
     )))

@@ -1,6 +1,6 @@
 -- Addresses that are answered by what is told of them: those among the words of `addr`, or those on the input as they come.
 -- bytes: what was read of the input, which has `left` left. start, now: what the output held at first, and holds now.
-use Rattle.std.specs.Prelude.{◌≡◌, ℕ, true, List, [], ◌∷◌, Option, Some, None, Result, Ok, Err}
+use Rattle.std.specs.Prelude.{◌≡◌, ◌*◌, ◌≤◌, ℕ, true, List, [], ◌∷◌, length, Option, Some, None, Result, Ok, Err}
 use Rattle.std.specs.Borrow.{Bor}
 use Rattle.std.specs.Option.{option_copied}
 use Rattle.std.specs.declared.io.Error.{Error}
@@ -36,19 +36,25 @@ abbrev pub answered_given : Result Found AnswerFault → Result Answered AnswerF
 answered_given (Ok found) = Ok (record { found = found; no_address = None })
 answered_given (Err f) = Err f
 
+-- for how many items memory is asked by an index of these bytes: a path has no more than three texts, each of which lies in
+-- them
+abbrev pub AsksOf : (index : List ℕ) → ℕ → Type 0
+AsksOf index n = n ≤ 3 * length index
+
 -- those that were given are answered; where there are none, those that the whole input says
-abbrev pub AnswersGiven : (refuses : ℕ → Type 0) → AddrTexts → Manner → (Fails : Error → Type 0) → List Asked → (bytes : List ℕ)
-    (left start now : Option (List ℕ)) → Result Answered AnswerFault → Type 0
-AnswersGiven refuses w m Fails [] bytes left start now result = AnswersLines m w.hex (TellFails Fails refuses) bytes left start now result
-AnswersGiven refuses w m Fails (a ∷ asked) bytes left start now result =
-    (bytes ≡ []) × (found : Result Found AnswerFault) × AnswersAll m (TellFails Fails refuses) (a ∷ asked) start now found
+abbrev pub AnswersGiven : (refuses : ℕ → Type 0) → AddrTexts → Manner → (Fails : Error → Type 0) (Asks : ℕ → Type 0) → List Asked
+    → (bytes : List ℕ) (left start now : Option (List ℕ)) → Result Answered AnswerFault → Type 0
+AnswersGiven refuses w m Fails Asks [] bytes left start now result =
+    AnswersLines m w.hex (TellFails Fails Asks refuses) bytes left start now result
+AnswersGiven refuses w m Fails Asks (a ∷ asked) bytes left start now result =
+    (bytes ≡ []) × (found : Result Found AnswerFault) × AnswersAll m (TellFails Fails Asks refuses) (a ∷ asked) start now found
     × (result ≡ answered_given found)
 
 -- what the words ask for is answered by what f tells
-abbrev pub AnswersAsked : (refuses : ℕ → Type 0) → AddrTexts → (f : ℕ → Option Location) → (Fails : Error → Type 0) → (bytes : List ℕ)
-    (left start now : Option (List ℕ)) → Result Answered AnswerFault → Type 0
-AnswersAsked refuses w f Fails bytes left start now result =
-    (m : Manner) × IsManner w f m × AnswersGiven refuses w m Fails (asked_in_words w) bytes left start now result
+abbrev pub AnswersAsked : (refuses : ℕ → Type 0) → AddrTexts → (f : ℕ → Option Location) → (Fails : Error → Type 0) (Asks : ℕ → Type 0)
+    → (bytes : List ℕ) (left start now : Option (List ℕ)) → Result Answered AnswerFault → Type 0
+AnswersAsked refuses w f Fails Asks bytes left start now result =
+    (m : Manner) × IsManner w f m × AnswersGiven refuses w m Fails Asks (asked_in_words w) bytes left start now result
 
 -- why the program stops then, of an index at this path
 abbrev pub stop_of_answer : Bor Text → AnswerFault → Stop

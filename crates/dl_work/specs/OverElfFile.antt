@@ -2,7 +2,9 @@
 -- which has `left` left. start, now: what the output held at first, and holds now. reads: the errors that reading the file
 -- may give.
 use Rattle.std.specs.Prelude.{◌≡◌, ◌≢◌, ◌⊎◌, ◌||◌, ℕ, Bool, true, false, is_some, List, [], Option, Some, None, Result, Ok, Err}
+use Rattle.std.specs.Prelude.{MatchOption}
 use Rattle.std.specs.Borrow.{Bor}
+use Rattle.std.specs.Global.{Vec}
 use Rattle.std.specs.Option.{option_copied}
 use Rattle.std.specs.declared.io.Error.{Error}
 use Rattle.dl_addr.specs.Code.{is_code}
@@ -12,6 +14,7 @@ use Rattle.dl_dialogue.specs.declared.fault.AnswerFault.{AnswerFault}
 use Rattle.dl_dirs.specs.Compilation.{directory_by}
 use Rattle.dl_file.specs.Code.{IsCode}
 use Rattle.dl_file.specs.declared.code.Code.{Code}
+use Rattle.dl_held.specs.Holding.{CannotHold}
 use Rattle.dl_index.specs.IsIndex.{IsIndex}
 use Rattle.dl_look.specs.declared.code_ranges.CodeRanges.{CodeRanges}
 use Rattle.dl_addr.specs.declared.question.Question.{Question}
@@ -22,8 +25,7 @@ use Rattle.dl_open.specs.declared.stop.FileStop.{FileStop}
 use Rattle.dl_open.specs.declared.stop.FileStop.TheVariants as at
 use Rattle.dl_open.specs.Code.{AreLive}
 use Rattle.dl_run.specs.declared.around.Survey.{Survey}
-use Rattle.dl_run.specs.declared.fault.RunFault.TheVariants.{Write}
-use Rattle.dl_work.specs.Answering.{AnswersAsked, stop_of_answer}
+use Rattle.dl_work.specs.Answering.{AnswersAsked, AsksOf, stop_of_answer}
 use Rattle.dl_work.specs.Compiled.{AreFound, RefusesOpening, compiled_by, wants_directories}
 use Rattle.dl_work.specs.Damages.{unheard}
 use Rattle.dl_work.specs.Locate.{Asks, asked_in_words, asking}
@@ -40,7 +42,7 @@ use Rattle.dl_work.specs.declared.stop.Stop.TheVariants.{File, NotUnderstood}
 -- no address has an answer
 abbrev pub Unanswered : (refuses : ℕ → Type 0) → AddrTexts → (bytes : List ℕ) (left start now : Option (List ℕ)) → Type 0
 Unanswered refuses w bytes left start now =
-    (answered : Result Answered AnswerFault) × AnswersAsked refuses w (λ a. None) (λ _. ⊥) bytes left start now answered
+    (answered : Result Answered AnswerFault) × AnswersAsked refuses w (λ a. None) (λ _. ⊥) (λ _. ⊥) bytes left start now answered
 
 -- where there is code: a sequence counts that begins there, or each one where all are asked for
 abbrev pub counts : AddrTexts → Option CodeRanges → ℕ → Bool
@@ -62,17 +64,25 @@ pub record IsToldOf (w : AddrTexts) (ranges : Option CodeRanges) (found : ℕ �
   pub code : (a : ℕ) → is_code (option_copied table.code) a ≡ counts w ranges a
   pub directories : (n : ℕ) → directory_by table.directories n ≡ compiled_by w.comp_dir found n
 
--- memory was refused for the index
+-- memory was refused before the index was whole
 abbrev pub is_refused : Result Survey FileStop → Bool
 is_refused (Err (at.File path NoMemory)) = true
-is_refused (Err (at.Run (Write out))) = true
 is_refused other = false
+
+-- there is no index: memory was refused before it was whole, or for these bytes of it
+abbrev pub IsUnmade : (refuses : ℕ → Type 0) (index : List ℕ) → Result Survey FileStop → Type 0
+IsUnmade refuses index answer = (is_refused answer ≡ true) ⊎ CannotHold refuses index
+
+-- the index of these bytes, or why there is none
+abbrev pub IsMade : (refuses : ℕ → Type 0) (index : List ℕ) → Result Survey FileStop → Option (Vec ℕ) → Type 0
+IsMade refuses index answer made =
+    MatchOption made (IsUnmade refuses index answer) (λ list. (is_refused answer ≡ false) × (list.items ≡ index))
 
 -- the index answers; where there is none, no address has an answer
 pub record AnswersMade (refuses : ℕ → Type 0) (w : AddrTexts) (index : List ℕ) (bytes : List ℕ) (left start now : Option (List ℕ))
     (answered : Result Answered AnswerFault) : Type 0 where
-  pub made : IsIndex index → AnswersAsked refuses w (location_in index) (λ _. ⊥) bytes left start now answered
-  pub none : index ≡ [] → AnswersAsked refuses w (λ a. None) (λ _. ⊥) bytes left start now answered
+  pub made : IsIndex index → AnswersAsked refuses w (location_in index) (λ _. ⊥) (AsksOf index) bytes left start now answered
+  pub none : index ≡ [] → AnswersAsked refuses w (λ a. None) (λ _. ⊥) (λ _. ⊥) bytes left start now answered
 
 -- what came of the reading of the table, and then of the answers, whose fault comes first
 abbrev pub after_answers : Result Survey Stop → Answered → Result Located Stop
@@ -88,7 +98,7 @@ abbrev pub LocatesByIndex : (refuses : ℕ → Type 0) → (reads : Error → Ty
 LocatesByIndex refuses reads path w f code found bytes left start now result =
     (table : Table) × IsToldOf w code found table × (index : List ℕ) × (answer : Result Survey FileStop)
     × OnFile refuses (file_units w.units) reads path.now w.section (making w table) f (Some []) (Some index) unheard answer
-    × (((is_refused answer ≡ true) × StopsBefore bytes start now result (File path NoMemory))
+    × ((IsUnmade refuses index answer × StopsBefore bytes start now result (File path NoMemory))
     ⊎ ((is_refused answer ≡ false) × (answered : Result Answered AnswerFault)
     × AnswersMade refuses w index bytes left start now answered × (result ≡ located_after path answer answered)))
 

@@ -23,7 +23,7 @@ use Rattle.dl_making.specs.declared.making.Table.{Table}
 use Rattle.dl_open.specs.BuildIds.{IsBuildId}
 use Rattle.dl_open.specs.declared.fault.FileFault.{FileFault}
 use Rattle.dl_open.specs.declared.fault.FileFault.TheVariants.{Open}
-use Rattle.dl_work.specs.Answering.{AnswersAsked, located_by}
+use Rattle.dl_work.specs.Answering.{AnswersAsked, AsksOf, located_by}
 use Rattle.dl_work.specs.Indexing.{RefusesNaming}
 use Rattle.dl_work.specs.Work.{StopsBefore}
 use Rattle.dl_work.specs.declared.command.Command.{Command}
@@ -90,4 +90,4 @@ LocatesInIndex refuses held fails reads path w b bytes left start now result =
     × MadeOf held fails w path (build_id_in b) (Err stop) × StopsBefore bytes start now result stop)
     ⊎ ((suits_index w ≡ true) × IsHeaded b × MadeOf held fails w path (build_id_in b) (Ok tt)
     × (answered : Result Answered AnswerFault) × (result ≡ located_by path answered)
-    × (IsIndex b → AnswersAsked refuses w (location_in b) (ReadFails (Some b) reads) bytes left start now answered))
+    × (IsIndex b → AnswersAsked refuses w (location_in b) (ReadFails (Some b) reads) (AsksOf b) bytes left start now answered))

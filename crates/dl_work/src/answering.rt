@@ -36,7 +36,7 @@ pub fn answer_asked<M: Memory, T: Tell, R: Source, W: Destination>(
     ensures answers { (bytes : List ℕ) × Consumes (R.remaining input.old) (R.remaining input.new) bytes
         × ((f : ℕ → Option Location) → Determines (T.tells teller.old) f
         → IsUnderstood (addr_words_made words.now) understood.now
-        → AnswersAsked (M.refuses memory.now) (addr_words_made words.now) f (T.fails_with teller.old) bytes (R.remaining input.new)
+        → AnswersAsked (M.refuses memory.now) (addr_words_made words.now) f (T.fails_with teller.old) (T.asks teller.old) bytes (R.remaining input.new)
         (W.contents output.old) (W.contents output.new) result) }
     ensures blames { Blames R.follows R.fails input.old input.new ((result ≡ Err AnswerFault.Input)
         × ¬ IsLong (R.remaining input.old) (R.remaining input.new)) }

@@ -1,13 +1,18 @@
 //! What the program does for `addr` over an ELF file.
-ghost use Rattle.std.specs.Prelude.{◌≡◌, ℕ, List};
+ghost use Rattle.std.specs.Prelude.{◌≡◌, ◌⊎◌, [], ℕ, List, true, false, Some, IfSome, IfNone};
 ghost use Rattle.std.specs.Io.KnownBytes.{Consumes};
 ghost use Rattle.dl_input.specs.Failing.{Blames};
-ghost use Rattle.dl_work.specs.Blaming.{BlamesWriter, IsFailedRead, ReadsNothing};
+ghost use Rattle.dl_held.specs.Holding.{CannotHold};
+ghost use Rattle.dl_work.specs.Blaming.{BlamesOver, BlamesWriter, IsFailedRead, ReadsNothing};
+ghost use Rattle.dl_work.specs.Damages.{unheard};
+ghost use Rattle.dl_work.specs.OverIndex.{making};
+ghost use Rattle.dl_work.specs.Tables.{OnFile};
+ghost use Rattle.dl_work.specs.Units.{file_units};
 ghost use Rattle.dl_cmd.specs.Job.{addr_words_made};
 ghost use Rattle.dl_dirs.specs.Directories.{directory_at};
 ghost use Rattle.dl_elf.specs.Source.{ForBytes};
 ghost use Rattle.std.specs.Option.{option_copied};
-ghost use Rattle.dl_work.specs.OverElfFile.{IsToldOf, LocatesInElfFile, LocatesByIndex, LocatesGiven, is_refused, located_after};
+ghost use Rattle.dl_work.specs.OverElfFile.{IsToldOf, LocatesInElfFile, IsMade, LocatesByIndex, LocatesGiven, is_refused, located_after};
 ghost use Rattle.dl_work.specs.Understood.{IsUnderstood};
 
 use crate::addr_words::{AskedWords, asking, making, part_name, question, wants_directories};
@@ -24,13 +29,15 @@ use dl_cmd::AddrWords;
 use dl_dialogue::{AnswerFault, Answered, Nothing};
 use dl_dirs::Directories;
 use dl_elf::ReadAt;
+use dl_held::{Held, Refusing};
 use dl_input::Source;
 use dl_look::CodeRanges;
 use dl_making::{SetMemory, Table};
-use dl_memory::Held;
+use dl_memory::NoMemory;
 use dl_open::{FileFault, FileStop};
 use dl_output::Destination;
-use dl_run::{RunFault, Survey};
+use dl_run::Survey;
+use std::marker::Brand;
 
 /// Looks into the ELF file at this path, which is open.
 pub fn in_elf_file<'a, M: SetMemory, S: ReadAt, R: Source, W: Destination>(
@@ -130,13 +137,13 @@ fn given<'a, M: SetMemory, S: ReadAt, W: Destination>(
 }
 
 /// Makes the index of the line table in memory, and answers from it the addresses on the input, as they come.
-fn by_index<'a, M: SetMemory, S: ReadAt, R: Source, W: Destination>(
+fn by_index<'a, 'q, M: SetMemory, S: ReadAt, R: Source, W: Destination>(
     memory: &M,
-    words: &AddrWords<'a>,
+    words: &'q AddrWords<'a>,
     path: &'a str,
     file: &S,
-    code: Option<&CodeRanges>,
-    directories: &Directories,
+    code: Option<&'q CodeRanges>,
+    directories: &'q Directories,
     understood: &AskedWords,
     input: &mut R,
     output: &mut W,
@@ -151,34 +158,75 @@ fn by_index<'a, M: SetMemory, S: ReadAt, R: Source, W: Destination>(
     ensures blames_writer { BlamesWriter W.fails result }
 {
     let table = table_of(words, code, directories);
-    let mut index = Held::new(memory);
-    let units = units_of_file(words.units);
-    let command = making(words, table);
-    let answer = on_file(
-        memory,
-        path,
-        file,
-        units,
-        words.section,
-        command,
-        &mut index,
-        &mut Unheard,
-    );
-    if is_refused(&answer) {
+    let at = AtPath { path };
+    let Made { answer, index } = make_index::<M, S, Brand>(memory, words, at, file, table);
+    let Some(index) = index else {
         return Err(Stop::File {
             path,
             fault: FileFault::NoMemory,
         });
-    }
-    let answered = answer_made(
-        memory,
-        words,
-        understood,
-        index.bytes.as_slice(),
-        input,
-        output,
-    );
+    };
+    let answered = answer_made(memory, words, understood, index.as_slice(), input, output);
     located_after(path, answer, answered)
+}
+
+/// The path of the file.
+#[derive(Clone, Copy)]
+struct AtPath<'a> {
+    path: &'a str,
+}
+
+/// What came of the reading of the line table, and the index, None where memory was refused for it.
+#[derive(Drop)]
+struct Made<'a> {
+    answer: Result<Survey, FileStop<'a>>,
+    index: Option<Vec<u8>>,
+}
+
+/// Makes the index of the line table in memory.
+fn make_index<'a, M: SetMemory, S: ReadAt, K: Refusing>(
+    memory: &M,
+    words: &AddrWords<'a>,
+    at: AtPath<'a>,
+    file: &S,
+    table: Table<'_>,
+) -> Made<'a>
+    requires { (n : ℕ) → M.refuses memory.now n → K.refuses n }
+    ensures made { (index : List ℕ) × ForBytes (S.all_bytes file.now) (λ f. OnFile (M.refuses memory.now)
+        (file_units (addr_words_made words.now).units) (S.fails_with file.now) at.entry.path.now (addr_words_made words.now).section
+        (making (addr_words_made words.now) table.entry) f (Some []) (Some index) unheard result.answer)
+        × IsMade K.refuses index result.answer result.index }
+    ensures blames { BlamesOver ⊥ result.answer }
+{
+    let mut held = Held::<'_, M, K>::new(memory);
+    let units = units_of_file(words.units);
+    let command = making(words, table);
+    let answer = on_file(
+        memory,
+        at.path,
+        file,
+        units,
+        words.section,
+        command,
+        &mut held,
+        &mut Unheard,
+    );
+    let index = held_unless(is_refused(&answer), held);
+    Made { answer, index }
+}
+
+/// What is held, unless memory was refused before.
+fn held_unless<M: SetMemory, K: Refusing>(refused: bool, held: Held<'_, M, K>) -> Option<Vec<u8>>
+    ensures whole { IfSome result (λ list. (refused ≡ false) × (list.items ≡ held.entry.written.bytes)) }
+    ensures none { IfNone result ((refused ≡ true) ⊎ CannotHold K.refuses held.entry.written.bytes) }
+{
+    if refused {
+        return None;
+    }
+    match held.whole() {
+        Ok(bytes) => Some(bytes),
+        Err(NoMemory) => None,
+    }
 }
 
 /// What the index is made with.
@@ -197,18 +245,16 @@ fn table_of<'q>(
     }
 }
 
-/// Whether memory was refused for the index.
+/// Whether memory was refused before the index was whole.
 fn is_refused(answer: &Result<Survey, FileStop<'_>>) -> bool
     ensures { result ≡ is_refused answer.now }
 {
     matches!(
         answer,
-        Err(
-            FileStop::File {
-                fault: FileFault::NoMemory,
-                ..
-            } | FileStop::Run(RunFault::Write { .. })
-        )
+        Err(FileStop::File {
+            fault: FileFault::NoMemory,
+            ..
+        })
     )
 }
 

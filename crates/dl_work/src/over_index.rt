@@ -14,7 +14,7 @@ ghost use Rattle.dl_index.specs.IsIndex.{IsIndex};
 ghost use Rattle.dl_index_file.specs.Opening.{source_of};
 ghost use Rattle.dl_index_file.specs.Reading.{ReadFails};
 ghost use Rattle.dl_dialogue.specs.Faults.{BlamesWriter};
-ghost use Rattle.dl_work.specs.Answering.{AnswersAsked, located_by};
+ghost use Rattle.dl_work.specs.Answering.{AnswersAsked, AsksOf, located_by};
 ghost use Rattle.dl_work.specs.Indexing.{RefusesNaming};
 ghost use Rattle.dl_work.specs.OverIndex.{LocatesInIndex, MadeOf, OwnIdRefused, has_id, location_in};
 ghost use Rattle.dl_work.specs.Understood.{IsUnderstood};
@@ -90,7 +90,7 @@ fn answer_from<M: Memory, S: ReadAt, R: Source, W: Destination>(
     ensures answers { (bytes : List ℕ) × Consumes (R.remaining input.old) (R.remaining input.new) bytes
         × (IsUnderstood (addr_words_made words.now) understood.now → ForBytes (S.all_bytes (source_of index.now))
         (λ b. IsIndex b → AnswersAsked (M.refuses memory.now) (addr_words_made words.now) (location_in b)
-        (ReadFails (Some b) (S.fails_with (source_of index.now))) bytes (R.remaining input.new) (W.contents output.old)
+        (ReadFails (Some b) (S.fails_with (source_of index.now))) (AsksOf b) bytes (R.remaining input.new) (W.contents output.old)
         (W.contents output.new) result)) }
     ensures blames { Blames R.follows R.fails input.old input.new ((result ≡ Err AnswerFault.Input)
         × ¬ IsLong (R.remaining input.old) (R.remaining input.new)) }

@@ -34,7 +34,7 @@ returns-in_err-answer-clause-answers g c = λ f determines.
     let i = c.loop-each.each-index in
     let asked = c.args.asked.now in
     let start = g.W.Write.contents c.args.output.now in
-    rw (p.1, p.2) (answered_within m (TellFails (g.T.Tell.fails_with c.args.teller.now) (g.M.Memory.refuses c.args.memory.now)) start
+    rw (p.1, p.2) (answered_within m (TellFails (g.T.Tell.fails_with c.args.teller.now) (g.T.Tell.asks c.args.teller.now) (g.M.Memory.refuses c.args.memory.now)) start
     (g.W.Write.contents c.answer.new.output) asked i _ _ c.loop-each-test.true
     (c.in_err-answer.ensures.answers c.args.teller.now m start (take i asked) c.loop-each.invariant.0 determines
     (c.loop-each.invariant.1 f determines)))
@@ -45,7 +45,7 @@ returns-in_err-flush-clause-answers g c = λ f determines.
     let p = err_from_is_err_and c.from_residual-in_err-flush.result c.from_residual-in_err-flush.ensures.1 in
     let asked = c.args.asked.now in
     let start = g.W.Write.contents c.args.output.now in
-    rw (p.1, p.2) (stops_weaker m (TellFails (g.T.Tell.fails_with c.args.teller.now) (g.M.Memory.refuses c.args.memory.now)) start
+    rw (p.1, p.2) (stops_weaker m (TellFails (g.T.Tell.fails_with c.args.teller.now) (g.T.Tell.asks c.args.teller.now) (g.M.Memory.refuses c.args.memory.now)) start
     (g.W.Write.contents c.flush.new.output) asked _
     (c.in_err-flush.ensures.flushed m start asked (all_answered m start (g.W.Write.contents c.loop-each.output) asked
     c.loop-each.each-index c.loop-each.printer c.loop-each.answers c.loop-each-test.false (c.loop-each.invariant.1 f determines))))

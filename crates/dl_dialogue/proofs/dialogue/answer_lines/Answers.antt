@@ -47,7 +47,7 @@ returns-then-is_empty-clause-answers g c =
     (Consumes-trans _ _ _ _ _ i.1 c.in-Ok.ensures.ok) in (
       i.0,
       all,
-      λ f determines. end_answers (record { style = c.args.style; base = c.args.base; told = f }) c.args.hex (TellFails (g.T.Tell.fails_with c.args.teller.now) (g.M.Memory.refuses c.args.memory.now)) i.0
+      λ f determines. end_answers (record { style = c.args.style; base = c.args.base; told = f }) c.args.hex (TellFails (g.T.Tell.fails_with c.args.teller.now) (g.T.Tell.asks c.args.teller.now) (g.M.Memory.refuses c.args.memory.now)) i.0
           (g.R.Read.remaining c.next_piece.new.reader) (g.W.Write.contents c.args.output.now)
           (g.W.Write.contents c.end.new.output) c.end.result (c.in-Ok.ensures.end none)
           (c.end.ensures.answers c.args.teller.now (record { style = c.args.style; base = c.args.base; told = f }) c.args.hex
@@ -61,7 +61,7 @@ returns-in_err-take-clause-answers g c =
     let p = err_from_is_err_and c.from_residual.result c.from_residual.ensures.1 in (
       bytes,
       Consumes-trans _ _ _ _ _ i.1 c.in-Ok.ensures.ok,
-      λ f determines. rw (p.1, p.2) (fault_answers (record { style = c.args.style; base = c.args.base; told = f }) c.args.hex (TellFails (g.T.Tell.fails_with c.args.teller.now) (g.M.Memory.refuses c.args.memory.now)) bytes
+      λ f determines. rw (p.1, p.2) (fault_answers (record { style = c.args.style; base = c.args.base; told = f }) c.args.hex (TellFails (g.T.Tell.fails_with c.args.teller.now) (g.T.Tell.asks c.args.teller.now) (g.M.Memory.refuses c.args.memory.now)) bytes
           (g.R.Read.remaining c.next_piece.new.reader) (g.W.Write.contents c.args.output.now)
           (g.W.Write.contents c.take.new.output) _
           (c.in_err-take.ensures.answers c.args.teller.now (record { style = c.args.style; base = c.args.base; told = f }) c.args.hex

@@ -10,7 +10,7 @@ use Rattle.dl_dialogue.proofs.dialogue.answer_lines.Given as goal
 abbrev pub invariant-loop : goal.invariant-loop
 invariant-loop g l =
     (bs : List ℕ) × Consumes (g.R.Read.remaining l.initial.input) (g.R.Read.remaining l.input) bs
-    × Stays g.T.Tell.tells g.T.Tell.fails_with l.initial.teller l.teller
+    × Stays g.T.Tell.tells g.T.Tell.fails_with g.T.Tell.asks l.initial.teller l.teller
     × ((f : ℕ → Option Location) → Determines (g.T.Tell.tells l.initial.teller) f
     → Talks (record { style = l.style; base = l.base; told = f }) l.hex (g.W.Write.contents l.initial.output)
     (g.W.Write.contents l.output) bs l.printer l.dialogue)

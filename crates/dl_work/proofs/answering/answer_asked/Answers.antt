@@ -21,7 +21,7 @@ returns-then-is_empty-clause-answers g c =
       e.1,
       λ f determines understood.
           let m : Manner = record { style = c.style-style.result; base = u.base; told = f } in
-          lines_asked (g.M.Memory.refuses c.args.memory.now) w u f m (g.T.Tell.fails_with c.args.teller.now) e.0
+          lines_asked (g.M.Memory.refuses c.args.memory.now) w u f m (g.T.Tell.fails_with c.args.teller.now) (g.T.Tell.asks c.args.teller.now) e.0
           (g.R.Read.remaining c.answer_lines.new.input) start (g.W.Write.contents c.answer_lines.new.output)
           c.answer_lines.result understood
           (manner w u f c.style-style.result understood c.style-style.ensures.form c.style-style.ensures.basenames
@@ -39,7 +39,7 @@ returns-clause-answers g c =
       Consumes-nil _,
       λ f determines understood.
           let m : Manner = record { style = c.style-style.result; base = u.base; told = f } in
-          words_asked (g.M.Memory.refuses c.args.memory.now) w u f m (g.T.Tell.fails_with c.args.teller.now) (g.R.Read.remaining c.args.input.now) start
+          words_asked (g.M.Memory.refuses c.args.memory.now) w u f m (g.T.Tell.fails_with c.args.teller.now) (g.T.Tell.asks c.args.teller.now) (g.R.Read.remaining c.args.input.now) start
           (g.W.Write.contents c.answer_all.new.output) c.answer_all.result c.answered_given.result c.as_slice.result.now
           understood
           (manner w u f c.style-style.result understood c.style-style.ensures.form c.style-style.ensures.basenames

@@ -1,5 +1,7 @@
 use Rattle.std.proofs.Common.{None, ap, subst, sym, ◌∙◌}
+use Rattle.dl_cmd.specs.Job.{addr_words_made}
 use Rattle.dl_index.specs.IsIndex.{IsIndex}
+use Rattle.dl_work.specs.Answering.{AnswersAsked, AsksOf}
 use Rattle.dl_work.specs.OverIndex.{location_in}
 use Rattle.dl_work.proofs.AnsweringLemmas.{never_empty}
 use Rattle.dl_work.proofs.answering.answer_made.Goals as goal
@@ -12,8 +14,11 @@ returns-in-Ok-clause-answers g c =
       e.0,
       e.1,
       λ understood. record {
-        made = λ is. e.2 (location_in bytes) (λ address told tells.
-            tells (subst IsIndex (sym same) is) ∙ ap (λ b. location_in b address) same) understood;
+        made = λ is. subst (λ b. AnswersAsked (g.M.Memory.refuses c.args.memory.now) (addr_words_made c.args.words.now) (location_in bytes)
+            (λ _. ⊥) (AsksOf b) e.0 (g.R.Read.remaining c.answer_asked.new.input) (g.W.Write.contents c.args.output.now)
+            (g.W.Write.contents c.answer_asked.new.output) c.answer_asked.result) same
+            (e.2 (location_in bytes) (λ address told tells.
+            tells (subst IsIndex (sym same) is) ∙ ap (λ b. location_in b address) same) understood);
         none = λ empty. absurd (never_empty bytes c.in-Ok.ensures.headed empty);
       },
     )

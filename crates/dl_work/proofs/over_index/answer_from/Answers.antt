@@ -3,7 +3,7 @@ use Rattle.dl_cmd.specs.Job.{addr_words_made}
 use Rattle.dl_index.specs.IsIndex.{IsIndex}
 use Rattle.dl_index_file.specs.Opening.{source_of}
 use Rattle.dl_index_file.specs.Reading.{ReadFails}
-use Rattle.dl_work.specs.Answering.{AnswersAsked}
+use Rattle.dl_work.specs.Answering.{AnswersAsked, AsksOf}
 use Rattle.dl_work.specs.OverIndex.{location_in}
 use Rattle.dl_work.proofs.ReadsLemmas.{answers_wider}
 use Rattle.dl_work.proofs.over_index.answer_from.Goals as goal
@@ -18,9 +18,9 @@ returns-in-Some-clause-answers g c =
       λ understood b known short whole.
           let same = c.as_slice.ensures.value ∙ c.in-Some.ensures b known short in
           answers_wider (g.M.Memory.refuses c.args.memory.now) (λ _. ⊥) (ReadFails (Some b) (g.S.ReadAt.fails_with (source_of c.args.index.now)))
-          (λ error fails. absurd fails) w (location_in b) e.0 (g.R.Read.remaining c.answer_made.new.input) start
+          (λ error fails. absurd fails) (AsksOf b) (AsksOf b) (λ n few. few) w (location_in b) e.0 (g.R.Read.remaining c.answer_made.new.input) start
           (g.W.Write.contents c.answer_made.new.output) c.answer_made.result
-          (subst (λ i. AnswersAsked (g.M.Memory.refuses c.args.memory.now) w (location_in i) (λ _. ⊥) e.0 (g.R.Read.remaining c.answer_made.new.input) start
+          (subst (λ i. AnswersAsked (g.M.Memory.refuses c.args.memory.now) w (location_in i) (λ _. ⊥) (AsksOf i) e.0 (g.R.Read.remaining c.answer_made.new.input) start
           (g.W.Write.contents c.answer_made.new.output) c.answer_made.result) same
           ((e.2 understood).made (subst IsIndex (sym same) whole))),
     )
@@ -37,6 +37,7 @@ returns-clause-answers g c =
           answers_wider (g.M.Memory.refuses c.args.memory.now) _ (ReadFails (Some b) (g.S.ReadAt.fails_with (source_of c.args.index.now)))
           (λ error fails. subst (λ k. ReadFails k (g.S.ReadAt.fails_with (source_of c.args.index.now)) error) known
           (subst (λ i. ReadFails (known_of (source_of i)) (g.S.ReadAt.fails_with (source_of i)) error) same fails))
+          _ (AsksOf b) (λ n few. few b (ap (λ i. known_of (source_of i)) same ∙ known) short)
           w (location_in b) e.0 _ _ _ c.answer_asked.result
           (e.2 (location_in b) (λ address told tells. tells b (ap (λ i. known_of (source_of i)) same ∙ known) short whole)
           understood),

@@ -4,7 +4,7 @@ use Rattle.std.proofs.lemmas.Result.{err_from_is_err_and}
 use Rattle.dl_cmd.specs.Job.{addr_words_made}
 use Rattle.dl_index_file.specs.Reading.{ReadFails}
 use Rattle.std.specs.Prelude.{IfErr}
-use Rattle.dl_work.specs.Answering.{AnswersAsked}
+use Rattle.dl_work.specs.Answering.{AnswersAsked, AsksOf}
 use Rattle.dl_work.specs.OverIndex.{IsNotOpened, MadeOf, location_in}
 use Rattle.dl_run.proofs.BlameLemmas.{blames_where}
 use Rattle.dl_work.proofs.BlameLemmas.{by_read, by_writer, no_read, no_run_reads, no_run_writer}
@@ -66,7 +66,7 @@ returns-clause-located g c =
                 c.args.path id (Ok tt)) (c.build_id.ensures.id b own short) c.in_ok-check_made_of.ensures.made,
             c.answer_from.result,
             c.located_by.ensures,
-            λ whole. subst (λ s. AnswersAsked (g.M.Memory.refuses c.args.memory.now) w (location_in b) (ReadFails (Some b) (g.S.ReadAt.fails_with s)) e.0
+            λ whole. subst (λ s. AnswersAsked (g.M.Memory.refuses c.args.memory.now) w (location_in b) (ReadFails (Some b) (g.S.ReadAt.fails_with s)) (AsksOf b) e.0
                 (g.R.Read.remaining c.answer_from.new.input) (g.W.Write.contents c.args.output.now)
                 (g.W.Write.contents c.answer_from.new.output) c.answer_from.result) c.in-Ok.ensures.source
                 (e.2 understood b own short whole),

@@ -11,7 +11,7 @@ use Rattle.dl_dialogue.proofs.answers.Answers.answer.Goals as goal
 pub returns-in-Ok-clause-answers : goal.returns-in-Ok-clause-answers
 returns-in-Ok-clause-answers g c = λ first m start before stays determines stands.
     rw c.written.ensures (answers_one m before c.args.asked start (g.W.Write.contents c.args.output.now)
-    (g.W.Write.contents c.print_location.new.output) c.args.printer.now c.args.self.now stands (TellFails (g.T.Tell.fails_with first) (g.M.Memory.refuses c.args.memory.now))
+    (g.W.Write.contents c.print_location.new.output) c.args.printer.now c.args.self.now stands (TellFails (g.T.Tell.fails_with first) (g.T.Tell.asks first) (g.M.Memory.refuses c.args.memory.now))
     (option_map location_seen c.in-Ok.location) c.is_answered.result c.print_location.result c.print_location.new.printer _
     (c.in-Ok.ensures.told m stands.base (determined stays determines))
     (c.is_answered.ensures ∙ ap (is_answered c.args.asked) (c.is_some.ensures
@@ -20,7 +20,7 @@ returns-in-Ok-clause-answers g c = λ first m start before stays determines stan
 pub returns-in-Err-clause-answers : goal.returns-in-Err-clause-answers
 returns-in-Err-clause-answers g c = λ first m start before stays determines stands.
     rw c.stopped.ensures (stops_before m before c.args.asked start (g.W.Write.contents c.args.output.now)
-    (g.W.Write.contents c.flush.new.output) c.args.printer.now c.args.self.now stands (TellFails (g.T.Tell.fails_with first) (g.M.Memory.refuses c.args.memory.now))
+    (g.W.Write.contents c.flush.new.output) c.args.printer.now c.args.self.now stands (TellFails (g.T.Tell.fails_with first) (g.T.Tell.asks first) (g.M.Memory.refuses c.args.memory.now))
     c.in-Err.fault c.flush.new.self c.flush.result _ (tell_fails stays (g.M.Memory.refuses c.args.memory.now) c.in-Err.fault c.in-Err.ensures.fails)
     c.flush.ensures.printed
     c.flush.ensures.empty)

@@ -24,6 +24,6 @@ returns-in_err-answer_last-clause-answers g c = λ first m hex start done stays 
     let p = err_from_is_err_and c.from_residual.result c.from_residual.ensures.1 in
     let all = c.end-asked.ensures.asked hex done before talks.speaks.line in
     rw (p.1, p.2) (subst (λ a. StopsBy m
-    (TellFails (g.T.Tell.fails_with first) (g.M.Memory.refuses c.args.memory.now)) start
+    (TellFails (g.T.Tell.fails_with first) (g.T.Tell.asks first) (g.M.Memory.refuses c.args.memory.now)) start
     (g.W.Write.contents c.answer_last.new.output) a c.in_err-answer_last.field-0.0) all
     (c.in_err-answer_last.ensures.answers first m start before stays determines talks.speaks.answers))

@@ -22,7 +22,7 @@ returns-in_err-take_byte-clause-answers g c = λ first m hex start done stays de
     let p = err_from_is_err_and c.from_residual.result c.from_residual.ensures.1 in
     let i = c.loop-byte.byte-index in
     let piece = c.args.piece.now in
-    rw (p.1, p.2) (stopped_within m hex (TellFails (g.T.Tell.fails_with first) (g.M.Memory.refuses c.args.memory.now)) start
+    rw (p.1, p.2) (stopped_within m hex (TellFails (g.T.Tell.fails_with first) (g.T.Tell.asks first) (g.M.Memory.refuses c.args.memory.now)) start
     (g.W.Write.contents c.take_byte.new.output) done piece i (get_or piece i 0) _ c.loop-byte-test.true refl
     (c.in_err-take_byte.ensures.answers first m hex start (done ++ take i piece) (stays_on stays c.loop-byte.invariant.0)
     determines (c.loop-byte.invariant.1 first m hex start done stays determines talks)))
@@ -44,7 +44,7 @@ returns-clause-stays g c = c.loop-byte.invariant.0
 
 pub returns-clause-answers : goal.returns-clause-answers
 returns-clause-answers g c = λ first m hex start done stays determines talks.
-    piece_spoken m hex (TellFails (g.T.Tell.fails_with first) (g.M.Memory.refuses c.args.memory.now)) start (g.W.Write.contents c.loop-byte.output)
+    piece_spoken m hex (TellFails (g.T.Tell.fails_with first) (g.T.Tell.asks first) (g.M.Memory.refuses c.args.memory.now)) start (g.W.Write.contents c.loop-byte.output)
     (g.W.Write.contents c.flush.new.output) done c.args.piece.now c.loop-byte.byte-index c.loop-byte.printer c.flush.new.printer c.loop-byte.self
     c.flush.result c.loop-byte-test.false (c.loop-byte.invariant.1 first m hex start done stays determines talks)
     (λ asked stands. c.flush.ensures.flushed m start asked stands)

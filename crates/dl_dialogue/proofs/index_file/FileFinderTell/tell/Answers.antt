@@ -7,6 +7,7 @@ use Rattle.dl_index_file.specs.Finder.{index_of}
 use Rattle.dl_index_file.specs.Opening.{source_of}
 use Rattle.dl_index_file.specs.Reading.{ReadFails}
 use Rattle.dl_making.specs.Telling.{location_told}
+use Rattle.dl_dialogue.specs.Asking.{AsksForPath}
 use Rattle.dl_dialogue.specs.Faults.{FileFails}
 use Rattle.dl_addr.specs.Locations.{location_seen}
 use Rattle.dl_dialogue.proofs.StayLemmas.{stays_by}
@@ -19,7 +20,8 @@ returns-in_err-found-clause-stays g c =
     stays_by
     (λ i address told. ForBytes (g.S.ReadAt.all_bytes (source_of i)) (λ b.
     IsIndex b → told ≡ option_map location_told (find_in b address)))
-    (λ i error. ReadFails (g.S.ReadAt.all_bytes (source_of i)) (g.S.ReadAt.fails_with (source_of i)) error) index_of _ _
+    (λ i error. ReadFails (g.S.ReadAt.all_bytes (source_of i)) (g.S.ReadAt.fails_with (source_of i)) error)
+    (λ i n. AsksForPath (g.S.ReadAt.all_bytes (source_of i)) n) index_of _ _
     c.in_err-found.ensures.index
 
 pub returns-clause-stays : goal.returns-clause-stays
@@ -27,7 +29,8 @@ returns-clause-stays g c =
     stays_by
     (λ i address told. ForBytes (g.S.ReadAt.all_bytes (source_of i)) (λ b.
     IsIndex b → told ≡ option_map location_told (find_in b address)))
-    (λ i error. ReadFails (g.S.ReadAt.all_bytes (source_of i)) (g.S.ReadAt.fails_with (source_of i)) error) index_of _ _
+    (λ i error. ReadFails (g.S.ReadAt.all_bytes (source_of i)) (g.S.ReadAt.fails_with (source_of i)) error)
+    (λ i n. AsksForPath (g.S.ReadAt.all_bytes (source_of i)) n) index_of _ _
     c.in_ok-found.ensures.index
 
 pub returns-clause-tells : goal.returns-clause-tells
@@ -44,7 +47,7 @@ pub returns-clause-fails : goal.returns-clause-fails
 returns-clause-fails g c =
     let known = g.S.ReadAt.all_bytes in
     let same = c.index.ensures ∙ c.in_ok-found.ensures.index in
-    subst (λ i. IfErr c.located.result (FileFails (known (source_of i)) (g.S.ReadAt.fails_with (source_of i))
+    subst (λ i. IfErr c.located.result (FileFails (known (source_of i)) (g.S.ReadAt.fails_with (source_of i)) (AsksForPath (known (source_of i)))
     (g.M.Memory.refuses c.args.memory.now))) same
     (c.located.ensures.fails (λ b is below.
     (c.in_ok-found.ensures.finds b (ap (λ i. known (source_of i)) (sym same) ∙ is) below).lie))
