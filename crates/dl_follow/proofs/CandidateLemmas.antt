@@ -2,14 +2,11 @@
 use Rattle.std.proofs.Common.{◌≡◌, ◌++◌, ◌∷◌, [], ℕ, List, Option, Some, None, refl, sym, ap, ◌∙◌, ◌<◌, length, map, drop}
 use Rattle.std.specs.List.{All}
 use Rattle.std.specs.declared.io.Error.{Error}
-use Rattle.std.proofs.Common.{◌+◌, ◌≤◌, Bor, MatchOption, add-one, drop-cons, get_or}
-use Rattle.std.specs.Prelude.{option_map}
+use Rattle.std.proofs.Common.{◌+◌, ◌≤◌, Bor, add-one, drop-cons, get_or}
 use Rattle.std.proofs.Math.ListN.{drop_of_length-le}
 use Rattle.std.proofs.lemmas.List.{append_assoc}
 use Rattle.std.proofs.lemmas.List.Elements.{All-append, All-cons, All-nil}
 use Rattle.dl_follow.specs.Candidates.{Candidate, IsFirst, IsTaken, PassedOver}
-use Rattle.dl_follow.specs.Taken.{path_taken}
-use Rattle.dl_follow.specs.declared.search.Taken.{Taken}
 
 -- none of the first ones is taken, and of the others what is
 pub first_behind : (held : List ℕ → Option (List ℕ)) (fails : List ℕ → Error → Type 0) (own : List ℕ) (a b : List Candidate)
@@ -22,18 +19,6 @@ first_behind held fails own a b (Some path) none is = (
   is.2,
   ap (λ xs. a ++ xs) is.3 ∙ sym (append_assoc a is.0 (is.1 ∷ is.2)),
   All-append (PassedOver held fails own) a is.0 none is.4,
-  is.5,
-)
-
--- one of the first ones is taken
-pub first_before : (held : List ℕ → Option (List ℕ)) (fails : List ℕ → Error → Type 0) (own : List ℕ) (a b : List Candidate)
-    (path : List ℕ) → IsFirst held fails own a (Some path) → IsFirst held fails own (a ++ b) (Some path)
-first_before held fails own a b path is = (
-  is.0,
-  is.1,
-  is.2 ++ b,
-  ap (λ xs. xs ++ b) is.3 ∙ append_assoc is.0 (is.1 ∷ is.2) b,
-  is.4,
   is.5,
 )
 
@@ -84,12 +69,3 @@ from_dir of dirs i d h = rw (drop-cons dirs i d h, add-one) refl
 pub no_dir : (of : List ℕ → Candidate) (dirs : List (Bor (List ℕ))) (i : ℕ) → length dirs ≤ i
     → map of (map (λ dir. dir.now) (drop i dirs)) ≡ []
 no_dir of dirs i end = rw (drop_of_length-le dirs end) refl
-
--- one candidate alone
-pub first_only : {T : Type 0} (held : List ℕ → Option (List ℕ)) (fails : List ℕ → Error → Type 0) (own : List ℕ)
-    (c : Candidate) (o : Option (Taken T)) → MatchOption o (PassedOver held fails own c)
-    (λ taken. IsTaken held own c taken.path.items)
-    → IsFirst held fails own (c ∷ []) (option_map path_taken o)
-first_only held fails own c None none = All-cons (PassedOver held fails own) c [] none (All-nil (PassedOver held fails own))
-first_only held fails own c (Some taken) is =
-    first_here held fails own [] [] c taken.path.items (All-nil (PassedOver held fails own)) is

@@ -2,4 +2,7 @@
 pub mod Places
 pub mod Fits
 pub mod Candidates
-pub mod Taken
+pub mod Left
+pub mod Seen
+pub mod Clues
+pub mod Followed

@@ -1,9 +1,18 @@
 -- The paths under which the debug information of a file may stand: those of GDB's manual ("Debugging Information in Separate
 -- Files"), and those of a cache of debuginfod (debuginfod-find(1), "FILES").
-use Rattle.std.specs.Prelude.{ℕ, List, [], ◌++◌, take, drop, codes}
+use Rattle.std.specs.Prelude.{ℕ, zero, suc, ◌==◌, if◌then◌else◌, List, [], ◌++◌, length, take, drop, codes, slice_index}
 use Rattle.hex.specs.Hex.{encode_lower}
 use Rattle.dl_follow.specs.declared.place.Place.{Place}
 use Rattle.dl_follow.specs.declared.place.Place.TheVariants.{Below, Beside, Build, Cached, Hidden}
+
+-- how many of the first n bytes of a path there are up to the last slash among them
+abbrev pub upto_slash : ℕ → List ℕ → ℕ
+upto_slash zero path = 0
+upto_slash (suc n) path = if slice_index path n == 47 then suc n else upto_slash n path
+
+-- the folder that a path names: it up to the last slash
+abbrev pub folder_of : (path : List ℕ) → List ℕ
+folder_of path = take (upto_slash (length path) path) path
 
 -- two digits of each byte, in lower case, between two texts
 abbrev pub digits_between : (before bytes behind : List ℕ) → List ℕ

@@ -1,7 +1,7 @@
 //! A place where the debug information of a file may stand, and its path.
-ghost use Rattle.std.specs.Prelude.{◌≡◌, ◌<◌, ◌+◌, ◌*◌, ◌++◌, drop, length, take, MatchResult};
+ghost use Rattle.std.specs.Prelude.{◌≡◌, ◌<◌, ◌≤◌, ◌+◌, ◌*◌, ◌++◌, drop, length, take, MatchResult};
 ghost use Rattle.hex.specs.Hex.{encode_lower};
-ghost use Rattle.dl_follow.specs.Places.{build_path, cached_path, digits_between, parts_path, place_path};
+ghost use Rattle.dl_follow.specs.Places.{build_path, cached_path, digits_between, folder_of, parts_path, place_path, upto_slash};
 
 use arrayvec::ArrayVec;
 
@@ -45,6 +45,25 @@ pub enum Place<'a> {
         folder: &'a [u8],
         name: &'a [u8],
     },
+}
+
+/// How many bytes of a path there are up to its last slash; none where there is none.
+fn upto_slash(path: &[u8]) -> usize
+    ensures value { result ≡ upto_slash (length path.now) path.now }
+    ensures within { result ≤ length path.now }
+{
+    let mut len = path.len();
+    while 0 < len && path[len - 1] != b'/' {
+        len -= 1;
+    }
+    len
+}
+
+/// The folder that a path names: it up to the last slash, and empty where there is none.
+pub fn folder_of(path: &[u8]) -> &[u8]
+    ensures { result.now ≡ folder_of path.entry.now }
+{
+    &path[..upto_slash(path)]
 }
 
 /// The path of a place.

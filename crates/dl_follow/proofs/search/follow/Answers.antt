@@ -1,42 +1,37 @@
-use Rattle.std.proofs.Common.{◌++◌, Some}
-use Rattle.std.specs.Prelude.{option_map}
-use Rattle.dl_follow.specs.Candidates.{candidates_of_cache, candidates_of_id, candidates_of_link}
-use Rattle.dl_follow.specs.Taken.{folders_seen, path_taken, sought_seen}
-use Rattle.dl_follow.proofs.CandidateLemmas.{first_before, first_behind}
+use Rattle.std.proofs.Common.{sym, subst}
+use Rattle.dl_follow.specs.Candidates.{candidates}
+use Rattle.dl_follow.specs.Left.{candidate_seen, left}
+use Rattle.dl_follow.specs.Seen.{folders_seen, path_taken, sought_seen}
+use Rattle.dl_follow.proofs.CandidateLemmas.{Follows, follows_more, follows_none, follows_taken}
 use Rattle.dl_follow.proofs.search.follow.Goals as goal
 
-pub returns-in-Some-clause-first : goal.returns-in-Some-clause-first
-returns-in-Some-clause-first g c =
-    let folders = folders_seen c.args.folders.now in
-    let sought = sought_seen c.args.sought.now in
-    first_before (g.F.FileSource.held c.args.files.now) (g.F.FileSource.fails_with c.args.files.now)
-    c.args.sought.now.path.now (candidates_of_id folders sought.id)
-    (candidates_of_link folders sought.folder sought.link ++ candidates_of_cache folders.cache sought.id)
-    (path_taken c.in-Some.taken) c.in-Some.ensures.first
+pub loop-candidate-init : goal.loop-candidate-init
+loop-candidate-init g c =
+    subst (Follows (g.F.FileSource.held c.args.files.now) (g.F.FileSource.fails_with c.args.files.now) c.args.sought.now.path.now
+    (candidates (folders_seen c.args.folders.now) (sought_seen c.args.sought.now))) (sym c.new-candidates.ensures) (λ taken is. is)
 
-pub returns-in-Some-of_link-clause-first : goal.returns-in-Some-of_link-clause-first
-returns-in-Some-of_link-clause-first g c =
-    let folders = folders_seen c.args.folders.now in
-    let sought = sought_seen c.args.sought.now in
+pub returns-in-Some-file_at-clause-first : goal.returns-in-Some-file_at-clause-first
+returns-in-Some-file_at-clause-first g c =
     let held = g.F.FileSource.held c.args.files.now in
     let fails = g.F.FileSource.fails_with c.args.files.now in
-    let path = path_taken c.in-Some-of_link.taken in
-    let cached = candidates_of_cache folders.cache sought.id in
-    let linked = candidates_of_link folders sought.folder sought.link in
-    first_behind held fails c.args.sought.now.path.now (candidates_of_id folders sought.id) (linked ++ cached) (Some path)
-    c.in-None.ensures.first
-    (first_before held fails c.args.sought.now.path.now linked cached path c.in-Some-of_link.ensures.first)
+    let own = c.args.sought.now.path.now in
+    let all = candidates (folders_seen c.args.folders.now) (sought_seen c.args.sought.now) in
+    follows_taken held fails own all (candidate_seen c.in-Some.candidate) (left c.next.new.self)
+    (path_taken c.in-Some-file_at.taken)
+    (subst (Follows held fails own all) c.in-Some.ensures c.loop-candidate.invariant) c.in-Some-file_at.ensures.taken
 
-pub returns-in-None-of_link-clause-first : goal.returns-in-None-of_link-clause-first
-returns-in-None-of_link-clause-first g c =
-    let folders = folders_seen c.args.folders.now in
-    let sought = sought_seen c.args.sought.now in
+pub loop-candidate-preserved : goal.loop-candidate-preserved
+loop-candidate-preserved g c =
     let held = g.F.FileSource.held c.args.files.now in
     let fails = g.F.FileSource.fails_with c.args.files.now in
-    let taken = option_map path_taken c.of_cache.result in
-    let cached = candidates_of_cache folders.cache sought.id in
-    let linked = candidates_of_link folders sought.folder sought.link in
-    first_behind held fails c.args.sought.now.path.now (candidates_of_id folders sought.id) (linked ++ cached) taken
-    c.in-None.ensures.first
-    (first_behind held fails c.args.sought.now.path.now linked cached taken c.in-None-of_link.ensures.first
-    c.of_cache.ensures.first)
+    let own = c.args.sought.now.path.now in
+    let all = candidates (folders_seen c.args.folders.now) (sought_seen c.args.sought.now) in
+    follows_more held fails own all (candidate_seen c.in-Some.candidate) (left c.next.new.self)
+    (subst (Follows held fails own all) c.in-Some.ensures c.loop-candidate.invariant)
+    c.in_default-file_at.ensures.taken
+
+pub returns-clause-first : goal.returns-clause-first
+returns-clause-first g c =
+    follows_none (g.F.FileSource.held c.args.files.now) (g.F.FileSource.fails_with c.args.files.now) c.args.sought.now.path.now
+    (candidates (folders_seen c.args.folders.now) (sought_seen c.args.sought.now)) (left c.loop-candidate.candidates)
+    c.loop-candidate.invariant c.in_default.ensures
