@@ -1,6 +1,5 @@
 -- What the public contracts say rests on these, in reading order.
 pub mod Shown
-pub mod DebugFile
 pub mod Stops
 pub mod Blaming
 pub mod Files

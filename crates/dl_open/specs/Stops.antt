@@ -10,16 +10,14 @@ use Rattle.std.specs.declared.io.Error.{Error}
 use Rattle.dl_run.specs.declared.fault.RunFault.{RunFault}
 use Rattle.dl_run.specs.declared.fault.RunFault.TheVariants as fault
 use Rattle.dl_open.specs.declared.fault.FileFault.{FileFault}
-use Rattle.dl_open.specs.declared.fault.FileFault.TheVariants.{Open, Elf, Stripped, ObjectCopy, NotRelative, NoMemory}
+use Rattle.dl_open.specs.declared.fault.FileFault.TheVariants.{Open, Elf, ObjectCopy, NotRelative, NoMemory}
 use Rattle.dl_open.specs.declared.stop.FileStop.{FileStop}
 use Rattle.dl_open.specs.declared.stop.FileStop.TheVariants.{Run, File}
-use Rattle.dl_open.specs.DebugFile.{debug_file_text}
 
 -- the text of a fault; None where the system words it
 abbrev pub file_fault_text : FileFault → Option (List ℕ)
 file_fault_text (Open error) = None
 file_fault_text (Elf f) = fault_text f
-file_fault_text (Stripped file) = Some (codes "no section .debug_line (" ++ debug_file_text file ++ codes ")")
 file_fault_text NotRelative = Some (codes "its addresses are not relative to a section")
 file_fault_text ObjectCopy = Some (codes "an object file; its copy would lose its relocations")
 file_fault_text NoMemory = Some (codes "out of memory")
@@ -34,7 +32,6 @@ file_fault_status (Open error) = 3
 file_fault_status (Elf (Read error)) = 3
 file_fault_status (Elf Refused) = 3
 file_fault_status (Elf f) = 1
-file_fault_status (Stripped file) = 1
 file_fault_status ObjectCopy = 1
 file_fault_status NotRelative = 1
 file_fault_status NoMemory = 3

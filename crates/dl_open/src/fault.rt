@@ -2,7 +2,6 @@
 ghost use Rattle.std.specs.Prelude.{◌≡◌};
 ghost use Rattle.dl_open.specs.Stops.{IsTold, file_fault_status, file_fault_text};
 
-use crate::debug_file::DebugFile;
 use dl_elf::{ElfFault, SectionName};
 use dl_file::ReadFault;
 use std::{fmt, io};
@@ -14,8 +13,6 @@ pub enum FileFault {
     Open(io::Error),
     /// It has no line table that is read, or a read of it failed.
     Elf(ElfFault),
-    /// It has no line table, but a build ID, by which its debug information is looked for. Nothing here answers it.
-    Stripped(DebugFile),
     /// It is an object file, which isn't copied. Nothing here answers it.
     ObjectCopy,
     /// A section is named of it, but its addresses aren't relative to sections.
@@ -32,10 +29,7 @@ impl FileFault {
         match self {
             FileFault::Open(_) | FileFault::NoMemory => 3,
             FileFault::Elf(ElfFault::Read(_) | ElfFault::NoMemory) => 3,
-            FileFault::Elf(_)
-            | FileFault::Stripped(_)
-            | FileFault::ObjectCopy
-            | FileFault::NotRelative => 1,
+            FileFault::Elf(_) | FileFault::ObjectCopy | FileFault::NotRelative => 1,
         }
     }
 }
@@ -47,7 +41,6 @@ impl fmt::Display for FileFault {
         match self {
             FileFault::Open(error) => write!(f, "cannot open: {error}"),
             FileFault::Elf(fault) => write!(f, "{fault}"),
-            FileFault::Stripped(file) => write!(f, "no section .debug_line ({file})"),
             FileFault::ObjectCopy => {
                 write!(f, "an object file; its copy would lose its relocations")
             }

@@ -7,7 +7,6 @@
 
 mod build_id;
 mod code;
-mod debug_file;
 mod dialect;
 mod directories;
 mod fault;
@@ -22,7 +21,6 @@ mod strings;
 
 pub use build_id::build_id_of;
 pub use code::code_of;
-pub use debug_file::DebugFile;
 pub use dialect::{FileUnits, file_dialect};
 pub use directories::directories_of;
 pub use fault::FileFault;

@@ -116,6 +116,12 @@ looked_into (addr words) = unless_input words.file
 looked_into (index words) = if words.list then None else words.file
 looked_into other = None
 
+-- the path of the ELF file in whose place one with its debug information may be read
+abbrev pub followed_path : Request → Option Text
+followed_path (dump file big units line_str str keep_going) = file
+followed_path (check file big units keep_going) = file
+followed_path other = looked_into other
+
 -- the section of an object file that is looked into
 abbrev pub part_name_of : Request → Option Text
 part_name_of (find file big units address op section line_str str) = section

@@ -1,7 +1,6 @@
 -- What the public contracts say rests on these, in reading order.
 pub mod Stops
 pub mod Units
-pub mod DebugFile
 pub mod Damages
 pub mod Asked
 pub mod Whole

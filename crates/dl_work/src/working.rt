@@ -3,7 +3,7 @@ ghost use Rattle.std.specs.Prelude.{◌≡◌, ℕ, List, [], option_map};
 ghost use Rattle.std.specs.Io.KnownBytes.{Consumes};
 ghost use Rattle.dl_input.specs.Failing.{Blames};
 ghost use Rattle.dl_cmd.specs.Job.{request_made};
-ghost use Rattle.dl_work.specs.Asked.{file_of, looked_into, part_name_of, section_of};
+ghost use Rattle.dl_work.specs.Asked.{file_of, followed_path, looked_into, part_name_of, section_of};
 ghost use Rattle.dl_elf.specs.Source.{ForBytes};
 ghost use Rattle.dl_work.specs.Held.{section_seen};
 ghost use Rattle.dl_work.specs.Tables.{OnFile};
@@ -58,6 +58,16 @@ pub fn looked_into<'a>(job: &Job<'a>) -> Option<&'a str>
         Job::Addr(words) => file_of_words(words),
         Job::Index(words) => { if words.list { None } else { words.file } }
         Job::Dump { .. } | Job::Check { .. } | Job::Copy { .. } => None,
+    }
+}
+
+/// The path of the ELF file of a job in whose place one with its debug information may be read. `copy` has none.
+pub fn followed_path<'a>(job: &Job<'a>) -> Option<&'a str>
+    ensures { option_map (λ s. s.now) result ≡ followed_path (request_made job.now) }
+{
+    match job {
+        Job::Dump { file, .. } | Job::Check { file, .. } => *file,
+        Job::Find { .. } | Job::Addr(_) | Job::Index(_) | Job::Copy { .. } => looked_into(job),
     }
 }
 

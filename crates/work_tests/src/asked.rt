@@ -164,11 +164,11 @@ struct Left {
 }
 
 /// The status and the line of what came of addresses; how many bytes of the line's room are left.
-fn told(shelf: &Shelf<'_>, answer: Result<Found, Stop<'_>>, errors: &mut [u8]) -> (u8, usize) {
+fn told(answer: Result<Found, Stop<'_>>, errors: &mut [u8]) -> (u8, usize) {
     match answer {
         Ok(Found::All) => (0, errors.len()),
         Ok(Found::NotAll) => (1, errors.len()),
-        Err(stop) => told_of_stop(shelf, stop, errors),
+        Err(stop) => told_of_stop(stop, errors),
     }
 }
 
@@ -187,7 +187,7 @@ fn asked(
         Ok(located) => located.told(),
         Err(stop) => Err(stop),
     };
-    let (status, left) = told(shelf, answer, errors);
+    let (status, left) = told(answer, errors);
     Left {
         status,
         output: room.len(),

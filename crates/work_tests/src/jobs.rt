@@ -4,7 +4,7 @@ use crate::shelf::Shelf;
 use dl_cmd::{Job, UnitWords};
 use dl_memory::System;
 use dl_open::FileFault;
-use dl_work::{DamageLines, Stop, with_debug_file, work};
+use dl_work::{DamageLines, Stop, work};
 use std::alloc::Global;
 use std::process::Abort;
 use std::test::Fail;
@@ -66,8 +66,7 @@ fn job_of(command: Command) -> Job<'static> {
 }
 
 /// Writes the line that says why a job stopped; the status, and how many bytes of the line's room are left.
-pub fn told_of_stop(shelf: &Shelf<'_>, stop: Stop<'_>, errors: &mut [u8]) -> (u8, usize) {
-    let stop = with_debug_file(shelf, stop);
+pub fn told_of_stop(stop: Stop<'_>, errors: &mut [u8]) -> (u8, usize) {
     let mut room = errors;
     match stop.write_line(&mut room) {
         Ok(()) => (stop.status(), room.len()),
@@ -97,7 +96,7 @@ pub fn told(
         &mut damages,
     ) {
         Ok(_) => (0, errors.len()),
-        Err(stop) => told_of_stop(shelf, stop, errors),
+        Err(stop) => told_of_stop(stop, errors),
     };
     (status, room.len(), left)
 }
@@ -114,8 +113,8 @@ const NONE_DAMAGED: &[u8] = b"units 2 skipped 0 sequences 2 rows 6 damaged 0\n";
 
 const BROKEN: &str = "dwline: elf: cannot read: broken pipe\n";
 
-const INSTALLED: &str = "dwline: elf: no section .debug_line (its debug information is in \
-                         /usr/lib/debug/.build-id/ab/cdef.debug)\n";
+const NO_LINES: &str = "dwline: elf: no section .debug_line (its debug information may be in \
+                        .build-id/ab/cdef.debug)\n";
 
 /// A file, which of its bytes can't be read, a command, and its status and what it writes.
 type Case = (
@@ -165,7 +164,7 @@ const CASES: &[Case] = &[
     (TWO_UNITS, IN_STRINGS, Command::Find, 3, b"", BROKEN),
     (TWO_UNITS, IN_STRINGS, Command::Copy, 0, UNITS, ""),
     (WITH_STRINGS, FIRST, Command::Check, 3, b"", BROKEN),
-    (STRIPPED, NOWHERE, Command::Check, 1, b"", INSTALLED),
+    (STRIPPED, NOWHERE, Command::Check, 1, b"", NO_LINES),
 ];
 
 /// Asserts what the job of a case comes to, which has this number.

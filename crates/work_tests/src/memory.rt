@@ -98,7 +98,7 @@ fn located_without(
     let mut input: &[u8] = b"0x401000\n";
     let (status, left) = match locate(&System::new(alloc), words, &SHELF, &mut input, &mut room) {
         Ok(_) => (0, errors.len()),
-        Err(stop) => told_of_stop(&SHELF, stop, errors),
+        Err(stop) => told_of_stop(stop, errors),
     };
     Ok((status, room.len(), left))
 }
