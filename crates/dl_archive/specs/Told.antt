@@ -12,6 +12,10 @@ use Rattle.dl_archive.specs.declared.members.Members.{Members}
 abbrev pub archive_of : {S : Type 0} → Members S → S
 archive_of m = m.source.now
 
+-- where the next entry is looked for
+abbrev pub next_of : {S : Type 0} → Members S → ℕ
+next_of m = m.next
+
 -- where a member stands
 abbrev pub seen : Member → MemberData
 seen m = record { header = m.header; name = m.name; place = m.place }

@@ -28,7 +28,7 @@ impl<'a, S: ReadAt> Members<'a, S> {
     ghost use Rattle.std.specs.Prelude.{◌≡◌, ◌<◌, ◌^◌, IfOk, IfErr, IfSome, MatchOption, None};
     ghost use Rattle.dl_elf.specs.Source.{ForBytes};
     ghost use Rattle.dl_archive.specs.Archive.{kind_of};
-    ghost use Rattle.dl_archive.specs.Told.{AreAll, Ended, EntryTold, FailsAsRead, MemberTold, archive_of};
+    ghost use Rattle.dl_archive.specs.Told.{AreAll, Ended, EntryTold, FailsAsRead, MemberTold, archive_of, next_of};
 
     /// All members of an archive; None where the file is none.
     pub fn of(source: &'a S) -> io::Result<Option<Members<'a, S>>>
@@ -83,11 +83,12 @@ impl<'a, S: ReadAt> Members<'a, S> {
     }
 
     /// The next member; None behind the last one. Where an entry is damaged nothing behind it is told, and the same fault is
-    /// answered again.
+    /// answered again. After each member it stands further on.
     pub fn next_member(&mut self) -> Result<Option<Member>, ArchiveFault>
         ensures source { archive_of self.new ≡ archive_of self.old }
         ensures told { ForBytes (S.all_bytes (archive_of self.old)) (λ f. MemberTold f
             self.old self.new result) }
+        ensures moves { IfOk result (λ member. IfSome member (λ _. (next_of self.old < next_of self.new) × (next_of self.new < 2 ^ 64))) }
         ensures fails { IfErr result (FailsAsRead (S.fails_with (archive_of self.old))) }
     {
         loop {

@@ -1,0 +1,3 @@
+-- Of contracts inside the crate, and of proofs; no public contract reaches these.
+pub mod PathLemmas
+pub mod TableLemmas

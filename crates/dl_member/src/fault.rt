@@ -1,0 +1,73 @@
+//! Why there is no file of a member.
+
+use dl_archive::ArchiveFault;
+use std::{fmt, io};
+
+/// Why a member isn't found, or its file isn't opened. Its Display is one line without a newline.
+#[derive(Debug, Drop)]
+pub enum MemberFault {
+    /// The file isn't an archive.
+    NotArchive,
+    /// The archive has no member of this name.
+    NoMember,
+    /// The archive is damaged before such a member, or a read of it failed.
+    Archive(ArchiveFault),
+    /// The file of the member can't be opened.
+    Open(io::Error),
+}
+
+impl MemberFault {
+    ghost use Rattle.std.specs.Prelude.{◌≡◌};
+    ghost use Rattle.dl_member.specs.Faults.{member_fault_status};
+
+    /// The program's status: 1 where the archive or the words are to blame, 3 for reads and opening.
+    pub fn status(&self) -> u8
+        ensures { result ≡ member_fault_status self.now }
+    {
+        match self {
+            MemberFault::NotArchive
+            | MemberFault::NoMember
+            | MemberFault::Archive(ArchiveFault::Damaged(_)) => 1,
+            MemberFault::Archive(ArchiveFault::Read(_)) | MemberFault::Open(_) => 3,
+        }
+    }
+}
+
+impl fmt::Display for MemberFault {
+    ghost use Rattle.dl_member.specs.Faults.{member_fault_text};
+
+    ghost output = { member_fault_text };
+
+    fn fmt<W: fmt::Write>(&self, f: &mut fmt::Formatter<W>) -> fmt::Result {
+        match self {
+            MemberFault::NotArchive => write!(f, "not an archive"),
+            MemberFault::NoMember => write!(f, "no such member"),
+            MemberFault::Archive(ArchiveFault::Damaged(_)) => write!(f, "damaged archive"),
+            MemberFault::Archive(ArchiveFault::Read(error)) => write!(f, "cannot read: {error}"),
+            MemberFault::Open(error) => write!(f, "cannot open: {error}"),
+        }
+    }
+}
+
+impl From<io::Error> for MemberFault {
+    ghost use Rattle.std.specs.Prelude.{◌≡◌};
+    ghost use Rattle.dl_archive.specs.declared.fault.ArchiveFault.TheVariants as archive;
+    ghost use Rattle.dl_member.specs.declared.fault.MemberFault.TheVariants as member;
+
+    ghost from_gives = { λ error fault. fault ≡ member.Archive (archive.Read error) };
+
+    fn from(error: io::Error) -> MemberFault {
+        MemberFault::Archive(ArchiveFault::Read(error))
+    }
+}
+
+impl From<ArchiveFault> for MemberFault {
+    ghost use Rattle.std.specs.Prelude.{◌≡◌};
+    ghost use Rattle.dl_member.specs.declared.fault.MemberFault.TheVariants as member;
+
+    ghost from_gives = { λ error fault. fault ≡ member.Archive error };
+
+    fn from(fault: ArchiveFault) -> MemberFault {
+        MemberFault::Archive(fault)
+    }
+}
