@@ -1,0 +1,37 @@
+//! What is done with the file of a member.
+ghost use Rattle.std.specs.Prelude.{◌≡◌, option_map};
+ghost use Rattle.dl_cmd.specs.Job.{request_made};
+ghost use Rattle.dl_member.specs.Walking.{over};
+
+use dl_cmd::Job;
+
+/// The same job of the file at this path; None where the job isn't `dump` or `check`, of a file.
+pub(crate) fn job_over<'a>(job: &Job<'a>, path: &'a str) -> Option<Job<'a>>
+    ensures { option_map request_made result ≡ over (request_made job.now) path.now }
+{
+    match job {
+        Job::Dump {
+            units,
+            keep_going,
+            ..
+        } => Some(Job::Dump {
+            file: Some(path),
+            big: false,
+            units: *units,
+            line_str: None,
+            strings: None,
+            keep_going: *keep_going,
+        }),
+        Job::Check {
+            units,
+            keep_going,
+            ..
+        } => Some(Job::Check {
+            file: Some(path),
+            big: false,
+            units: *units,
+            keep_going: *keep_going,
+        }),
+        Job::Find { .. } | Job::Copy { .. } | Job::Addr(_) | Job::Index(_) => None,
+    }
+}

@@ -1,0 +1,152 @@
+//! What comes of one member.
+ghost use Rattle.std.specs.Prelude.{◌≡◌, IfOk, IfErr, OnErr, []};
+ghost use Rattle.dl_archive.specs.Told.{seen};
+ghost use Rattle.dl_cmd.specs.Job.{request_made};
+ghost use Rattle.dl_elf.specs.Source.{ForBytes};
+ghost use Rattle.dl_member.specs.Files.{bytes_of_file, fails_of_file};
+ghost use Rattle.dl_open.specs.declared.fault.FileFault.TheVariants.{Open};
+ghost use Rattle.dl_work.specs.declared.stop.Stop.TheVariants.{File};
+ghost use Rattle.dl_member.specs.declared.step.Step.TheVariants.{Done};
+ghost use Rattle.dl_member.specs.Walking.{AtMember, AtNamed, IsStep, IsTold, answer_status};
+
+use crate::file::file_of_member;
+use crate::job::job_over;
+use crate::line_table::has_no_table;
+use crate::path::path_of_member;
+use crate::sink::MemberSink;
+use crate::source::WithMember;
+use dl_archive::{Member, NAME_LIMIT};
+use dl_cmd::Job;
+use dl_elf::ReadAt;
+use dl_making::SetMemory;
+use dl_open::{FileFault, FileSource, Shown};
+use dl_output::Destination;
+use dl_run::Survey;
+use dl_work::{Stop, work};
+use std::io;
+use std::io::{ErrorKind, Write};
+
+/// What comes of a member.
+#[derive(Clone, Copy)]
+pub enum Step {
+    /// It has no line table.
+    PassedOver,
+    /// The work over it ended with this status.
+    Done(u8),
+    /// The line before it can't be written.
+    Unwritten,
+}
+
+/// The status of what was answered, of which a stop is told.
+fn told_status<T: MemberSink>(answer: Result<Survey, Stop<'_>>, sink: &mut T) -> u8
+    ensures status { result ≡ answer_status answer.entry }
+    ensures told { IsTold T.tells sink.old sink.new answer.entry }
+{
+    match answer {
+        Ok(survey) => { if survey.damaged.is_some() { 1 } else { 0 } }
+        Err(stop) => {
+            sink.stopped(&stop);
+            stop.status()
+        }
+    }
+}
+
+/// What comes of a file under a path.
+fn over_file<M: SetMemory, F: FileSource, S: ReadAt, W: Destination, T: MemberSink>(
+    memory: &M,
+    job: &Job<'_>,
+    files: &F,
+    path: &str,
+    file: &S,
+    output: &mut W,
+    sink: &mut T,
+) -> Step
+    ensures step { ((t : T) → T.hears t t []) → IsStep (M.refuses memory.now) (F.held files.now) (F.fails_with files.now)
+        (request_made job.now) T.hears T.tells path.now (S.all_bytes file.now) (S.fails_with file.now) (W.contents output.old)
+        (W.contents output.new) sink.old sink.new result }
+{
+    if has_no_table(file) {
+        return Step::PassedOver;
+    }
+    if writeln!(output, "{}:", Shown(path)).is_err() {
+        return Step::Unwritten;
+    }
+    let files = WithMember { path, file, files };
+    let mut input: &[u8] = &[];
+    let answer = work(
+        memory,
+        job_over(job, path),
+        &files,
+        &mut input,
+        output,
+        sink,
+    );
+    Step::Done(told_status(answer, sink))
+}
+
+/// Tells that the file at a path can't be opened.
+fn tell_unopened<T: MemberSink>(path: &str, error: io::Error, sink: &mut T) -> Step
+    ensures step { result ≡ Done 3 }
+    ensures told { T.tells sink.old sink.new (File path.entry (Open error)) }
+{
+    sink.stopped(&Stop::File {
+        path,
+        fault: FileFault::Open(error),
+    });
+    Step::Done(3)
+}
+
+/// What comes of a member of this name.
+fn at_named<M: SetMemory, F: FileSource, S: ReadAt, W: Destination, T: MemberSink>(
+    memory: &M,
+    job: &Job<'_>,
+    files: &F,
+    path: &str,
+    archive: &S,
+    member: &Member,
+    name: &[u8],
+    output: &mut W,
+    sink: &mut T,
+) -> Step
+    ensures step { ((t : T) → T.hears t t []) → ForBytes (S.all_bytes archive.now) (λ f. AtNamed (M.refuses memory.now) (F.held files.now)
+        (F.fails_with files.now) (S.fails_with archive.now) (bytes_of_file S.all_bytes F.File.all_bytes) (fails_of_file S.fails_with F.File.fails_with) (request_made job.now) T.hears T.tells f path.now name.now
+        (seen member.now).place (W.contents output.old) (W.contents output.new) sink.old sink.new result) }
+{
+    let Ok(own) = path_of_member(path, name) else {
+        return tell_unopened(path, io::Error::from(ErrorKind::InvalidFilename), sink);
+    };
+    match file_of_member(files, path, archive, member, name) {
+        Ok(file) => over_file(memory, job, files, own.as_str(), &file, output, sink),
+        Err(error) => tell_unopened(own.as_str(), error, sink),
+    }
+}
+
+/// What comes of a member, with which is done what a job asks for, which is `dump` or `check`.
+///
+/// One that isn't an ELF file with a line table is passed over. Before any other a line with its path is written: that of the archive,
+/// and its name in parentheses. Where its file can't be opened, or the work over it stops, `sink` is told. The error is that of reading
+/// its name.
+pub fn at_member<M: SetMemory, F: FileSource, S: ReadAt, W: Destination, T: MemberSink>(
+    memory: &M,
+    job: &Job<'_>,
+    files: &F,
+    path: &str,
+    archive: &S,
+    member: &Member,
+    output: &mut W,
+    sink: &mut T,
+) -> io::Result<Step>
+    ensures step { ((t : T) → T.hears t t []) → ForBytes (S.all_bytes archive.now) (λ f. IfOk result (AtMember (M.refuses memory.now)
+        (F.held files.now) (F.fails_with files.now) (S.fails_with archive.now) (bytes_of_file S.all_bytes F.File.all_bytes) (fails_of_file S.fails_with F.File.fails_with) (request_made job.now) T.hears T.tells f path.now
+        (seen member.now) (W.contents output.old) (W.contents output.new) sink.old sink.new)) }
+    ensures fails { IfErr result (S.fails_with archive.now) }
+    ensures output { OnErr result (W.contents output.new ≡ W.contents output.old) }
+    ensures sink { OnErr result (sink.new ≡ sink.old) }
+{
+    let mut buffer = [0; NAME_LIMIT];
+    let len = member.read_name(archive, &mut buffer)?;
+    let name = &buffer[..len];
+    Ok(at_named(
+        memory, job, files, path, archive, member, name, output, sink,
+    ))
+}
