@@ -15,7 +15,7 @@ header = $(DESTDIR)$(PREFIX)/include/boxantrel.h
 package = $(DESTDIR)$(PREFIX)/lib/pkgconfig/boxantrel.pc
 
 # The scripts that try what is built.
-tries = compare-with-dwline try-damaged try-dwline try-files try-growth try-index try-sections try-truncated try-documents try-install \
+tries = compare-with-dwline try-archives try-damaged try-debug-files try-dwline try-files try-growth try-index try-sections try-truncated try-documents try-install \
 	try-library
 
 version = $(shell sed -n 's/^.* VERSION: &str = "\(.*\)";$$/\1/p' crates/dl_options/src/command_line.rt)

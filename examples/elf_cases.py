@@ -169,15 +169,22 @@ def notes():
     type, and both."""
     note = build_id(b"\4\0\0\0\5\0\0\0\3\0\0\0GNU\0", b"\xab\x01\x2c\xff\x00\0\0\0")
     other_first = build_id(b"\3\0\0\0\1\0\0\0\3\0\0\0go\0\0\7\0\0\0", b"\4\0\0\0\2\0\0\0\3\0\0\0GNU\0", b"\xab\x10")
-    where = "no section .debug_line (its debug information may be in /usr/lib/debug/.build-id/%s.debug, which isn't there)"
+    where = "no section .debug_line (its debug information may be in .build-id/%s.debug"
     for name, section, fault in [
-        ("a note", note, where % "ab/012cff00"),
-        ("another note first", other_first, where % "ab/10"),
+        ("a note", note, "ab/012cff00"),
+        ("another note first", other_first, "ab/10"),
         ("a note past its section", build_id(b"\4\0\0\0\5\0\0\0\3\0\0\0GNU\0\xab\x01\x2c"), NO_LINE),
         ("another type", build_id(b"\4\0\0\0\4\0\0\0\1\0\0\0GNU\0\xab\x01\x2c\x00"), NO_LINE),
         ("no note", build_id(b""), NO_LINE),
     ]:
-        yield from all_stop(name, image(LITTLE_64, [TEXT, section]), fault)
+        file = image(LITTLE_64, [TEXT, section])
+        if fault is NO_LINE:
+            yield from all_stop(name, file, fault)
+            continue
+        # The others look for it below a folder, where it isn't.
+        tried = f"; tried /usr/lib/debug/.build-id/{fault}.debug"
+        for words in COMMANDS:
+            yield stops(name, file, where % fault + ("" if words[0] == "copy" else tried) + ")", words)
     file = image(LITTLE_64, [TEXT, note])
     for field in ("offset", "size"):
         far = changed(file, place_of(file, 2, field) + 7, 128)

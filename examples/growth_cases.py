@@ -47,6 +47,14 @@ def sections():
     yield over_input("a section of version 4", 1500, ["copy", "--to-5", "--older", "8"], older_units)
 
 
+def many_files():
+    """Members of an archive, and files of a list, which are the same one."""
+    small = elf(units(8))
+    for command in ("dump", "check"):
+        yield over_file("members", 200, [command, "elf"], lambda n: {"elf": inputs.archive(small["elf"], n)})
+    yield over_file("a list", 200, ["check", "--files-from", "list"], lambda n: {**small, "list": b"elf\n" * n})
+
+
 def files():
     """Each command over an ELF file, and some over one whose line section is compressed."""
     for words, status in [
@@ -139,4 +147,4 @@ def parts_of_files():
 
 
 CASES = [case for group in (
-    sections, files, indices, addresses, lines_of_the_input, sequences, headers, damage, parts_of_files) for case in group()]
+    sections, files, many_files, indices, addresses, lines_of_the_input, sequences, headers, damage, parts_of_files) for case in group()]

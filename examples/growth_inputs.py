@@ -269,3 +269,12 @@ def wide_units(count):
 def long_directory(length):
     """A unit of version 4 whose directory in .debug_info has a name of this length."""
     return with_info(1, 1, STRING, lambda part: b"/" + b"d" * length + b"\0", abbreviation(1, STRING) + b"\0")
+
+
+def archive(member, count):
+    """An archive, in GNU's form, with a member of these bytes for each number. The header of an entry: ar(5)."""
+    entries = []
+    for number in range(count):
+        name = b"part_%d/" % number
+        entries.append(b"%-16s%-12d%-6d%-6d%-8d%-10d`\n" % (name, 0, 0, 0, 644, len(member)) + member + b"\n" * (len(member) % 2))
+    return b"!<arch>\n" + b"".join(entries)

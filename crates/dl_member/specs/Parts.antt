@@ -1,4 +1,4 @@
--- Of contracts inside the crate, and of proofs; no public contract reaches these. The parts of a text.
+-- The parts of a text, for contracts. No promise rests on this file.
 use Rattle.std.specs.Prelude.{◌≢◌, ◌≡◌, ◌<◌, ℕ, List, ◌∷◌, ◌++◌, length, slice_index}
 
 -- what stands before the last parenthesis that opens in a text, and behind that

@@ -1,6 +1,6 @@
 //! The files of indices: one is written under its name once it is whole, and one is listed.
 
-use crate::{Ending, SystemFiles};
+use crate::ending::Ending;
 use dl_cmd::IndexWords;
 use dl_index::open;
 use dl_listing::list;
@@ -16,17 +16,20 @@ use std::{fs, io};
 const OUTPUT: &str = "-";
 
 /// Writes the index that the words ask for.
-pub fn write_index<'a>(rt: &HostRuntime, words: &IndexWords<'a>) -> Result<Survey, Ending<'a>> {
-    let files = SystemFiles { rt };
+pub fn write_index<'a, F: FileSource>(
+    rt: &HostRuntime,
+    files: &F,
+    words: &IndexWords<'a>,
+) -> Result<Survey, Ending<'a>> {
     match words.output {
         Some(path) if path == OUTPUT => Ok(index(
             &System::new(rt.alloc()),
             words,
-            &files,
+            files,
             &mut rt.stdout(),
         )?),
-        Some(path) if is_special(rt, path) => write_into(rt, words, path),
-        Some(path) => write_beside(rt, words, path),
+        Some(path) if is_special(rt, path) => write_into(rt, files, words, path),
+        Some(path) => write_beside(rt, files, words, path),
         None => Err(Ending::Stop(Stop::NotUnderstood)),
     }
 }
@@ -40,26 +43,23 @@ fn is_special(rt: &HostRuntime, path: &str) -> bool {
 }
 
 /// Writes the index into what stands at a path.
-fn write_into<'a>(
+fn write_into<'a, F: FileSource>(
     rt: &HostRuntime,
+    files: &F,
     words: &IndexWords<'a>,
     path: &'a str,
 ) -> Result<Survey, Ending<'a>> {
     match OpenOptions::new().write(true).open(rt, path) {
-        Ok(mut file) => Ok(index(
-            &System::new(rt.alloc()),
-            words,
-            &SystemFiles { rt },
-            &mut file,
-        )?),
+        Ok(mut file) => Ok(index(&System::new(rt.alloc()), words, files, &mut file)?),
         Err(error) => Err(Ending::NotWritten { path, error }),
     }
 }
 
 /// Writes the index under another name beside this one, and gives it this name once it is whole: no half index stands
 /// under it, and what stood there before stays until then.
-fn write_beside<'a>(
+fn write_beside<'a, F: FileSource>(
     rt: &HostRuntime,
+    files: &F,
     words: &IndexWords<'a>,
     path: &'a str,
 ) -> Result<Survey, Ending<'a>> {
@@ -68,12 +68,7 @@ fn write_beside<'a>(
         Ok(file) => file,
         Err(error) => return Err(Ending::NotWritten { path, error }),
     };
-    match index(
-        &System::new(rt.alloc()),
-        words,
-        &SystemFiles { rt },
-        &mut file,
-    ) {
+    match index(&System::new(rt.alloc()), words, files, &mut file) {
         Ok(survey) => match fs::rename(rt, part.as_str(), path) {
             Ok(()) => Ok(survey),
             Err(error) => Err(Ending::NotWritten { path, error }),
@@ -94,11 +89,15 @@ fn name_beside(alloc: Global, path: &str) -> Result<String, AllocError> {
 }
 
 /// Lists the index that the words name.
-pub fn list_index<'a>(rt: &HostRuntime, words: &IndexWords<'a>) -> Result<u8, Ending<'a>> {
+pub fn list_index<'a, F: FileSource>(
+    rt: &HostRuntime,
+    files: &F,
+    words: &IndexWords<'a>,
+) -> Result<u8, Ending<'a>> {
     let Some(path) = words.file else {
         return Err(Ending::Stop(Stop::NotUnderstood));
     };
-    let read = SystemFiles { rt }.read_file(&System::new(rt.alloc()), path, SECTION_LIMIT);
+    let read = files.read_file(&System::new(rt.alloc()), path, SECTION_LIMIT);
     let bytes = read.map_err(|fault| Ending::Stop(Stop::Run(fault)))?;
     match open(bytes.as_slice()) {
         Ok(index) => match list(&index, &mut rt.stdout()) {

@@ -1,0 +1,111 @@
+//! What the program does for a job, over the system's files and streams.
+
+use crate::ending::Ending;
+use crate::indices::{list_index, write_index};
+use dl_addr::Found;
+use dl_cmd::{AddrWords, IndexWords, Job};
+use dl_memory::System;
+use dl_open::{FileSource, FileUnits, units_not_read};
+use dl_run::RunFault;
+use dl_work::{DamageLines, Stop, file_units, locate, looked_into, work};
+
+/// Says of the file at this path which units aren't read, where there is one.
+fn tell_not_read<F: FileSource>(rt: &HostRuntime, files: &F, path: Option<&str>, read: FileUnits) {
+    let Some(path) = path else {
+        return;
+    };
+    if let Some(units) = units_not_read(&System::new(rt.alloc()), files, path, read) {
+        let _ = units.write_line(&mut rt.stderr());
+    }
+}
+
+/// Does what a job says, of these files, and answers the program's status: 1 too where a unit is damaged after which a command goes on. Where
+/// an address has no answer, it is said which units of the file aren't read.
+pub fn run_job<'a, F: FileSource>(
+    rt: &HostRuntime,
+    files: &F,
+    job: Job<'a>,
+) -> Result<u8, Ending<'a>> {
+    let path = looked_into(&job);
+    let read = file_units(&job);
+    match &job {
+        Job::Addr(words) => run_addr(rt, files, words, path, read),
+        Job::Index(words) => run_index(rt, files, words, path, read),
+        Job::Dump { .. } | Job::Check { .. } | Job::Find { .. } | Job::Copy { .. } => {
+            run_work(rt, files, job, path, read)
+        }
+    }
+}
+
+/// Answers the addresses of `addr`.
+fn run_addr<'a, F: FileSource>(
+    rt: &HostRuntime,
+    files: &F,
+    words: &AddrWords<'a>,
+    path: Option<&str>,
+    read: FileUnits,
+) -> Result<u8, Ending<'a>> {
+    let located = locate(
+        &System::new(rt.alloc()),
+        words,
+        files,
+        &mut rt.stdin(),
+        &mut rt.stdout(),
+    )?;
+    if located.found == Found::NotAll {
+        tell_not_read(rt, files, path, read);
+    }
+    match located.told()? {
+        Found::All => Ok(0),
+        Found::NotAll => Ok(1),
+    }
+}
+
+/// Makes an index, or lists one.
+fn run_index<'a, F: FileSource>(
+    rt: &HostRuntime,
+    files: &F,
+    words: &IndexWords<'a>,
+    path: Option<&str>,
+    read: FileUnits,
+) -> Result<u8, Ending<'a>> {
+    if words.list {
+        return list_index(rt, files, words);
+    }
+    let survey = write_index(rt, files, words)?;
+    if survey.summary.skipped > 0 {
+        tell_not_read(rt, files, path, read);
+    }
+    match survey.damaged {
+        Some(units) => Err(Ending::Stop(Stop::Damaged { units })),
+        None => Ok(0),
+    }
+}
+
+/// Does the work of the other commands.
+fn run_work<'a, F: FileSource>(
+    rt: &HostRuntime,
+    files: &F,
+    job: Job<'a>,
+    path: Option<&str>,
+    read: FileUnits,
+) -> Result<u8, Ending<'a>> {
+    let mut damages = DamageLines::new(rt.stderr());
+    let done = work(
+        &System::new(rt.alloc()),
+        Some(job),
+        files,
+        &mut rt.stdin(),
+        &mut rt.stdout(),
+        &mut damages,
+    );
+    match done {
+        Ok(survey) => Ok(if survey.damaged.is_some() { 1 } else { 0 }),
+        Err(stop) => {
+            if matches!(stop, Stop::Run(RunFault::NotFound)) {
+                tell_not_read(rt, files, path, read);
+            }
+            Err(Ending::Stop(stop))
+        }
+    }
+}
