@@ -1,18 +1,21 @@
 //! The call that makes the index of an ELF file.
 
-ghost use Rattle.std.specs.Prelude.{◌≡◌};
+ghost use Rattle.std.specs.Prelude.{◌≡◌, ℕ, [], List, Some};
 ghost use Rattle.dl_cmd.specs.Job.{index_words_made};
-ghost use Rattle.dl_building.specs.FileBuilding.{BuildsFile, IsFileBuilt, file_words};
+ghost use Rattle.dl_building.specs.FileBuilding.{BuildsFile, IsFileBuilt, IsIndexed, built_of, file_words};
+ghost use Rattle.dl_work.specs.Indexing.{IndexesFor};
 
 use crate::faults::tell_stop;
 use crate::one_file::OneFile;
 use crate::room::put;
 use dl_calls::{FaultRecord, Status};
 use dl_cmd::{IndexWords, UnitWords};
+use dl_held::{Held, Refusing};
 use dl_making::SetMemory;
-use dl_memory::Held;
-use dl_run::Survey;
+use dl_memory::NoMemory;
+use dl_run::{RunFault, Survey};
 use dl_work::{Stop, index};
+use std::marker::Brand;
 
 /// The index of a file.
 #[derive(Drop)]
@@ -52,14 +55,50 @@ fn index_of_file<M: SetMemory>(
     ensures { IsFileBuilt (M.refuses memory.now) file.now all keep_going result }
 {
     let words = words(all, keep_going);
+    let indexed = index_in_memory::<M, Brand>(memory, &words, file);
+    built_of(indexed.end, indexed.index)
+}
+
+/// What the program does, and what it writes.
+#[derive(Drop)]
+struct Indexed<'a> {
+    end: Result<Survey, Stop<'a>>,
+    index: Result<Vec<u8>, NoMemory>,
+}
+
+/// The program over a file, with its output held in memory.
+fn index_in_memory<'a, M: SetMemory, K: Refusing>(
+    memory: &M,
+    words: &IndexWords<'a>,
+    file: &[u8],
+) -> Indexed<'a>
+    requires { (n : ℕ) → M.refuses memory.now n → K.refuses n }
+    ensures { (v : List ℕ) × IndexesFor (M.refuses memory.now) (λ path. Some file.now) (λ path error. ⊥) (index_words_made words.now)
+        (Some []) (Some v) result.end × IsIndexed K.refuses v result.end result.index }
+{
     let files = OneFile { bytes: file };
-    let mut made = Held::new(memory);
-    match index(memory, &words, &files, &mut made) {
-        Ok(survey) => Ok(Built {
-            index: made.bytes,
-            survey,
-        }),
-        Err(stop) => Err(stop),
+    let mut held = Held::<'_, M, K>::new(memory);
+    let end = index(memory, words, &files, &mut held);
+    Indexed {
+        end,
+        index: held.whole(),
+    }
+}
+
+/// What came of it: the index, where the program ended well and its output is held.
+fn built_of<'a>(
+    end: Result<Survey, Stop<'a>>,
+    index: Result<Vec<u8>, NoMemory>,
+) -> Result<Built, Stop<'a>>
+    ensures { result ≡ built_of end.entry index }
+{
+    let survey = match end {
+        Ok(survey) => survey,
+        Err(stop) => return Err(stop),
+    };
+    match index {
+        Ok(index) => Ok(Built { index, survey }),
+        Err(NoMemory) => Err(Stop::Run(RunFault::NoMemory)),
     }
 }
 
