@@ -10,10 +10,6 @@ WasRefused refuses = (n : ℕ) × refuses n
 abbrev pub IsRefused : (refuses : ℕ → Type 0) (most : ℕ) → Type 0
 IsRefused refuses most = (n : ℕ) × (n ≤ most) × refuses n
 
--- some memory of a kind is refused
-abbrev pub MayRefuse : {M : Type 0} → (refuses : M → ℕ → Type 0) → Type 0
-MayRefuse {M} refuses = (memory : M) × WasRefused (refuses memory)
-
 -- The system refused memory for a list or a map of n items. An error of the standard library shows it: what stands on this
 -- definition doesn't see what it is.
 pub SystemRefuses : (n : ℕ) → Type 0

@@ -2,10 +2,8 @@
 //! only where it was refused: over a memory that refuses nothing no such call wants any.
 #![tactic(auto)]
 
-mod held;
 mod memory;
 mod system;
 
-pub use held::Held;
 pub use memory::{Memory, NoMemory};
 pub use system::System;
