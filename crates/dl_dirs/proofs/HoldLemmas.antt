@@ -1,20 +1,17 @@
 -- What is kept of directories, and of one entry more.
 use Rattle.std.proofs.Common.{◌≡◌, ◌⊎◌, inl, inr, ℕ, zero, suc, ◌+◌, ◌-◌, ◌<◌, ◌≤◌, Bool, true, false, cond, List, [], ◌∷◌, ◌++◌, length}
 use Rattle.std.proofs.Common.{take, drop, slice_get, Option, Some, None, refl, sym, ap, subst, ◌∙◌, arith, append_assoc}
-use Rattle.std.proofs.Common.{length-append, length-drop, length-take, eqb, Ordering}
+use Rattle.std.proofs.Common.{length-append, length-drop, length-take, eqb}
 use Rattle.std.specs.Prelude.{◌==◌, ◌&&◌, option_map, Result, Ok, Err, IfErr, OnOk}
-use Rattle.std.specs.BTreeMap.{Updates, get, is_at}
-use Rattle.std.specs.Cmp.{nat_cmp_is}
+use Rattle.std.specs.BTreeMap.{Updates, get}
 use Rattle.std.specs.List.{ends_with}
 use Rattle.std.specs.Option.{is_some, option_and_then, option_map_or, option_or}
-use Rattle.std.specs.Ordering.{is_eq, nat_cmp}
-use Rattle.std.specs.declared.cmp.Ordering.TheVariants.{Less, Equal, Greater}
+use Rattle.std.specs.Ordering.{nat_cmp}
 use Rattle.std.proofs.lemmas.Bool.Decides.{Decides-eqb}
 use Rattle.std.proofs.lemmas.Slice.Eq.{ends_is}
 use Rattle.std.proofs.lemmas.Bool.{cases_lt, eq-eqb, true≢false}
 use Rattle.std.proofs.lemmas.List.{drop-append-le, take-append-le, take_all}
 use Rattle.std.proofs.lemmas.List.Folds.{find-append}
-use Rattle.std.proofs.lemmas.Map.Lookups.{exact_unsigned}
 use Rattle.std.proofs.lemmas.Option.{slice_get_within}
 use Rattle.std.proofs.Math.Seq.{drop-append_seam}
 use Rattle.dl_info.specs.declared.entry.Entry.{Entry}

@@ -1,6 +1,5 @@
 -- Directories in memory.
 use Rattle.std.specs.Prelude.{ℕ, List, Option}
-use Rattle.std.specs.Option.{option_and_then}
 use Rattle.dl_dirs.specs.declared.directories.Directories.{Directories}
 use Rattle.dl_dirs.specs.Holding.{directory_kept}
 use Rattle.dl_dirs.specs.Texts.{texts_of}

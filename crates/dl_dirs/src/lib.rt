@@ -9,6 +9,7 @@
 mod compilation;
 mod directories;
 mod extent;
+pub mod laws;
 mod places;
 mod texts;
 mod walk;

@@ -7,3 +7,4 @@ pub mod NamedLemmas
 pub mod CodeLemmas
 pub mod WiderLemmas
 pub mod DirectoriesLemmas
+pub mod ShortLemmas

@@ -8,6 +8,7 @@ pub mod Tables
 pub mod Code
 pub mod BuildIds
 pub mod Directories
+pub mod Laws
 pub mod NotRead
 -- For what a value stands, or what was read; no promise rests on how these are said.
 pub mod Held

@@ -11,6 +11,7 @@ mod dialect;
 mod directories;
 mod fault;
 mod files;
+pub mod laws;
 mod named;
 mod not_read;
 mod object_part;

@@ -19,10 +19,10 @@ of_some : {A : Type 0} (P : A → Type 0) (o : Option A) (x : A) → IfSome o P 
 of_some P None x holds e = absurd cc
 of_some P (Some y) x holds e = let same : y ≡ x = cc in subst P same holds
 
-abbrev row_cells : List Value → ℕ
+abbrev pub row_cells : List Value → ℕ
 row_cells values = sum_by value_cells values
 
-value_within : (pairs : List Pair) (values : List Value) (c : ℕ)
+pub value_within : (pairs : List Pair) (values : List Value) (c : ℕ)
     → IfSome (value_of (with_content pairs values) c) (λ v. value_cells v ≤ row_cells values)
 value_within [] values c = tt
 value_within (p ∷ pairs) [] c = tt
@@ -34,7 +34,7 @@ value_within (p ∷ pairs) (v ∷ values) c =
       by false None few = tt
       by false (Some w) few = omega (arith, few, sum_by-cons value_cells v values)
 
-row_within : (rows : List (List Value)) (n : ℕ) → IfSome (slice_get rows n) (λ e. row_cells e ≤ sum_by row_cells rows)
+pub row_within : (rows : List (List Value)) (n : ℕ) → IfSome (slice_get rows n) (λ e. row_cells e ≤ sum_by row_cells rows)
 row_within [] n = tt
 row_within (e ∷ rows) zero = omega (arith, sum_by-cons row_cells e rows)
 row_within (e ∷ rows) (suc n) =

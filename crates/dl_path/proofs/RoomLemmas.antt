@@ -9,7 +9,8 @@ use Rattle.dl_table.specs.declared.table.Pair.{Pair}
 use Rattle.dl_table.specs.EntryData.{value_of, with_content}
 use Rattle.dl_table.specs.TableCells.{table_cells, value_cells}
 use Rattle.dl_table.specs.TableData.{TableData}
-use Rattle.dl_table.specs.Text.{text_at, text_in}
+use Rattle.dl_table.proofs.TextLemmas.{Few, fewer, text_at_few}
+use Rattle.dl_path.proofs.HeaderTextLemmas.{row_cells, row_within, value_within}
 use Rattle.dl_table.specs.Value.{Value, text, line_str, str, str_sup, number, block, data16}
 use Rattle.dl_field.specs.HeaderData.{HeaderData}
 use Rattle.dl_head.specs.Numbers.{entry_numbered, first_number, file_numbered}
@@ -19,26 +20,6 @@ use Rattle.dl_path.specs.PathTexts.{base_of, by_itself, entry_parts, parts_in}
 use Rattle.dl_path.specs.TextRoom.{PartsHaveRoom, PartsWithin, strings_len, text_room}
 
 -- ---- texts
-
-abbrev Few : ℕ → Option (List ℕ) → Type 0
-Few most o = IfSome o (λ w. length w ≤ most)
-
-fewer : (a b : ℕ) (o : Option (List ℕ)) → Few a o → a ≤ b → Few b o
-fewer a b None few le = tt
-fewer a b (Some w) few le = omega (arith, few, le)
-
-text_in_few : (b : List ℕ) → Few (length b) (text_in b)
-text_in_few [] = tt
-text_in_few (x ∷ b) = by (x == 0) (text_in b) (text_in_few b) where
-  by : (is : Bool) (o : Option (List ℕ)) → Few (length b) o
-      → Few (suc (length b)) (cond is (Some []) (option_map (λ t. x ∷ t) o))
-  by true o few = omega arith
-  by false None few = tt
-  by false (Some w) few = omega (arith, few)
-
-text_at_few : (b : List ℕ) (n : ℕ) → Few (length b) (text_at b n)
-text_at_few b n =
-    fewer (length (drop n b)) (length b) (text_at b n) (text_in_few (drop n b)) (omega (arith, length-drop n b))
 
 in_section : (o : Option (List ℕ)) (n : ℕ) → Few (option_map_or length o 0) (text_in_section o n)
 in_section None n = tt
@@ -60,49 +41,26 @@ text_few s (data16 w) = tt
 
 -- ---- entries
 
-abbrev entry_cells : List Value → ℕ
-entry_cells values = sum_by value_cells values
-
-value_few : (pairs : List Pair) (values : List Value) (c : ℕ)
-    → IfSome (value_of (with_content pairs values) c) (λ v. value_cells v ≤ entry_cells values)
-value_few [] values c = tt
-value_few (p ∷ pairs) [] c = tt
-value_few (p ∷ pairs) (v ∷ values) c =
-    by (p.content == c) (value_of (with_content pairs values) c) (value_few pairs values c) where
-      by : (is : Bool) (o : Option Value) → IfSome o (λ w. value_cells w ≤ entry_cells values)
-          → IfSome (cond is (Some v) o) (λ w. value_cells w ≤ entry_cells (v ∷ values))
-      by true o few = omega (arith, sum_by-cons value_cells v values)
-      by false None few = tt
-      by false (Some w) few = omega (arith, few, sum_by-cons value_cells v values)
-
-entry_few : (entries : List (List Value)) (n : ℕ)
-    → IfSome (slice_get entries n) (λ e. entry_cells e ≤ sum_by entry_cells entries)
-entry_few [] n = tt
-entry_few (e ∷ entries) zero = omega (arith, sum_by-cons entry_cells e entries)
-entry_few (e ∷ entries) (suc n) =
-    IfSome_then (slice_get entries n) (entry_few entries n)
-    (λ x few. omega (arith, few, sum_by-cons entry_cells e entries))
-
 module _ (s : Strings) where
   -- the own path of an entry of a table
   own_few : (t : TableData) (first n : ℕ)
       → Few (strings_len s + table_cells t) (option_and_then (own_path s) (entry_numbered first t n))
-  own_few t first n = by (nat_lt n first) (slice_get t.entries (n - first)) (entry_few t.entries (n - first)) where
-    of_value : (values : List Value) (o : Option Value) → entry_cells values ≤ sum_by entry_cells t.entries
-        → IfSome o (λ v. value_cells v ≤ entry_cells values)
+  own_few t first n = by (nat_lt n first) (slice_get t.entries (n - first)) (row_within t.entries (n - first)) where
+    of_value : (values : List Value) (o : Option Value) → row_cells values ≤ sum_by row_cells t.entries
+        → IfSome o (λ v. value_cells v ≤ row_cells values)
         → Few (strings_len s + table_cells t) (option_and_then (text_of s) o)
     of_value values None within few = tt
     of_value values (Some v) within few =
         fewer (strings_len s + value_cells v) (strings_len s + table_cells t) (text_of s v) (text_few s v)
         (omega (arith, within, few))
 
-    by : (before : Bool) (o : Option (List Value)) → IfSome o (λ e. entry_cells e ≤ sum_by entry_cells t.entries)
+    by : (before : Bool) (o : Option (List Value)) → IfSome o (λ e. row_cells e ≤ sum_by row_cells t.entries)
         → Few (strings_len s + table_cells t)
         (option_and_then (own_path s) (cond before None (option_map (with_content t.pairs) o)))
     by true o within = tt
     by false None within = tt
     by false (Some values) within =
-        of_value values (value_of (with_content t.pairs values) 1) within (value_few t.pairs values 1)
+        of_value values (value_of (with_content t.pairs values) 1) within (value_within t.pairs values 1)
 
   module _ (h : HeaderData) where
     abbrev most : ℕ

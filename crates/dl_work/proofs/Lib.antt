@@ -8,3 +8,4 @@ pub mod ReadsLemmas
 pub mod IndexingLemmas
 pub mod DamageLemmas
 pub mod BlameLemmas
+pub mod RoomLemmas

@@ -11,6 +11,7 @@ pub mod Located
 pub mod Compiled
 pub mod Locate
 pub mod Indexing
+pub mod IndexLaws
 pub mod Answering
 pub mod OverIndex
 pub mod OverElfFile

@@ -8,6 +8,7 @@ mod command;
 mod compiled;
 mod damages;
 mod indexing;
+pub mod laws;
 mod located;
 mod locating;
 mod opening;
