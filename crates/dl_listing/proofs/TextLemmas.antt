@@ -1,13 +1,8 @@
--- The texts of a line, and that all lines are out.
-use Rattle.std.proofs.Common.{◌≡◌, ◌∙◌, ℕ, List, [], ◌∷◌, ◌++◌, true, false, refl, ap, codes, Option, Result, Ok, Err}
+-- The texts of a line.
+use Rattle.std.proofs.Common.{◌≡◌, ◌∙◌, ℕ, List, [], ◌∷◌, ◌++◌, true, false, refl, ap, codes}
 use Rattle.std.specs.Fmt.{digits}
-use Rattle.std.specs.Prelude.{◌^◌, MatchResult, OnOk, flat_map}
+use Rattle.std.specs.Prelude.{◌^◌, flat_map}
 use Rattle.std.proofs.lemmas.Grind.{flat_map-append}
-use Rattle.std.specs.Io.KnownBytes.{Appends}
-use Rattle.dl_print.specs.declared.fault.WriteFault.{WriteFault}
-use Rattle.dl_print.specs.Output.{HasPrinted, TellsOut}
-use Rattle.dl_print.specs.Printed.{Printed}
-use Rattle.dl_print.proofs.Outs.{HasPrinted-out}
 use Rattle.dl_path.specs.Shown.{shown}
 use Rattle.dl_listing.specs.Lines.{has_texts}
 use Rattle.dl_listing.specs.Listing.{address_text, path_text}
@@ -29,10 +24,3 @@ texts_apart a b c =
 pub last_end : codes "0x10000000000000000" ≡ address_text (2 ^ 64)
 unfolding digits
 last_end = refl
-
--- all that was printed is out
-pub flushed : {A : Type 0} (start now : Option (List ℕ)) (text : List ℕ) (p : Printed) (r : Result A WriteFault)
-    → MatchResult r (λ _. HasPrinted start now text p) (λ f. TellsOut start now text f) → OnOk r (p.pending ≡ [])
-    → MatchResult r (λ _. Appends start now text) (TellsOut start now text)
-flushed start now text p (Ok x) printed empty = HasPrinted-out start now text p printed empty
-flushed start now text p (Err f) lost empty = lost

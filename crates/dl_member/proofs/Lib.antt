@@ -2,3 +2,4 @@
 pub mod PathLemmas
 pub mod TableLemmas
 pub mod StepLemmas
+pub mod WalkLemmas

@@ -9,3 +9,4 @@ pub mod Sinks
 pub mod Walking
 -- Of contracts inside the crate, and of proofs; no public contract reaches these.
 pub mod Parts
+pub mod Onward

@@ -1,9 +1,11 @@
 //! Members of archives as files: the member that a path names, and what the program does for a member.
 //!
 //! [`split_member`] cuts the path of a member in two, [`open_member`] opens its file, and in [`WithMember`] that stands under a path
-//! of its own among other files. [`at_member`] does what `dump` and `check` do, with one member of an archive.
+//! of its own among other files. [`at_member`] does what `dump` and `check` do, with one member of an archive, and
+//! [`walk_members`] with all of them.
 #![tactic(auto)]
 
+mod counts;
 mod fault;
 mod file;
 mod finding;
@@ -13,9 +15,11 @@ mod path;
 mod sink;
 mod source;
 mod step;
+mod walk;
 mod whole;
 
-pub use fault::MemberFault;
+pub use counts::Counts;
+pub use fault::{MemberFault, WalkFault};
 pub use file::{MemberFile, open_member};
 pub use finding::find_member;
 pub use line_table::has_no_table;
@@ -23,3 +27,4 @@ pub use path::split_member;
 pub use sink::{MemberLines, MemberSink};
 pub use source::{MemberOrFile, WithMember};
 pub use step::{Step, at_member};
+pub use walk::{Walked, walk_members};

@@ -1,5 +1,7 @@
 //! What comes of one member.
-ghost use Rattle.std.specs.Prelude.{◌≡◌, IfOk, IfErr, OnErr, []};
+ghost use Rattle.std.specs.Prelude.{◌≡◌, IfOk, IfErr, MatchResult, OnErr, []};
+ghost use Rattle.std.specs.Io.KnownBytes.{Appends};
+ghost use Rattle.dl_print.specs.Output.{BlamesWriter, Prints, TellsOut};
 ghost use Rattle.dl_archive.specs.Told.{seen};
 ghost use Rattle.dl_cmd.specs.Job.{request_made};
 ghost use Rattle.dl_elf.specs.Source.{ForBytes};
@@ -7,7 +9,7 @@ ghost use Rattle.dl_member.specs.Files.{bytes_of_file, fails_of_file};
 ghost use Rattle.dl_open.specs.declared.fault.FileFault.TheVariants.{Open};
 ghost use Rattle.dl_work.specs.declared.stop.Stop.TheVariants.{File};
 ghost use Rattle.dl_member.specs.declared.step.Step.TheVariants.{Done};
-ghost use Rattle.dl_member.specs.Walking.{AtMember, AtNamed, IsStep, IsTold, answer_status};
+ghost use Rattle.dl_member.specs.Walking.{AtMember, AtNamed, IsStep, IsTold, answer_status, member_line};
 
 use crate::file::file_of_member;
 use crate::job::job_over;
@@ -19,12 +21,14 @@ use dl_archive::{Member, NAME_LIMIT};
 use dl_cmd::Job;
 use dl_elf::ReadAt;
 use dl_making::SetMemory;
-use dl_open::{FileFault, FileSource, Shown};
+use dl_open::{FileFault, FileSource};
 use dl_output::Destination;
+use dl_path::print_shown;
+use dl_print::{Printer, WriteFault};
 use dl_run::Survey;
 use dl_work::{Stop, work};
 use std::io;
-use std::io::{ErrorKind, Write};
+use std::io::ErrorKind;
 
 /// What comes of a member.
 #[derive(Clone, Copy)]
@@ -34,7 +38,7 @@ pub enum Step {
     /// The work over it ended with this status.
     Done(u8),
     /// The line before it can't be written.
-    Unwritten,
+    Unwritten(WriteFault),
 }
 
 /// The status of what was answered, of which a stop is told.
@@ -51,6 +55,36 @@ fn told_status<T: MemberSink>(answer: Result<Survey, Stop<'_>>, sink: &mut T) ->
     }
 }
 
+/// Prints the line before what is printed of the file under a path.
+fn print_path<W: Destination>(
+    printer: &mut Printer,
+    output: &mut W,
+    path: &str,
+) -> Result<(), WriteFault>
+    ensures printed { Prints (W.contents output.old) (W.contents output.new) printer.old printer.new
+        (member_line path.now) result }
+    ensures blames { BlamesWriter W.fails result }
+{
+    print_shown(printer, output, path.as_bytes())?;
+    printer.put(output, b":\n")
+}
+
+/// Writes it.
+// Apart from what is done then, so that the printer takes none of its stack.
+#[inline(never)]
+fn write_path<W: Destination>(output: &mut W, path: &str) -> Result<(), WriteFault>
+    ensures written { MatchResult result
+        (λ _. Appends (W.contents output.old) (W.contents output.new) (member_line path.now))
+        (TellsOut (W.contents output.old) (W.contents output.new) (member_line path.now)) }
+    ensures blames { BlamesWriter W.fails result }
+{
+    let mut printer = Printer::new();
+    match print_path(&mut printer, output, path) {
+        Ok(()) => printer.flush(output),
+        Err(lost) => Err(lost),
+    }
+}
+
 /// What comes of a file under a path.
 fn over_file<M: SetMemory, F: FileSource, S: ReadAt, W: Destination, T: MemberSink>(
     memory: &M,
@@ -61,15 +95,15 @@ fn over_file<M: SetMemory, F: FileSource, S: ReadAt, W: Destination, T: MemberSi
     output: &mut W,
     sink: &mut T,
 ) -> Step
-    ensures step { ((t : T) → T.hears t t []) → IsStep (M.refuses memory.now) (F.held files.now) (F.fails_with files.now)
+    ensures step { ((t : T) → T.hears t t []) → IsStep (M.refuses memory.now) (F.held files.now) (F.fails_with files.now) W.fails
         (request_made job.now) T.hears T.tells path.now (S.all_bytes file.now) (S.fails_with file.now) (W.contents output.old)
         (W.contents output.new) sink.old sink.new result }
 {
     if has_no_table(file) {
         return Step::PassedOver;
     }
-    if writeln!(output, "{}:", Shown(path)).is_err() {
-        return Step::Unwritten;
+    if let Err(fault) = write_path(output, path) {
+        return Step::Unwritten(fault);
     }
     let files = WithMember { path, file, files };
     let mut input: &[u8] = &[];
@@ -109,7 +143,8 @@ fn at_named<M: SetMemory, F: FileSource, S: ReadAt, W: Destination, T: MemberSin
     sink: &mut T,
 ) -> Step
     ensures step { ((t : T) → T.hears t t []) → ForBytes (S.all_bytes archive.now) (λ f. AtNamed (M.refuses memory.now) (F.held files.now)
-        (F.fails_with files.now) (S.fails_with archive.now) (bytes_of_file S.all_bytes F.File.all_bytes) (fails_of_file S.fails_with F.File.fails_with) (request_made job.now) T.hears T.tells f path.now name.now
+        (F.fails_with files.now) W.fails (request_made job.now) T.hears T.tells (S.fails_with archive.now)
+        (bytes_of_file S.all_bytes F.File.all_bytes) (fails_of_file S.fails_with F.File.fails_with) f path.now name.now
         (seen member.now).place (W.contents output.old) (W.contents output.new) sink.old sink.new result) }
 {
     let Ok(own) = path_of_member(path, name) else {
@@ -137,7 +172,8 @@ pub fn at_member<M: SetMemory, F: FileSource, S: ReadAt, W: Destination, T: Memb
     sink: &mut T,
 ) -> io::Result<Step>
     ensures step { ((t : T) → T.hears t t []) → ForBytes (S.all_bytes archive.now) (λ f. IfOk result (AtMember (M.refuses memory.now)
-        (F.held files.now) (F.fails_with files.now) (S.fails_with archive.now) (bytes_of_file S.all_bytes F.File.all_bytes) (fails_of_file S.fails_with F.File.fails_with) (request_made job.now) T.hears T.tells f path.now
+        (F.held files.now) (F.fails_with files.now) W.fails (request_made job.now) T.hears T.tells (S.fails_with archive.now)
+        (bytes_of_file S.all_bytes F.File.all_bytes) (fails_of_file S.fails_with F.File.fails_with) f path.now
         (seen member.now) (W.contents output.old) (W.contents output.new) sink.old sink.new)) }
     ensures fails { IfErr result (S.fails_with archive.now) }
     ensures output { OnErr result (W.contents output.new ≡ W.contents output.old) }

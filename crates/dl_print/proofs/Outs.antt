@@ -1,9 +1,10 @@
 -- How what is out grows with each write and each text.
 use Rattle.std.proofs.Common.{◌≡◌, ℕ, ◌+◌, ◌-◌, ◌≤◌, List, [], ◌++◌, length, take, drop, Option, arith, sym, ap, subst}
-use Rattle.std.proofs.Common.{◌∙◌, append_assoc, length-append, length-drop, append-nil, take-append-drop, Some, None}
+use Rattle.std.proofs.Common.{◌∙◌, append_assoc, length-append, length-drop, append-nil, take-append-drop, Some, None, Result, Ok, Err}
 use Rattle.std.proofs.Math.Seq.{take-add}
 use Rattle.std.proofs.lemmas.List.{take_all, take-append-le, drop-append-le}
 use Rattle.std.proofs.Math.ListN.{drop_of_length-le}
+use Rattle.std.specs.Prelude.{MatchResult, OnOk}
 use Rattle.std.specs.Io.KnownBytes.{Appends, Keeps}
 use Rattle.std.proofs.KnownBytes.{Appends-trans}
 use Rattle.dl_print.specs.Printed.{Printed}
@@ -107,6 +108,13 @@ HasPrinted-out start now text p h empty =
     sym (append-nil (take p.out text)) ∙ ap (λ (l : List ℕ). take p.out text ++ l) (sym (h.rest ∙ empty))
     ∙ take-append-drop p.out text in
     subst (Appends start now) whole h.first.written
+
+-- all that was printed is out, or a write failed
+pub flushed : {A : Type 0} (start now : Option (List ℕ)) (text : List ℕ) (p : Printed) (r : Result A WriteFault)
+    → MatchResult r (λ _. HasPrinted start now text p) (λ f. TellsOut start now text f) → OnOk r (p.pending ≡ [])
+    → MatchResult r (λ _. Appends start now text) (TellsOut start now text)
+flushed start now text p (Ok x) printed empty = HasPrinted-out start now text p printed empty
+flushed start now text p (Err f) lost empty = lost
 
 -- nothing was written
 pub keeps_by_nothing : (a b : Option (List ℕ)) (text : List ℕ) → text ≡ [] → Appends a b text → Keeps a b

@@ -1,12 +1,11 @@
 //! What is done with the members of archives, one after the other.
 use crate::archives::{BSD, CUT, EMPTY, GNU, ODD, ONE, Pieces, THIN, TWICE, joined};
 use crate::shelf::Shelf;
-use dl_archive::{ArchiveFault, Members};
+use dl_archive::ArchiveFault;
 use dl_cmd::{Job, UnitWords};
-use dl_member::{MemberLines, Step, at_member};
+use dl_member::{MemberLines, WalkFault, Walked, walk_members};
 use dl_memory::System;
 use std::alloc::Global;
-use std::io;
 use std::io::Cursor;
 
 /// The file of a member of thin archives.
@@ -45,92 +44,31 @@ const DUMP: Job<'static> = Job::Dump {
 enum End {
     Last,
     Damaged(u64),
+    /// So many bytes of the line before a member were written.
+    Unwritten(u128),
     Other,
 }
 
-/// What comes of a walk: what is written, the worst status, how many members are passed over, and the end.
+/// What comes of a walk with so much room for the output: what is written, the worst status of the members, how many are passed
+/// over, the end, and the status of all.
 #[derive(Clone, Copy)]
 struct Wanted {
+    room: usize,
     output: &'static [u8],
     errors: &'static [u8],
     worst: u8,
     passed_over: u64,
     end: End,
+    status: u8,
 }
 
-/// What came of the members of an archive.
-#[derive(Clone, Copy)]
-struct Walked {
-    worst: u8,
-    passed_over: u64,
-    end: End,
-}
-
-/// What came of them so far, and of one more.
-fn counted(walked: Walked, step: io::Result<Step>) -> Walked {
-    match step {
-        Ok(Step::PassedOver) => Walked {
-            passed_over: walked.passed_over.saturating_add(1),
-            ..walked
-        },
-        Ok(Step::Done(status)) => Walked {
-            worst: walked.worst.max(status),
-            ..walked
-        },
-        Ok(Step::Unwritten) | Err(_) => Walked {
-            end: End::Other,
-            ..walked
-        },
-    }
-}
-
-/// Does a job with each member of an archive, which are fewer than eight; what comes of that.
-fn over_members(
-    alloc: Global,
-    job: &Job<'_>,
-    archive: &Cursor<&[u8]>,
-    output: &mut &mut [u8],
-    sink: &mut MemberLines<&mut [u8]>,
-) -> Walked {
-    let mut walked = Walked {
-        worst: 0,
-        passed_over: 0,
-        end: End::Last,
-    };
-    let Ok(Some(mut members)) = Members::of(archive) else {
-        return Walked {
-            end: End::Other,
-            ..walked
-        };
-    };
-    let memory = System::new(alloc);
-    for _ in 0..8 {
-        let member = match members.next_member() {
-            Ok(Some(member)) => member,
-            Ok(None) => return walked,
-            Err(ArchiveFault::Damaged(at)) => {
-                return Walked {
-                    end: End::Damaged(at),
-                    ..walked
-                };
-            }
-            Err(ArchiveFault::Read(_)) => break,
-        };
-        let step = at_member(
-            &memory,
-            job,
-            &SHELF,
-            "out/lib.a",
-            archive,
-            &member,
-            output,
-            sink,
-        );
-        walked = counted(walked, step);
-    }
-    Walked {
-        end: End::Other,
-        ..walked
+/// How a walk ended.
+fn end_of(end: &Result<(), WalkFault>) -> End {
+    match end {
+        Ok(()) => End::Last,
+        Err(WalkFault::Archive(ArchiveFault::Damaged(at))) => End::Damaged(*at),
+        Err(WalkFault::Unwritten(lost)) => End::Unwritten(lost.out),
+        Err(_) => End::Other,
     }
 }
 
@@ -145,8 +83,15 @@ fn walk(
     let archive = joined(pieces);
     let archive = Cursor::new(archive.as_slice());
     let mut room = output;
-    let mut sink = MemberLines::new(errors);
-    let walked = over_members(alloc, job, &archive, &mut room, &mut sink);
+    let walked = walk_members(
+        &System::new(alloc),
+        job,
+        &SHELF,
+        "out/lib.a",
+        &archive,
+        &mut room,
+        &mut MemberLines::new(errors),
+    );
     (room.len(), walked)
 }
 
@@ -159,35 +104,42 @@ fn holds(room: &[u8], bytes: &[u8]) -> bool {
 fn comes_to(alloc: Global, job: &Job<'_>, pieces: Pieces, wanted: &Wanted) -> bool {
     let mut output = [0; 512];
     let mut errors = [0; 256];
-    let (left, walked) = walk(alloc, job, pieces, &mut output, &mut errors);
-    let written = output.len().saturating_sub(left);
+    let room = wanted.room.min(output.len());
+    let (left, walked) = walk(alloc, job, pieces, &mut output[..room], &mut errors);
+    let written = room.saturating_sub(left);
     written == wanted.output.len()
         && holds(&output, wanted.output)
         && holds(&errors, wanted.errors)
-        && walked.worst == wanted.worst
-        && walked.passed_over == wanted.passed_over
-        && walked.end == wanted.end
+        && walked.counts.worst == wanted.worst
+        && walked.counts.passed_over == wanted.passed_over
+        && end_of(&walked.end) == wanted.end
+        && walked.status() == wanted.status
 }
 
 const WHOLE: Wanted = Wanted {
+    room: 512,
     output: b"out/lib.a(one.o):\nunits 1 skipped 0 sequences 1 rows 3\n\
               out/lib.a(a_name_of_more_than_16.o):\nunits 1 skipped 0 sequences 1 rows 3\n",
     errors: b"",
     worst: 0,
     passed_over: 2,
     end: End::Last,
+    status: 0,
 };
 
 const NOT_FOUND: Wanted = Wanted {
+    room: 512,
     output: b"out/lib.a(one.o):\nunits 1 skipped 0 sequences 1 rows 3\n",
     errors: b"dwline: out/lib.a(notes.txt): cannot open: entity not found\n\
               dwline: out/lib.a(a_name_of_more_than_16.o): cannot open: entity not found\n",
     worst: 3,
     passed_over: 0,
     end: End::Last,
+    status: 3,
 };
 
 const FIRST_PASSED: Wanted = Wanted {
+    room: 512,
     output: b"out/lib.a(one.o):\n\
               unit 0x0 dwarf32 version 5 address_size 8\n\
               row 0x0000000000401000 0 1 2 0 stmt\n\
@@ -197,31 +149,48 @@ const FIRST_PASSED: Wanted = Wanted {
     worst: 0,
     passed_over: 1,
     end: End::Last,
+    status: 0,
 };
 
 const NAMES: Wanted = Wanted {
+    room: 512,
     output: b"out/lib.a(one(1).o):\nunits 1 skipped 0 sequences 1 rows 3\n\
               out/lib.a(one?.o):\nunits 1 skipped 0 sequences 1 rows 3\n",
     errors: b"",
     worst: 0,
     passed_over: 0,
     end: End::Last,
+    status: 0,
 };
 
 const BEFORE_DAMAGE: Wanted = Wanted {
+    room: 512,
     output: b"out/lib.a(one.o):\nunits 1 skipped 0 sequences 1 rows 3\n",
     errors: b"",
     worst: 0,
     passed_over: 0,
     end: End::Damaged(306),
+    status: 1,
+};
+
+const CUT_SHORT: Wanted = Wanted {
+    room: 5,
+    output: b"out/l",
+    errors: b"",
+    worst: 0,
+    passed_over: 0,
+    end: End::Unwritten(5),
+    status: 3,
 };
 
 const NOTHING: Wanted = Wanted {
+    room: 512,
     output: b"",
     errors: b"",
     worst: 0,
     passed_over: 0,
     end: End::Last,
+    status: 0,
 };
 
 /// An ELF file whose header is cut.
@@ -235,11 +204,13 @@ const SHORT: Pieces = &[
 ];
 
 const DAMAGED_FILE: Wanted = Wanted {
+    room: 512,
     output: b"out/lib.a(cut.o):\n",
     errors: b"dwline: out/lib.a(cut.o): damaged ELF file: section headers\n",
     worst: 1,
     passed_over: 0,
     end: End::Last,
+    status: 1,
 };
 
 #[test]
@@ -262,5 +233,6 @@ fn walks(rt: HostRuntime) {
     assert!(rt; comes_to(alloc, &CHECK, ODD, &NAMES));
     assert!(rt; comes_to(alloc, &CHECK, CUT, &BEFORE_DAMAGE));
     assert!(rt; comes_to(alloc, &CHECK, EMPTY, &NOTHING));
+    assert!(rt; comes_to(alloc, &CHECK, GNU, &CUT_SHORT));
     assert!(rt; comes_to(alloc, &CHECK, SHORT, &DAMAGED_FILE));
 }

@@ -1,8 +1,7 @@
 use Rattle.std.proofs.KnownBytes.{Appends-nil}
 use Rattle.dl_index.specs.Shown.{bytes_of}
-use Rattle.dl_print.proofs.Outs.{HasPrinted-nothing}
+use Rattle.dl_print.proofs.Outs.{HasPrinted-nothing, flushed}
 use Rattle.dl_listing.specs.Listing.{listing}
-use Rattle.dl_listing.proofs.TextLemmas.{flushed}
 use Rattle.dl_listing.proofs.listing.list.Goals as goal
 
 pub returns-in-Ok-clause-printed : goal.returns-in-Ok-clause-printed

@@ -16,7 +16,7 @@ returns-in-Ok-file_of_member g c = record {
         opened,
         c.in-Ok-file_of_member.ensures.reads,
         same_step (g.M.Memory.refuses c.args.memory.now) (g.F.FileSource.held c.args.files.now)
-            (g.F.FileSource.fails_with c.args.files.now) (request_made c.args.job.now) g.T.DamageSink.hears g.T.MemberSink.tells
+            (g.F.FileSource.fails_with c.args.files.now) g.W.Destination.fails (request_made c.args.job.now) g.T.DamageSink.hears g.T.MemberSink.tells
             c.as_str.result.now (shown_path c.args.path.now c.args.name.now)
             (bytes_of_file g.S.ReadAt.all_bytes g.F.File.ReadAt.all_bytes file)
             (member_bytes (g.F.FileSource.held c.args.files.now) f c.args.path.now c.args.name.now c.args.member.now.place)
