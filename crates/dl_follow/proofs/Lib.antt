@@ -2,3 +2,4 @@
 pub mod FitLemmas
 pub mod CandidateLemmas
 pub mod FollowedLemmas
+pub mod ToldLemmas

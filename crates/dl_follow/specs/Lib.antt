@@ -6,3 +6,4 @@ pub mod Left
 pub mod Seen
 pub mod Clues
 pub mod Followed
+pub mod NotFoundText

@@ -1,4 +1,8 @@
 //! What is told of files that were looked for.
+ghost use Rattle.std.specs.Prelude.{◌≡◌, ◌∷◌, [], MatchOption};
+ghost use Rattle.dl_follow.specs.Left.{left};
+ghost use Rattle.dl_follow.specs.NotFoundText.{tried};
+
 use crate::candidates::{Candidate, Candidates, Folders, Sought};
 use crate::fit::Fit;
 use crate::place::{PathBytes, path_of};
@@ -18,6 +22,11 @@ pub struct NotFound<'a> {
 }
 
 impl fmt::Display for NotFound<'_> {
+    ghost use Rattle.std.specs.Prelude.{Some};
+    ghost use Rattle.dl_follow.specs.NotFoundText.{not_found_text};
+
+    ghost output = { λ lost. Some (not_found_text lost) };
+
     fn fmt<W: fmt::Write>(&self, f: &mut fmt::Formatter<W>) -> fmt::Result {
         write!(f, "{}: no section .debug_line", Shown(self.sought.path))?;
         let tried = Tried(Candidates::new(&self.sought, &self.folders));
@@ -29,23 +38,40 @@ impl fmt::Display for NotFound<'_> {
     }
 }
 
-/// The first paths of candidates.
+/// The next path that is tried; None behind the last.
+fn next_path(candidates: &mut Candidates<'_>) -> Option<PathBytes>
+    ensures { MatchOption result (tried (left candidates.old) ≡ [])
+        (λ path. tried (left candidates.old) ≡ path.items ∷ tried (left candidates.new)) }
+{
+    while let Some(candidate) = candidates.next() {
+        if let Ok(path) = path_of(&candidate.place) {
+            return Some(path);
+        }
+    }
+    None
+}
+
+/// The first paths that are tried.
 #[derive(Clone, Copy)]
 struct Tried<'a>(Candidates<'a>);
 
 impl fmt::Display for Tried<'_> {
+    ghost use Rattle.std.specs.Prelude.{Some};
+    ghost use Rattle.dl_follow.specs.Left.{left};
+    ghost use Rattle.dl_follow.specs.NotFoundText.{listed_first, tried};
+
+    ghost output = { λ shown. Some (listed_first (tried (left shown.0))) };
+
     fn fmt<W: fmt::Write>(&self, f: &mut fmt::Formatter<W>) -> fmt::Result {
         let mut candidates = self.0;
         let mut told = 0;
-        while let Some(candidate) = candidates.next() {
+        while let Some(path) = next_path(&mut candidates) {
             if told == TOLD {
                 return write!(f, ", ..");
             }
-            if let Ok(path) = path_of(&candidate.place) {
-                let before = if told == 0 { "" } else { ", " };
-                write!(f, "{before}{}", ShownBytes(path.as_slice()))?;
-                told += 1;
-            }
+            let before = if told == 0 { "" } else { ", " };
+            write!(f, "{before}{}", ShownBytes(path.as_slice()))?;
+            told += 1;
         }
         if told == 0 { write!(f, "none") } else { Ok(()) }
     }
