@@ -11,10 +11,11 @@ use dl_memory::System;
 use dl_open::{FileSource, Shown, ShownBytes};
 use dl_output::Destination;
 use dl_run::{Damage, DamageSink, RunFault};
+use dl_several::{CheckFiles, PathList, Several, check_several};
 use dl_work::{Stop, work};
 use std::fs::File;
+use std::io;
 use std::io::{Read, Stderr, Stdout, Write};
-use std::{io, str};
 
 /// The path that stands for standard input.
 const INPUT: &str = "-";
@@ -162,30 +163,6 @@ impl<'a> Asked<'a> {
             Standing::File => self.check_followed(rt, path),
         }
     }
-
-    /// Checks each file of a list, whose paths end with this byte, and answers the worst status.
-    fn check_list(&self, rt: &HostRuntime, list: &[u8], end: u8, progress: &mut Progress) -> u8 {
-        let mut worst = 0;
-        for path in list.split(|byte| *byte == end) {
-            if path.is_empty() {
-                continue;
-            }
-            let status = match str::from_utf8(path) {
-                Ok(path) => self.check_file(rt, path),
-                Err(_) => {
-                    let _ = writeln!(
-                        rt.stderr(),
-                        "dwline: {}: the path isn't UTF-8",
-                        ShownBytes(path)
-                    );
-                    3
-                }
-            };
-            worst = worst.max(status);
-            progress.step(rt);
-        }
-        worst
-    }
 }
 
 /// All bytes of the list at a path.
@@ -197,6 +174,61 @@ fn read_list(rt: &HostRuntime, path: &str) -> io::Result<Vec<u8>> {
         File::open(rt, path)?.read_to_end(&mut list)?;
     }
     Ok(list)
+}
+
+/// Checks files of the system, and tells how far it has come.
+#[derive(Drop)]
+struct SystemChecker<'a> {
+    rt: &'a HostRuntime,
+    asked: Asked<'a>,
+    progress: Progress,
+}
+
+impl CheckFiles for SystemChecker<'_> {
+    ghost checks = { λ old path status new. Unit {0} };
+
+    ghost refuses = { λ old path status new. Unit {0} };
+
+    ghost reads = { λ old path bytes new. Unit {0} };
+
+    ghost misses = { λ old path status new. Unit {0} };
+
+    fn check(&mut self, path: &str) -> u8 {
+        let status = self.asked.check_file(self.rt, path);
+        self.progress.step(self.rt);
+        status
+    }
+
+    fn refuse(&mut self, path: &[u8]) -> u8 {
+        let _ = writeln!(
+            self.rt.stderr(),
+            "dwline: {}: the path isn't UTF-8",
+            ShownBytes(path)
+        );
+        self.progress.step(self.rt);
+        3
+    }
+
+    fn read_list(&mut self, path: &str) -> Result<Vec<u8>, u8> {
+        match read_list(self.rt, path) {
+            Ok(list) => Ok(list),
+            Err(error) => {
+                let _ = writeln!(
+                    self.rt.stderr(),
+                    "dwline: {}: cannot read: {error}",
+                    Shown(path)
+                );
+                Err(3)
+            }
+        }
+    }
+}
+
+/// The list of paths that the words name.
+fn list_of<'a>(files: &FilesWords<'a>) -> Option<PathList<'a>> {
+    let path = files.files_from?;
+    let end = if files.null { 0 } else { b'\n' };
+    Some(PathList { path, end })
 }
 
 /// Checks the files that the words name, and answers the worst status.
@@ -216,33 +248,21 @@ pub fn check_files(
     else {
         return report(rt, Ending::Stop(Stop::NotUnderstood));
     };
-    let asked = Asked {
-        units: *units,
-        keep_going: *keep_going,
-        follow,
+    let mut checker = SystemChecker {
+        rt,
+        asked: Asked {
+            units: *units,
+            keep_going: *keep_going,
+            follow,
+        },
+        progress: Progress::new(rt, files.progress),
     };
-    let mut progress = Progress::new(rt, files.progress);
-    let mut worst = match file {
-        Some(path) => asked.check_file(rt, path),
-        None => 0,
+    let named = Several {
+        first: *file,
+        others: files.others.as_slice(),
+        list: list_of(files),
     };
-    for path in &files.others {
-        worst = worst.max(asked.check_file(rt, path));
-        progress.step(rt);
-    }
-    if let Some(path) = files.files_from {
-        let status = match read_list(rt, path) {
-            Ok(list) => {
-                let end = if files.null { 0 } else { b'\n' };
-                asked.check_list(rt, list.as_slice(), end, &mut progress)
-            }
-            Err(error) => {
-                let _ = writeln!(rt.stderr(), "dwline: {}: cannot read: {error}", Shown(path));
-                3
-            }
-        };
-        worst = worst.max(status);
-    }
-    progress.end(rt);
+    let worst = check_several(&named, &mut checker);
+    checker.progress.end(rt);
     worst
 }

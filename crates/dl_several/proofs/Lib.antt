@@ -1,0 +1,2 @@
+pub mod SeveralLemmas
+pub mod ListLemmas
