@@ -15,15 +15,15 @@ header = $(DESTDIR)$(PREFIX)/include/boxantrel.h
 package = $(DESTDIR)$(PREFIX)/lib/pkgconfig/boxantrel.pc
 
 # The scripts that try what is built.
-tries = compare-with-dwline try-archives try-damaged try-debug-files try-dwline try-files try-growth try-index try-sections try-truncated try-documents try-install \
-	try-library
+tries = compare-with-dwline.sh try-archives.sh try-damaged.py try-debug-files.sh try-dwline.sh try-files.py try-growth.py try-index.py try-sections.py try-truncated.py try-documents.sh try-install.sh \
+	try-library.sh
 
 version = $(shell sed -n 's/^.* VERSION: &str = "\(.*\)";$$/\1/p' crates/dl_options/src/command_line.rt)
 
 # The program, at crates/dwline/out/dwline. A line tells of each crate as its proof begins and ends; the last one is
 # proved with the program, whose log is crates/dwline/out/prove.log as those of the others.
 dwline:
-	tools/prove dwline
+	tools/prove.sh dwline
 
 # What `dwline dump` prints of a section that ships with the repository.
 example: dwline
@@ -37,7 +37,7 @@ try:
 
 # The library for C, proved.
 lib:
-	tools/prove dl_c
+	tools/prove.sh dl_c
 	$(MAKE) library
 
 # Out of what rt built of dl_c: out/libboxantrel.a, out/libboxantrel.so and what pkg-config reads of it.
@@ -72,7 +72,7 @@ install-lib:
 dist: dwline lib dist-built
 
 dist-built:
-	tools/pack $(version)
+	tools/pack.sh $(version)
 
 uninstall:
 	rm -f $(bin) $(man) $(bash) $(zsh) $(fish) $(archive) $(shared) $(header) $(package)
@@ -87,18 +87,18 @@ test:
 
 # The wrong bodies that the commit chooses, over the libraries that are built.
 edits:
-	tools/wrong-bodies --of HEAD
+	tools/wrong-bodies.py --of HEAD
 
 # What `compare` does, over the libraries that `rt ci` left.
 compare-proved:
-	bindings/c/archive
+	bindings/c/archive.sh
 	$(MAKE) library
 	$(MAKE) compare-built
 
 # Every wrong body that stands in the repository, and those that `rt plant` makes of each crate's functions, which takes
 # hours: it lists those that the contracts let through.
 wrong-bodies: dwline lib
-	tools/wrong-bodies
+	tools/wrong-bodies.py
 	for crate in crates/dl_*; do (cd $$crate && rt plant) || exit 1; done
 
 # Every section of examples/, printed and compared with its expected dump; every option of every command; the

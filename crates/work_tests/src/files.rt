@@ -1,6 +1,6 @@
 //! ELF files of 32 bits and little-endian order, made by hand from the tables of the System V ABI, chapter 4, and DWARF 5,
 //! section 6.2: the file header, the sections' bytes, their names, and the section headers, each of which is two lines. The
-//! last section is the name table. examples/try-files tries every command over such files.
+//! last section is the name table. examples/try-files.py tries every command over such files.
 
 /// A unit of three rows, as `copy` writes it too.
 pub const UNIT: &[u8] = b"\x30\0\0\0\x05\0\x08\0\x16\0\0\0\x01\x01\x01\xfb\x0e\x0d\

@@ -1,5 +1,5 @@
 #!/usr/bin/env bash
-# compare-with-dwline [PATH OF dwline]: for each folder `dwline dump` must write expected.dump, byte
+# compare-with-dwline.sh [PATH OF dwline]: for each folder `dwline dump` must write expected.dump, byte
 # by byte, `dwline check` must count its lines, and what `dwline copy` writes must have the same dump
 # but for the units' offsets; where a unit isn't of version 5 nothing is copied. Of the ELF file that
 # the sections are from each command must answer and write the same as of the sections, of which units of version 5 alone

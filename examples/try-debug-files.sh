@@ -1,5 +1,5 @@
 #!/usr/bin/env bash
-# try-debug-files [PATH OF dwline]: files whose line table stands in another one, which is found by their build ID, by their
+# try-debug-files.sh [PATH OF dwline]: files whose line table stands in another one, which is found by their build ID, by their
 # debug link or in a cache of debuginfod. What each command prints of them is compared with what it prints of the other one.
 # Pairs are made by GNU objcopy.
 set -euo pipefail
@@ -142,5 +142,5 @@ for name in 'a/rogram.debug' '..\0gram.debug' '.\0ogram.debug' '\0rogram.debug';
     says 1 /dev/null "dwline: $work/bin/named: no section .debug_line"$'\n' check "$work/bin/named"
 done
 
-echo "try-debug-files: $passed passed, $failed failed"
+echo "try-debug-files.sh: $passed passed, $failed failed"
 [ "$failed" = 0 ]

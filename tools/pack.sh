@@ -3,7 +3,7 @@
 # out/boxantrel-VERSION-x86_64-linux.tar.gz, and where dpkg-deb is installed into out/boxantrel_VERSION_amd64.deb.
 # The same files give the same bytes.
 #
-# Usage: tools/pack VERSION
+# Usage: tools/pack.sh VERSION
 set -euo pipefail
 cd "$(dirname "$0")/.."
 export LC_ALL=C TZ=UTC SOURCE_DATE_EPOCH=0

@@ -1,5 +1,5 @@
 #!/usr/bin/env bash
-# try-dwline [PATH OF dwline]: the options of the commands, and what stops the program, each with
+# try-dwline.sh [PATH OF dwline]: the options of the commands, and what stops the program, each with
 # the status and the texts that are wanted. Rows and files are those of the expected dumps.
 set -euo pipefail
 dwline=$(realpath "${1-$(dirname "$0")/../crates/dwline/out/dwline}")
@@ -317,7 +317,7 @@ assert lines == [
         echo "python3 reads other objects" >&2
     fi
 else
-    echo "try-dwline: python3 isn't installed, so what reads JSON wasn't tried"
+    echo "try-dwline.sh: python3 isn't installed, so what reads JSON wasn't tried"
 fi
 
 # Sequences that begin outside the executable section, which ends inside the first sequence here. They answer where
@@ -391,14 +391,14 @@ wants 0 "0x0000000000401000 series.c:8:23
 " "" "$work/addresses" addr -a -s $program
 wants 0 "" "" /dev/null addr $program
 wants 3 "" $'dwline: cannot read the input\n' / addr $program
-wants 1 "" $'dwline: try-dwline: not an ELF file\n' / addr try-dwline
+wants 1 "" $'dwline: try-dwline.sh: not an ELF file\n' / addr try-dwline.sh
 # A file that can't be read for its line table has no answer to any of them, and lines and answers stay in step.
 printf '0x401000\n\nmain\n1\n' > "$work/line"
-wants 1 $'??:0\n??:0\n??:0\n' $'dwline: try-dwline: not an ELF file\n' "$work/line" addr try-dwline
+wants 1 $'??:0\n??:0\n??:0\n' $'dwline: try-dwline.sh: not an ELF file\n' "$work/line" addr try-dwline.sh
 wants 3 $'??:0\n??:0\n??:0\n' $'dwline: no/such/file: cannot open: No such file or directory (os error 2)\n' \
     "$work/line" addr no/such/file
 wants 1 $'{"address":"0x0000000000401000"}\n{"address":null}\n{"address":"0x0000000000000001"}\n' \
-    $'dwline: try-dwline: not an ELF file\n' "$work/line" addr --json try-dwline
+    $'dwline: try-dwline.sh: not an ELF file\n' "$work/line" addr --json try-dwline.sh
 # The file behind -e; all other words are addresses then.
 wants 0 "$series:8:23
 $series:6:9
@@ -640,7 +640,7 @@ answer_of() {
     [ "$1" != addr ] || printf '??:0\n.'
 }
 head -c 5000 gcc-powerpc/program > "$work/cut"
-cp try-dwline "$work/a"$'\nb\\x7f\177\303\251'
+cp try-dwline.sh "$work/a"$'\nb\\x7f\177\303\251'
 head -c 51 gcc-powerpc/program > "$work/headless"
 # The same without section headers: e_shoff is 0.
 { head -c 32 $file; printf '\0\0\0\0'; tail -c +37 $file; } > "$work/no_sections"
@@ -650,7 +650,7 @@ for command in addr dump check "find 1" copy; do
     none=${none%.}
     wants 3 "$none" $'dwline: no/such/file: cannot open: No such file or directory (os error 2)\n' / $command no/such/file $address
     wants 3 "$none" $'dwline: sources: cannot read: Is a directory (os error 21)\n' / $command sources $address
-    wants 1 "$none" $'dwline: try-dwline: not an ELF file\n' / $command try-dwline $address
+    wants 1 "$none" $'dwline: try-dwline.sh: not an ELF file\n' / $command try-dwline.sh $address
     wants 1 "$none" $'dwline: /dev/null: not an ELF file\n' / $command /dev/null $address
     wants 1 "$none" "dwline: $work/headless: not an ELF file"$'\n' / $command "$work/headless" $address
     wants 1 "$none" "dwline: $work/cut: damaged ELF file: section headers"$'\n' / $command "$work/cut" $address
@@ -807,5 +807,5 @@ wants 0 $'dwline 0.1.0\n' "" / --version
 wants 0 "$("$dwline" find --help)"$'\n' "" / help find
 wants 0 $'dwline 0.1.0\n' "" / -V
 
-echo "try-dwline: $passed passed, $failed failed"
+echo "try-dwline.sh: $passed passed, $failed failed"
 [ "$failed" = 0 ]

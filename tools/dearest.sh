@@ -4,7 +4,7 @@
 # by several, it is no less than its share. Where a crate was checked more than once, a pause between two checks counts for the
 # module after it.
 #
-# Usage: tools/dearest [NAME..]      20 modules of these crates, or of all
+# Usage: tools/dearest.sh [NAME..]      20 modules of these crates, or of all
 set -euo pipefail
 cd "$(dirname "$0")/.."
 

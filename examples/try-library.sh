@@ -1,5 +1,5 @@
 #!/usr/bin/env bash
-# try-library [PATH OF dwline]: over the library that `make lib` has built, the examples in C, Rust and Python print of
+# try-library.sh [PATH OF dwline]: over the library that `make lib` has built, the examples in C, Rust and Python print of
 # each section of examples/ what `dwline check` prints, the rows that `dwline dump` prints, what `dwline copy` writes,
 # and for the address of each row the row that `dwline find` prints and the location that `dwline addr` prints; where a
 # section is damaged they say the same of it, after the same rows and locations; with --keep-going they count what `dwline
@@ -12,7 +12,7 @@ set -euo pipefail
 dwline=$(realpath "${1-$(dirname "$0")/../crates/dwline/out/dwline}")
 cd "$(dirname "$0")/.."
 if ! [ -e out/libboxantrel.a ]; then
-    echo "try-library: the library isn't built (make lib), so nothing is tried" >&2
+    echo "try-library.sh: the library isn't built (make lib), so nothing is tried" >&2
     exit 0
 fi
 work=$(mktemp -d)
@@ -21,7 +21,7 @@ names=
 
 is_installed() {
     if ! command -v "$1" > /dev/null; then
-        echo "try-library: $1 isn't installed; what needs it is passed over" >&2
+        echo "try-library.sh: $1 isn't installed; what needs it is passed over" >&2
         return 1
     fi
 }
@@ -331,4 +331,4 @@ for name in $names; do
     "index_$name" examples/gcc-O2/program | cmp - "$work/index.wanted"
     "readme_$name" examples/gcc-O2/debug_line examples/gcc-O2/debug_line_str | cmp - "$work/readme.wanted"
 done
-echo "try-library: all agree"
+echo "try-library.sh: all agree"

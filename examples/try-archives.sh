@@ -1,5 +1,5 @@
 #!/usr/bin/env bash
-# try-archives [PATH OF dwline]: archives and members of archives as FILE, and several files of check. What is printed of a member
+# try-archives.sh [PATH OF dwline]: archives and members of archives as FILE, and several files of check. What is printed of a member
 # is compared with what is printed of the same file by itself. Archives are made by GNU ar, and one with BSD names by hand.
 set -euo pipefail
 dwline=$(realpath "${1-$(dirname "$0")/../crates/dwline/out/dwline}")
@@ -89,6 +89,19 @@ alike() {
     says "$status" "$(cat why)${nl:0:$(wc -l < why)}" "$3" "${words[@]/#@/$2($1)}"
 }
 
+# The line before the first member can't be written.
+for command in dump check; do
+    status=0
+    "$dwline" $command lib.a > /dev/full 2> errors || status=$?
+    if [ $status = 3 ] && cmp -s errors <(echo "dwline: cannot write the output"); then
+        passed=$((passed + 1))
+    else
+        failed=$((failed + 1))
+        echo "dwline $command lib.a > /dev/full: status $status" >&2
+        cat errors >&2
+    fi
+done
+
 # A member by its name.
 printf '0\n0x1\n' > addresses
 for archive in lib.a thin.a bsd.a; do
@@ -147,5 +160,5 @@ says 0 "" /dev/null check linked lib.a "thin.a(gcc.o)"
 "$dwline" check --progress linked linked 2> /dev/null > output
 [ "$(wc -l < output)" = 2 ] && passed=$((passed + 1)) || failed=$((failed + 1))
 
-echo "try-archives: $passed passed, $failed failed"
+echo "try-archives.sh: $passed passed, $failed failed"
 [ "$failed" = 0 ]

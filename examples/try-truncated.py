@@ -1,7 +1,7 @@
 #!/usr/bin/env python3
 """Dumps ELF files that end early: at each byte of their headers, and at some of their other bytes.
 
-    try-truncated [PATH OF dwline]
+    try-truncated.py [PATH OF dwline]
 
 Each must give the dump of the whole file, or one line with a fault of the file and nothing else. Where
 the section headers and their names come first, the dump is whole as soon as the wanted sections are.

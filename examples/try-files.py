@@ -1,7 +1,7 @@
 #!/usr/bin/env python3
 """Runs dwline over ELF files that are made by hand from the tables of the System V ABI, well-formed and damaged.
 
-    try-files [PATH OF dwline]
+    try-files.py [PATH OF dwline]
 
 Each case is a file, words, the input, and the status, the output, the line of standard error and the bytes of the input
 that are left, as the specifications give them. Nothing of it is taken from dwline."""
@@ -47,7 +47,7 @@ def main():
                     failed += 1
                     print(f"{group.__name__}: {case.name}: dwline {' '.join(case.words)}: {found}, "
                           f"wanted {case.wanted()}", file=sys.stderr)
-    print(f"try-files: {passed} passed, {failed} failed")
+    print(f"try-files.py: {passed} passed, {failed} failed")
     sys.exit(failed != 0)
 
 

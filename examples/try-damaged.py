@@ -1,7 +1,7 @@
 #!/usr/bin/env python3
 """Dumps, checks and looks into line sections of which one byte is changed, each byte in turn, past damaged units.
 
-    try-damaged [PATH OF dwline]
+    try-damaged.py [PATH OF dwline]
 
 The unit that the byte belongs to may be damaged, or say something else. The units before it are told as before, and so
 are those after it, but where the byte is of its initial length: from there on the section may be cut otherwise. Each

@@ -1,7 +1,7 @@
 #!/usr/bin/env python3
 """Compares each FOLDER/expected.dump (all folders here, if none is named) with what llvm-dwarfdump
 and readelf make of its file `program`: offsets, formats, directories, files and every row.
-`compare-with-peers --dump FILE` prints what llvm-dwarfdump makes of an ELF file, in the form of `dwline dump`.
+`compare-with-peers.py --dump FILE` prints what llvm-dwarfdump makes of an ELF file, in the form of `dwline dump`.
 Debian 12: apt-get install llvm binutils. It was used with llvm-dwarfdump 14 and readelf 2.40."""
 import os
 import re

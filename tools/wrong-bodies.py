@@ -8,8 +8,8 @@ An edit changes the body of one function, and a function is proved by the contra
 different functions of a crate are made at once, and these functions alone are checked, with those that they call. Where
 no goal of an edit's own function is refused, the edit is tried by itself, and then on the whole crate.
 
-Usage: tools/wrong-bodies [NAME..]      of these crates, or of all
-       tools/wrong-bodies --of COMMIT   those of one crate in four, which the commit chooses, and those in `always` of
+Usage: tools/wrong-bodies.py [NAME..]      of these crates, or of all
+       tools/wrong-bodies.py --of COMMIT   those of one crate in four, which the commit chooses, and those in `always` of
                                         each crate, but for must-fail, whose edits `rt ci` tries
 """
 import importlib.machinery
@@ -95,7 +95,7 @@ def lacking(crates):
 
 def build_libraries(crates):
     for name in lacking(crates):
-        subprocess.run([f"{ROOT}/tools/prove", name], check=True)
+        subprocess.run([f"{ROOT}/tools/prove.sh", name], check=True)
     still = lacking(crates)
     if still:
         sys.exit(f"not built: {' '.join(still)}")

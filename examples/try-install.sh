@@ -1,5 +1,5 @@
 #!/usr/bin/env bash
-# try-install: `make install` puts five files below DESTDIR and PREFIX, with which the program runs and the
+# try-install.sh: `make install` puts five files below DESTDIR and PREFIX, with which the program runs and the
 # man page is found, and four of the library where it is built; `make uninstall` takes these away again and nothing else.
 # `make dist` packs the same files, the same bytes each time.
 set -euo pipefail
@@ -22,7 +22,7 @@ if [ -e out/libboxantrel.a ]; then
 ./stage/opt/own/lib/pkgconfig/boxantrel.pc'
     cmp include/boxantrel.h "$work/stage/opt/own/include/boxantrel.h"
 else
-    echo "try-install: the library isn't built (make lib), so it isn't installed" >&2
+    echo "try-install.sh: the library isn't built (make lib), so it isn't installed" >&2
 fi
 wanted=$(sort << END
 ./stage/opt/own/bin/dwline
@@ -44,14 +44,14 @@ diff <(below) <(echo ./stage/opt/own/bin/other)
 # What is packed holds the same files, and packed again the same bytes.
 version=$("$PWD/crates/dwline/out/dwline" --version)
 version=${version#dwline }
-packed=$(tools/pack "$version" 2> /dev/null)
+packed=$(tools/pack.sh "$version" 2> /dev/null)
 sums=$(sha256sum $packed)
 touch docs/dwline.1
-tools/pack "$version" > /dev/null 2>&1
+tools/pack.sh "$version" > /dev/null 2>&1
 echo "$sums" | sha256sum --quiet --check
 mkdir "$work/unpacked"
 tar -xzf "out/boxantrel-$version-x86_64-linux.tar.gz" -C "$work/unpacked" --strip-components=1
 cmp crates/dwline/out/dwline "$work/unpacked/bin/dwline"
 cmp docs/dwline.1 "$work/unpacked/share/man/man1/dwline.1"
 test -z "$library" || cmp out/libboxantrel.so "$work/unpacked/lib/libboxantrel.so"
-echo "try-install: all files come and go"
+echo "try-install.sh: all files come and go"

@@ -1,7 +1,7 @@
 #!/usr/bin/env python3
 """Makes the index of each ELF file that ships, lists it, and compares what it says with `addr`.
 
-    try-index [PATH OF dwline]
+    try-index.py [PATH OF dwline]
 
 At the first address of each stretch, at its last one, in the midst and around it `addr` answers with the location that
 the list has: asked in its words or line by line, of the file or of its index, and in each form with the same lines. Two

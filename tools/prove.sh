@@ -10,11 +10,11 @@
 # While `rt` works in a crate's folder no other one may use the crates below it. So each crate is proved in a room of
 # its own, a folder out/prove/NAME with links to the files of those below.
 #
-# Usage: tools/prove NAME [JOBS]
+# Usage: tools/prove.sh NAME [JOBS]
 # JOBS: how many crates at a time; as many as there are processors, and for four of them one more, and 4 GiB of memory for
 # each, where it isn't given.
 #
-#        tools/prove --seconds
+#        tools/prove.sh --seconds
 # Writes tools/seconds anew: for each crate the seconds of processor time that its proof from nothing took, by its log. A
 # crate with no log of one keeps its line.
 set -euo pipefail
@@ -281,7 +281,7 @@ if [[ ${1-} == --seconds ]]; then
     echo "$lines" > "$TABLE"
     exit
 fi
-[[ $# -gt 0 && -n ${below[$1]+is} ]] || { echo "Usage: tools/prove NAME [JOBS]" >&2; exit 2; }
+[[ $# -gt 0 && -n ${below[$1]+is} ]] || { echo "Usage: tools/prove.sh NAME [JOBS]" >&2; exit 2; }
 add "$1"
 sort_by_work
 rm -rf out/prove

@@ -1,7 +1,7 @@
 #!/usr/bin/env python3
 """Measures how the work, the memory and the stack that dwline takes grow with its input.
 
-    try-growth [PATH OF dwline]
+    try-growth.py [PATH OF dwline]
 
 Work: each run of growth_cases.py takes for twice the input at most 2.3 times the instructions. They are counted by valgrind;
 where that isn't installed, it is the time of the processor, over larger inputs, the least of alternate rounds. Memory: each
@@ -143,15 +143,15 @@ def main():
     dwline = os.path.abspath(sys.argv[1] if len(sys.argv) > 1 else os.path.join(HERE, "../crates/dwline/out/dwline"))
     rooms = ROOMS if TIME else []
     if not rooms:
-        print("try-growth: time isn't installed, so no memory was measured")
+        print("try-growth.py: time isn't installed, so no memory was measured")
     with ThreadPoolExecutor(os.cpu_count() if VALGRIND else 1) as tasks:
         told = [*tasks.map(lambda case: try_work(dwline, case), CASES)]
     # One after the other: a room has files of 64 MB, and what has little stack isn't started beside others.
     told += [try_room(dwline, room) for room in rooms] + [try_depth(dwline, depth) for depth in DEPTHS]
     wrong = [line for lines in told for line in lines]
     for line in wrong:
-        print(f"try-growth: {line}", file=sys.stderr)
-    print(f"try-growth: {len(CASES)} inputs and twice as much, {sum(len(it.runs) for it in rooms)} runs for their memory, "
+        print(f"try-growth.py: {line}", file=sys.stderr)
+    print(f"try-growth.py: {len(CASES)} inputs and twice as much, {sum(len(it.runs) for it in rooms)} runs for their memory, "
           f"{sum(len(it.runs) for it in DEPTHS)} for their stack: {len(wrong)} failed")
     return 1 if wrong else 0
 

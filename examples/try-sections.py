@@ -2,7 +2,7 @@
 """Worked sections on standard input: what each command writes and tells of them, whole and cut off at each byte, of
 damage at a byte, of copies that are read again, and where the output takes less than all.
 
-    try-sections [PATH OF dwline]
+    try-sections.py [PATH OF dwline]
 
 The cases stand in sections/. What is wanted of them is what DWARF 5 says of the bytes."""
 import os
@@ -169,7 +169,7 @@ def main():
     failures = [failure for failure in told if failure]
     for line in failures[:20]:
         print(line, file=sys.stderr)
-    print(f"try-sections: {len(told) - len(failures)} passed, {len(failures)} failed")
+    print(f"try-sections.py: {len(told) - len(failures)} passed, {len(failures)} failed")
     return 1 if failures else 0
 
 

@@ -1,5 +1,5 @@
 #!/usr/bin/env bash
-# try-documents [PATH OF dwline]: each command, option and value that the help names stands in the man
+# try-documents.sh [PATH OF dwline]: each command, option and value that the help names stands in the man
 # page and in the completions of each shell, the version is everywhere the same, and man and the shells
 # read these files without a complaint; each file of lemmas stands in the map of the proofs, and the
 # program of crates/list_rows in the README; no code names mem::forget or ManuallyDrop. What isn't installed is
@@ -14,7 +14,7 @@ checked() {
         passed=$((passed + 1))
     else
         failed=$((failed + 1))
-        echo "try-documents: $2" >&2
+        echo "try-documents.sh: $2" >&2
     fi
 }
 
@@ -123,7 +123,7 @@ checks() {
         [ -z "$said" ] || status=1
         checked $status "$* says $said"
     else
-        echo "try-documents: $1 isn't installed, so \"${*:2}\" wasn't tried"
+        echo "try-documents.sh: $1 isn't installed, so \"${*:2}\" wasn't tried"
     fi
 }
 checks man man -l --warnings docs/dwline.1
@@ -132,5 +132,5 @@ checks bash bash -n completions/dwline.bash
 checks zsh zsh -n completions/_dwline
 checks fish fish -n completions/dwline.fish
 
-echo "try-documents: $passed passed, $failed failed"
+echo "try-documents.sh: $passed passed, $failed failed"
 [ "$failed" = 0 ]
