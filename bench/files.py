@@ -2,10 +2,10 @@
 """Measures dwline over an ELF file against the bytes of its section, over object files with 100,000
 relocations against their sections with these applied, and over 100,000 sections.
 
-    bench/files [PATH OF dwline]
+    bench/files.py [PATH OF dwline]
 
 Times are user and system time, the least of ROUNDS alternate runs with the output thrown away;
-instructions are callgrind's, where valgrind is installed. `bench/run` builds the section first. The first object file
+instructions are callgrind's, where valgrind is installed. `bench/run.py` builds the section first. The first object file
 is what `ld -r` makes of sample.cc, compiled many times by g++ at -O0 and -O2: a relocation for each sequence. The second
 has as many sequences of 13 rows, each in a section of its own. The third
 is one for RISC-V (apt-get install binutils-riscv64-linux-gnu), whose linker may shorten code: each row but the first
@@ -133,7 +133,7 @@ def main():
     dwline = os.path.abspath(sys.argv[1] if len(sys.argv) > 1
                              else os.path.join(HERE, "../crates/dwline/out/dwline"))
     if not os.path.exists(os.path.join(OUT, "strings")):
-        sys.exit("run bench/run first: it builds the section")
+        sys.exit("run bench/run.py first: it builds the section")
     os.chdir(OUT)
     linked()
     many()

@@ -1,7 +1,7 @@
 #!/usr/bin/env python3
 """Measures what `dwline addr` keeps of paths: time and peak memory for sections that it makes.
 
-    bench/paths [PATH OF dwline]
+    bench/paths.py [PATH OF dwline]
 
 - One unit of 20,000 files, all in one directory whose name has 100,000 bytes, which stands in the unit's own table, and
   the same with the name in .debug_line_str.

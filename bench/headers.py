@@ -1,7 +1,7 @@
 #!/usr/bin/env python3
 """Counts dwline's instructions for each byte of a header, and measures what it holds for one.
 
-    bench/headers [PATH OF dwline]
+    bench/headers.py [PATH OF dwline]
 
 Four sections are made, whose headers are nearly all of their bytes: file tables as clang writes them
 (offset, number, MD5 sum), as gcc does (offset, number), and with texts in place of offsets; and tables of version 4, in

@@ -2,15 +2,15 @@
 """Compares the answers of `dwline addr` with those of llvm-symbolizer, addr2line and eu-addr2line, and
 measures their times and memory in one run.
 
-    bench/addr [PATH OF dwline]
+    bench/addr.py [PATH OF dwline]
 
 The answers are those for a few thousand addresses made from the rows of the linked program that
-`bench/run` builds: where rows begin, between them, the last bytes that they cover, the ends of
+`bench/run.py` builds: where rows begin, between them, the last bytes that they cover, the ends of
 sequences and the gaps behind them. Paths are compared as they are once `.` and `..` are taken out of
 them, and lines; each difference is counted under its reason, and the first few are printed.
 
 The times are those for ADDRESSES addresses of that program, half of them asked for twice, and, of
-dwline alone, for the 1.7 million rows that `bench/files` puts into a linked file.
+dwline alone, for the 1.7 million rows that `bench/files.py` puts into a linked file.
 Debian 12: apt-get install time llvm binutils elfutils; a peer that isn't installed is said and left
 out."""
 import os
@@ -182,7 +182,7 @@ def main():
     dwline = os.path.abspath(sys.argv[1] if len(sys.argv) > 1
                              else os.path.join(HERE, "../crates/dwline/out/dwline"))
     if not os.path.exists(os.path.join(OUT, "sample")):
-        sys.exit("run bench/run first, which builds the program that is looked into")
+        sys.exit("run bench/run.py first, which builds the program that is looked into")
     os.chdir(OUT)
     peers = {}
     for name, words in PEERS.items():

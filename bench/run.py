@@ -1,7 +1,7 @@
 #!/usr/bin/env python3
 """Measures dwline's time and memory against baseline.c, readelf and llvm-dwarfdump.
 
-    bench/run [PATH OF dwline]
+    bench/run.py [PATH OF dwline]
 
 Times are user and system time, the least of ROUNDS alternate runs (of find and copy BESIDE_CHECK) with
 the output thrown away.

@@ -1,9 +1,9 @@
 #!/usr/bin/env python3
 """Measures the making of an index, its size and look-up in it, beside `dwline check`, GSYM and a plain search in C.
 
-    bench/index [PATH OF dwline]
+    bench/index.py [PATH OF dwline]
 
-The files are the linked program that `bench/run` builds, and the 1.7 million rows that `bench/files` puts into a linked
+The files are the linked program that `bench/run.py` builds, and the 1.7 million rows that `bench/files.py` puts into a linked
 file, which has no code, so that each sequence counts (`--all`). Of both must be there. Times are user and system time, the
 least of ROUNDS alternate runs; instructions are callgrind's. Memory is the peak resident size above that of `dwline check`.
 
@@ -225,7 +225,7 @@ def main():
                              else os.path.join(HERE, "../crates/dwline/out/dwline"))
     os.makedirs(OUT, exist_ok=True)
     os.chdir(OUT)
-    for file, more, script in [("sample", [], "bench/run"), ("linked.elf", ["--all"], "bench/files")]:
+    for file, more, script in [("sample", [], "bench/run.py"), ("linked.elf", ["--all"], "bench/files.py")]:
         if not os.path.exists(file):
             print(f"{file}: run {script} first, which builds it")
             continue

@@ -1,6 +1,6 @@
 #!/usr/bin/env bash
 # library [PATH OF dwline]: the instructions (by callgrind) of dl_check and of dl_find_all for 10,000 addresses, over the
-# library that `make lib` has built, beside those of `dwline check` and `dwline addr`, on the section that bench/run
+# library that `make lib` has built, beside those of `dwline check` and `dwline addr`, on the section that bench/run.py
 # builds; and the library's size.
 set -euo pipefail
 dwline=$(realpath "${1-$(dirname "$0")/../crates/dwline/out/dwline}")
