@@ -1,7 +1,7 @@
 -- Lines that are read byte by byte.
-use Rattle.std.proofs.Common.{◌≡◌, ℕ, suc, ◌+◌, ◌%◌, ◌<◌, ◌≤◌, ◌^◌, Bool, true, false, ◌==◌, if◌then◌else◌, List, []}
+use Rattle.std.proofs.Common.{◌≡◌, ℕ, suc, ◌+◌, ◌%◌, ◌<◌, ◌≤◌, ◌^◌, Bool, true, false, ◌==◌, if◌then◌else◌, List, [], ap₂}
 use Rattle.std.proofs.Common.{◌∷◌, ◌++◌, length, Option, Some, None, arith, refl, sym, ap}
-use Rattle.std.proofs.Common.{ap₂, ◌∙◌, append-nil, append_assoc, subst}
+use Rattle.std.proofs.Common.{◌∙◌, append-nil, append_assoc, subst}
 use Rattle.std.specs.Prelude.{◌||◌, option_map}
 use Rattle.std.specs.List.{list_any}
 use Rattle.std.specs.Option.{option_or}
@@ -54,22 +54,6 @@ and_asked_front (Some a) xs = refl
 or_none : (o : Option NumberedWord) → option_or o None ≡ o
 or_none None = refl
 or_none (Some n) = refl
-
--- nothing was read
-pub nothing_read : (hex : Bool) (s : CurrentLine) → s.base ≡ base_of hex → s.line ≡ new_line → s.number ≡ 1 → s.word ≡ []
-    → s.no_address ≡ None → HasRead hex [] [] s
-nothing_read hex s own line number word none = record {
-  ended = refl;
-  stands = record {
-    own = own;
-    asked = λ rest. ap (λ l. asked_from (base_of hex) l rest) (sym line);
-    counted = λ few. (omega (arith, number));
-    no_address =
-        λ few rest. ap₂ (λ l n. no_address_from (base_of hex) l n [] rest) (sym line) (sym number)
-        ∙ ap₂ (λ w o. option_or (option_map other_line_seen o) (no_address_from (base_of hex) s.line s.number w rest))
-        (sym word) (sym none);
-  };
-}
 
 -- the current line takes a byte
 pub byte_taken : (hex : Bool) (done : List ℕ) (c : ℕ) (asked : List Asked) (old new : CurrentLine)

@@ -6,13 +6,12 @@ use Rattle.std.proofs.lemmas.List.{take_all, take_more}
 use Rattle.std.specs.Prelude.{◌&&◌, is_some, option_map, OnOk}
 use Rattle.std.specs.Io.KnownBytes.{Appends}
 use Rattle.std.specs.List.{list_all}
-use Rattle.std.proofs.KnownBytes.{Appends-nil}
 use Rattle.std.proofs.lemmas.Grind.{flat_map-append}
 use Rattle.std.proofs.lemmas.List.Folds.{list_all-append}
 use Rattle.dl_print.specs.Output.{Flushes, HasPrinted, Prints, TellsOut}
 use Rattle.dl_print.specs.Printed.{Printed}
 use Rattle.dl_print.specs.declared.fault.WriteFault.{WriteFault}
-use Rattle.dl_print.proofs.Outs.{HasPrinted-nothing, HasPrinted-out}
+use Rattle.dl_print.proofs.Outs.{HasPrinted-out}
 use Rattle.dl_look.specs.declared.asked.Asked.{Asked}
 use Rattle.dl_addr.specs.Commands.{is_answered}
 use Rattle.dl_addr.specs.Location.{Location}
@@ -117,16 +116,6 @@ flushes_all m start now later asked p q s r stands flushes empty =
         HasPrinted-out start later (lines_by m asked) q printed empty,
       )
       by (Err lost) out empty = (asked, [], sym (append-nil asked), out)
-
--- nothing was asked yet
-pub nothing_asked : (m : Manner) (start : Option (List ℕ)) (p : Printed) (s : Answers) → s.style ≡ m.style
-    → s.base ≡ m.base → s.found ≡ All → p.pending ≡ [] → p.out ≡ 0 → Stands m start start [] p s
-nothing_asked m start p s style base found pending out = record {
-  style = style;
-  base = base;
-  found = found;
-  printed = HasPrinted-nothing start start p (Appends-nil start) pending out;
-}
 
 -- more is asked than what was answered
 pub stops_more : (m : Manner) (Fails : TellFault → Type 0) (start now : Option (List ℕ)) (asked more : List Asked)

@@ -1,6 +1,6 @@
 -- What is kept of directories, and of one entry more.
 use Rattle.std.proofs.Common.{◌≡◌, ◌⊎◌, inl, inr, ℕ, zero, suc, ◌+◌, ◌-◌, ◌<◌, ◌≤◌, Bool, true, false, cond, List, [], ◌∷◌, ◌++◌, length}
-use Rattle.std.proofs.Common.{take, drop, slice_get, Option, Some, None, refl, sym, ap, subst, ◌∙◌, arith, append_assoc}
+use Rattle.std.proofs.Common.{take, drop, slice_get, Option, Some, None, refl, sym, ap, subst, ◌∙◌, arith}
 use Rattle.std.proofs.Common.{length-append, length-drop, length-take, eqb}
 use Rattle.std.specs.Prelude.{◌==◌, ◌&&◌, option_map, Result, Ok, Err, IfErr, OnOk}
 use Rattle.std.specs.BTreeMap.{Updates, get}
@@ -33,9 +33,6 @@ pub some_same : {A : Type 0} (a b : A) → ◌≡◌ {A = Option A} (Some a) (So
 some_same a b e = cc
 
 -- ---- extents
-
-pub grows_on : (a b c : List ℕ) → Grows a b → Grows b c → Grows a c
-grows_on a b c (x, e) (y, f) = (x ++ y, f ∙ ap (λ (l : List ℕ). l ++ y) e ∙ append_assoc a x y)
 
 pub extent_stays : (old new : List ℕ) (e : Extent) → Grows old new → IsIn old e → IsExtent new e (bytes_of old e)
 extent_stays old new e (more, is) within =
@@ -335,15 +332,3 @@ has_more es more (offset, e, is) = by (saying offset es) refl where
   by : (o : Option EntryData) → saying offset es ≡ o → HasDirectory (es ++ more)
   by None none = (offset, e, find-append (says offset) es more ∙ (ap (λ o. option_or o (saying offset more)) none ∙ is))
   by (Some f) some = (offset, f, find-append (says offset) es more ∙ ap (λ o. option_or o (saying offset more)) some)
-
-pub some_kept : (p : Places) (es : List EntryData) → Holds p es → 1 ≤ length p.entries.items → HasDirectory es
-some_kept p es h some = by (slice_get p.entries.items 0) refl where
-  by : (k : Option Kept) → slice_get p.entries.items 0 ≡ k → HasDirectory es
-  by None is = absurd (has_get p.entries.items 0 (omega (arith, some)) is)
-  by (Some k) is = (
-    k.offset,
-    kept_entry p.bytes.items k,
-    sym (h.value k.offset)
-        ∙ (ap (entry_in p.bytes.items p.entries.items) (h.kept 0 k is).0
-        ∙ ap (option_map (kept_entry p.bytes.items)) is),
-  )

@@ -1,5 +1,5 @@
 -- No more is kept of a walk than the bytes that it has taken.
-use Rattle.std.proofs.Common.{◌≡◌, ℕ, ◌+◌, ◌≤◌, List, [], ◌++◌, length, min, Result, Ok, Err, refl, sym, subst, ◌∙◌, arith}
+use Rattle.std.proofs.Common.{◌≡◌, ℕ, ◌+◌, ◌≤◌, List, ◌++◌, length, min, Result, Ok, Err, refl, sym, subst, ◌∙◌, arith}
 use Rattle.std.specs.Prelude.{OnErr}
 use Rattle.dl_memory.specs.Refusals.{IsRefused}
 use Rattle.dl_num.specs.declared.fixed.Order.{Order}
@@ -58,12 +58,6 @@ keeps_more places front taken later le k =
 pub begun_keeps : (walk : Walk) (awaited taken : ℕ) → walk.state ≡ state.Begun awaited → Keeps walk taken
     → KeepsWith walk.places walk.front.items taken
 begun_keeps walk awaited taken is k =
-    subst (λ (s : State). KeepsWith walk.places (begun s walk.front.items) taken) is k
-
--- or none are
-pub body_keeps : (walk : Walk) (left taken : ℕ) → walk.state ≡ state.Body left → Keeps walk taken
-    → KeepsWith walk.places [] taken
-body_keeps walk left taken is k =
     subst (λ (s : State). KeepsWith walk.places (begun s walk.front.items) taken) is k
 
 -- a unit was read from its first bytes u

@@ -79,9 +79,6 @@ spelled order b l is =
       alone = λ c. (length_is_spelled order (s.0 ++ c) l).1 (s.0, c, refl, s.3);
     }
 
-same_found : (l k : UnitLength) → ◌≡◌ {A = Answer UnitLength} (Found l) (Found k) → l ≡ k
-same_found l k e = cc
-
 -- one byte more makes no length of bytes that go past the unit
 pub one_more : (order : Order) (front more : List ℕ) (l : UnitLength) → unit_length order front ≡ More
     → length more ≤ 1 → unit_length order (front ++ more) ≡ Found l → length (front ++ more) ≤ l.size
@@ -112,10 +109,6 @@ after_same : (f g : UnitLength → List EntryData) (u : Answer UnitLength) → (
 after_same f g (Found l) same = same l refl
 after_same f g More same = refl
 after_same f g Unreadable same = refl
-
-found_none : (order : Order) (abbreviations b : List ℕ) → unit_length order b ≡ More
-    → found_in (first_entry order abbreviations b) ≡ []
-found_none order abbreviations b is = rw is refl
 
 shorter : (order : Order) (b : List ℕ) (l : UnitLength) (n : ℕ) → unit_length order b ≡ Found l → length b ≤ suc n
     → length (drop l.size b) ≤ n

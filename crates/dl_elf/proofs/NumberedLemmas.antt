@@ -57,12 +57,6 @@ none_more p n from none fails =
     ∙ (ap (λ o. or_else o (if p (suc (n - 1)) then Some (suc (n - 1)) else None)) none
     ∙ (ap (λ k. if p k then Some k else None) back ∙ rw fails refl))
 
--- all were looked at
-pub none_whole : (p : ℕ → Bool) (n count : ℕ) → n - 1 ≤ count - 1 → count ≤ n
-    → ◌≡◌ {A = Option ℕ} (first_upto p (n - 1)) None → ◌≡◌ {A = Option ℕ} (first_upto p (count - 1)) None
-none_whole p n count within past none =
-    let end : count - 1 ≡ n - 1 = omega (arith, within, past) in ap (first_upto p) end ∙ none
-
 -- ---- names
 
 -- a list and a text that are the same so far, and in the next item

@@ -1,19 +1,17 @@
 -- The tables of version 5 that are made of older ones, entry by entry.
-use Rattle.std.proofs.Common.{◌≡◌, ℕ, zero, suc, ◌+◌, ◌^◌, ◌<◌, Bool, true, false, cond, eqb, List, [], ◌∷◌, ◌++◌, map}
+use Rattle.std.proofs.Common.{◌≡◌, ℕ, zero, suc, ◌+◌, ◌^◌, ◌<◌, Bool, true, false, cond, eqb, List, [], ◌∷◌, ◌++◌}
 use Rattle.std.proofs.Common.{take, drop, slice_get, Option, Some, None, option_map, refl, sym, ap, subst, ◌∙◌, arith}
-use Rattle.std.proofs.Common.{append_assoc}
 use Rattle.std.specs.Prelude.{unwrap_or}
 use Rattle.std.specs.List.{AllByRecursion, list_any}
 use Rattle.std.proofs.lemmas.Bool.{eq-eqb, eqb-true, lt-ltb, ne_eqb}
-use Rattle.std.proofs.lemmas.List.{drop_more, map-append, take_more}
-use Rattle.std.proofs.lemmas.Option.{get_or_from_slice_get, slice_get-map, slice_get_within}
+use Rattle.std.proofs.lemmas.List.{drop_more, take_more}
+use Rattle.std.proofs.lemmas.Option.{get_or_from_slice_get, slice_get_within}
 use Rattle.dl_table.specs.declared.form.Format.{Format}
 use Rattle.dl_table.specs.declared.form.Form.{Form}
 use Rattle.dl_table.specs.declared.form.Form.TheVariants as form
 use Rattle.dl_table.specs.declared.table.Pair.{Pair}
 use Rattle.dl_table.specs.Built.{entry_fault, entry_fault_of, fits_form, wrong_value}
 use Rattle.dl_table.specs.EntryData.{value_of, with_content}
-use Rattle.dl_table.specs.Sound.{IsSoundTable}
 use Rattle.dl_table.specs.TableData.{TableData}
 use Rattle.dl_table.specs.Text.{text_in}
 use Rattle.dl_table.specs.Value.{Value, text, line_str, str, str_sup, number, block, data16}
@@ -22,7 +20,7 @@ use Rattle.dl_field.specs.HeaderData.{HeaderData}
 use Rattle.dl_head.specs.Built.{param_fault}
 use Rattle.dl_head.specs.Sound.{IsSoundHeader}
 use Rattle.dl_head.proofs.HeaderSound.{all_good, no_fault, one_operation}
-use Rattle.dl_emit.specs.Conversion.{before_zero, entries_in, file_pairs, kept_numbers, path_in, path_pair, text_or_empty}
+use Rattle.dl_emit.specs.Conversion.{before_zero, file_pairs, kept_numbers, path_in, path_pair, text_or_empty}
 use Rattle.dl_emit.specs.Conversion.{has_number, new_directories, new_files, number_in, to_version_5, version_5_params}
 use Rattle.dl_emit.specs.Texts.{IsText}
 
@@ -38,22 +36,6 @@ module _ {A : Type 0} (xs : List A) (i : ℕ) (x : A) (here : slice_get xs i ≡
   drop_one =
       drop_more xs i x (slice_get_within xs i x here)
       ∙ ap (λ (y : A). y ∷ drop (i + 1) xs) (get_or_from_slice_get xs i x x here)
-
--- the table with what these entries become after its own
-abbrev pub with_entries : {A : Type 0} → (A → List Value) → TableData → List A → TableData
-with_entries f t xs = record t { entries = t.entries ++ map f xs }
-
-pub one_more : {A : Type 0} (f : A → List Value) (t now next : TableData) (xs : List A) (i : ℕ) (x : A)
-    → slice_get xs i ≡ Some x → now ≡ with_entries f t (take i xs)
-    → next ≡ record now { entries = now.entries ++ f x ∷ [] } → next ≡ with_entries f t (take (i + 1) xs)
-one_more f t now next xs i x here so step =
-    rw (
-      step,
-      so,
-      take_one xs i x here,
-      map-append f (take i xs) (x ∷ []),
-      sym (append_assoc t.entries (map f (take i xs)) (f x ∷ [])),
-    ) refl
 
 -- ---- texts
 
@@ -116,22 +98,6 @@ pub right_values : (pairs : List Pair) (o : Option ℕ) → entry_fault_of pairs
 right_values [] o e = absurd cc
 right_values (p ∷ pairs) None e = refl
 right_values (p ∷ pairs) (Some n) e = absurd cc
-
--- the path of an entry of a table has no zero byte
-pub entry_text : (t : TableData) (i : ℕ) (entry : List (ℕ × Value)) → IsSoundTable t
-    → slice_get (entries_in t) i ≡ Some entry → IsText (path_in entry)
-entry_text t i entry sound here = by (slice_get t.entries i) refl where
-  mapped : (o : Option (List Value)) → slice_get t.entries i ≡ o
-      → Some entry ≡ option_map (with_content t.pairs) o
-  mapped o is =
-      sym here ∙ slice_get-map (with_content t.pairs) t.entries i ∙ ap (option_map (with_content t.pairs)) is
-
-  by : (o : Option (List Value)) → slice_get t.entries i ≡ o → IsText (path_in entry)
-  by None is = absurd (none_some entry (mapped None is))
-  by (Some values) is =
-      let right = at_place (λ (vs : List Value). entry_fault t vs ≡ None) t.entries i values sound.entries is in
-      rw (some_same entry (with_content t.pairs values) (mapped (Some values) is))
-      (path_text t.format 0 t.pairs values (right_values t.pairs (wrong_value t.format 0 t.pairs values) right))
 
 -- ---- numbers other than 0
 

@@ -1,16 +1,11 @@
 -- A block of a table whose bytes come at once.
-use Rattle.std.proofs.Common.{Bor, ◌≡◌, ℕ, ◌+◌, List, [], ◌∷◌, ◌++◌, length, take, drop, Option, refl, sym, ap}
+use Rattle.std.proofs.Common.{Bor, ◌≡◌, ℕ, ◌+◌, List, [], ◌∷◌, ◌++◌, length, take, drop, Option, sym, ap}
 use Rattle.std.proofs.Common.{subst, ◌∙◌, arith, append_assoc, length-append}
 use Rattle.std.proofs.lemmas.List.{take_all}
 use Rattle.std.proofs.Math.Seq.{drop-append_seam}
 use Rattle.std.specs.Option.{MatchOption}
 use Rattle.dl_num.proofs.LebFrontLemmas.{answer-map}
 use Rattle.dl_num.specs.declared.fixed.Order.{Order}
-use Rattle.dl_num.specs.declared.leb.Uleb.{Uleb}
-use Rattle.dl_num.specs.declared.partial_number.PartialNumber.{PartialNumber}
-use Rattle.dl_num.specs.Fixed.{fixed}
-use Rattle.dl_num.specs.Leb.{IsUleb}
-use Rattle.dl_num.specs.NumberBytes.{number_size, number_bytes}
 use Rattle.dl_table.specs.declared.form.Format.{Format}
 use Rattle.dl_table.specs.declared.table.held.StoredValue.{StoredValue}
 use Rattle.dl_table.specs.declared.table.held.StoredValue.TheVariants as held
@@ -27,53 +22,17 @@ use Rattle.dl_field.specs.Layout.{Layout, value_is, value_judged, following}
 use Rattle.dl_field.specs.Cells.{begun_cells}
 use Rattle.dl_field.specs.TableStep.{value_filled}
 use Rattle.dl_field.specs.TablePlace.{IsLengthOf, Holds, Summed, InValue, TableAt, reader_cells}
-use Rattle.dl_field.specs.TableMoves.{Adds, GoesOn, SameTable, TableMade, EntersBlock, LebInFront, LengthInFront}
+use Rattle.dl_field.specs.TableMoves.{Adds, GoesOn, SameTable, TableMade, EntersBlock, LengthInFront}
 use Rattle.dl_field.specs.TableMoves.{TakesFront}
-use Rattle.dl_field.proofs.BlockLemmas.{whole_block, length_of, leb_length_of}
+use Rattle.dl_field.proofs.BlockLemmas.{whole_block}
 use Rattle.dl_field.proofs.ByteCells.{bytes_field}
-use Rattle.dl_field.proofs.FieldCells.{begun_with, fixed_unbegun, leb_unbegun}
+use Rattle.dl_field.proofs.FieldCells.{begun_with}
 use Rattle.dl_field.proofs.PairLemmas.{table_at}
 use Rattle.dl_field.proofs.ValueFields.{value_layout, value_field}
 use Rattle.dl_field.proofs.ValueLemmas.{after_value, holds_more, holds_grown, summed-push}
-use Rattle.dl_field.proofs.WholeValues.{in_value, some_byte}
+use Rattle.dl_field.proofs.WholeValues.{in_value}
 
 -- ---- the length at the front of bytes
-
--- a number in LEB128
-pub leb_length_in_front : (order : Order) (u : Uleb) (bytes tail : List ℕ) (n : ℕ) → LebInFront u bytes n tail
-    → LengthInFront order (value.LebBlockLength u) bytes n tail
-leb_length_in_front order u bytes tail n s = record {
-  front = s.front;
-  bytes_are = s.bytes_are;
-  some = some_byte s.front n s.spelt.0;
-  spelt = λ format f pool rest at.
-      let whole : IsUleb (rest ++ s.front) n = subst (λ (l : List ℕ). IsUleb (l ++ s.front) n)
-      (sym (s.none rest at.1)) s.spelt.0 in
-      leb_length_of order f n (rest ++ s.front) at.0 whole s.spelt.1;
-  unbegun = λ format f pool rest at. leb_unbegun f u rest at.0 at.1;
-  filled = λ m. refl;
-  none_due = refl;
-}
-
--- a number of fixed size
-pub fixed_length_in_front : (order : Order) (p : PartialNumber) (bytes front tail : List ℕ) (n : ℕ)
-    → number_bytes p ≡ [] → bytes ≡ front ++ tail → length front ≡ number_size p → n ≡ fixed order front
-    → LengthInFront order (value.BlockLength p) bytes n tail
-fixed_length_in_front order p bytes front tail n new e size is = record {
-  front = front;
-  bytes_are = e;
-  some = omega (arith, size, p.operand.lacks);
-  spelt = λ format f pool rest at.
-      let none : rest ≡ [] = sym at.1 ∙ new in
-      length_of order f (number_size p) n (rest ++ front) at.0 (
-        ap (λ (l : List ℕ). length (l ++ front)) none ∙ size,
-        is ∙ ap (λ (l : List ℕ). fixed order (l ++ front)) (sym none),
-      );
-  unbegun = λ format f pool rest at.
-      fixed_unbegun f (number_size p) rest at.0 (omega (arith, p.operand.lacks, ap length at.1));
-  filled = λ m. refl;
-  none_due = refl;
-}
 
 -- ---- the block is entered
 

@@ -119,7 +119,3 @@ plain_ends None None (Err why) buffer = (tt, tt)
 plain_ends None (Some error) (Err why) buffer = (tt, tt)
 plain_ends (Some bytes) None (Err why) buffer = (tt, tt)
 plain_ends (Some bytes) (Some error) (Err why) buffer = (tt, tt)
-
-pub no_damage : (left : Option (List ℕ)) (result : Result ℕ Error) (buffer : List ℕ)
-    → EndsBy (Some None) left None result buffer
-no_damage left result buffer = plain_ends left None result buffer

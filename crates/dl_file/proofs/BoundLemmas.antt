@@ -36,10 +36,6 @@ pub grows_one : (number : ℕ) (s : SectionHeader) (each : ℕ) (before after : 
     → length after ≤ length before + each → GrowsBy (relocations_in number (Some s)) each before after
 grows_one number s each before after is few = (1, rw is refl, omega (arith, few))
 
-pub grows_none : (number : ℕ) (s : SectionHeader) (each : ℕ) (before : List Placed) → relocates number s ≡ false
-    → GrowsBy (relocations_in number (Some s)) each before before
-grows_none number s each before is = (0, rw is refl, omega arith)
-
 pub grows_at : (e : Elf) (f : List ℕ) (number at : ℕ) (found : Option SectionHeader) (s : SectionHeader)
     (r : Result ⊤ ElfFault) (each : ℕ) (before after : List Placed) → found ≡ Some s → found ≡ section_in e.header f at
     → relocates number s ≡ true → OnOk r (length after ≤ length before + each)

@@ -1,24 +1,23 @@
 -- The bytes of a section, piece by piece, and what the entries of relocations in them make.
-use Rattle.std.proofs.Common.{◌≡◌, ℕ, zero, suc, ◌+◌, ◌-◌, ◌*◌, ◌<◌, ◌≤◌, true, List, [], ◌++◌, take, drop}
-use Rattle.std.proofs.Common.{length, min, option_map, Some, Ok, arith, rules, ap, ◌∙◌, refl, sym, inl, inr, length-append, length-drop, length-take}
+use Rattle.std.proofs.Common.{◌≡◌, ℕ, zero, suc, ◌+◌, ◌-◌, ◌*◌, ◌<◌, ◌≤◌, true, List, ◌++◌, take, drop}
+use Rattle.std.proofs.Common.{length, min, option_map, Some, arith, rules, ap, ◌∙◌, refl, sym, inl, inr, length-append, length-drop, length-take}
 use Rattle.std.specs.Int.{div_ceil}
 use Rattle.std.proofs.lemmas.Bool.{cases_lt}
 use Rattle.std.proofs.lemmas.List.{drop-drop, drop-take, length-take-le, take-append-le, take_all}
-use Rattle.std.proofs.Math.Nat.{div-le_self, mul_assoc, zero-div}
+use Rattle.std.proofs.Math.Nat.{div-le_self, mul_assoc}
 use Rattle.std.proofs.Math.Seq.{take-add, take-take}
 use Rattle.dl_elf.specs.declared.file.Range.{Range}
 use Rattle.dl_elf.specs.declared.section.SectionHeader.{SectionHeader}
 use Rattle.dl_elf.specs.Elf.{bytes_at}
 use Rattle.dl_elf.specs.Sections.{lies_within, range_within, section_bytes, section_range}
-use Rattle.dl_num.specs.declared.fixed.Order.{Order}
 use Rattle.dl_reloc.specs.declared.target.Class.{Class}
 use Rattle.dl_reloc.specs.declared.target.Class.TheVariants.{Bits32, Bits64}
 use Rattle.dl_reloc.specs.declared.target.Form.{Form}
 use Rattle.dl_reloc.specs.declared.target.Form.TheVariants.{Rela, Rel}
 use Rattle.dl_reloc.specs.declared.target.Target.{Target}
 use Rattle.dl_reloc.proofs.CountLemmas.{values_counted}
-use Rattle.dl_reloc.specs.Entries.{AreWholeSymbols, count, entry_size, symbol_size, symbol_values, values_upto}
-use Rattle.dl_reloc.specs.Relocated.{AreWhole, applied_upto, relocated}
+use Rattle.dl_reloc.specs.Entries.{AreWholeSymbols, count, entry_size, symbol_size, symbol_values}
+use Rattle.dl_reloc.specs.Relocated.{AreWhole}
 use Rattle.dl_file.specs.Relocations.{bytes_in, values_in}
 
 -- ---- pieces of bytes
@@ -129,14 +128,6 @@ whole_symbols class i all within =
       length-take-le (i * 24576) all within ∙ (ap (λ k. i * k) piece.1 ∙ sym (mul_assoc i piece.0 size)),
     )
 
--- no bytes have no symbols
-pub no_values : (class : Class) (order : Order) → symbol_values class order [] ≡ []
-no_values class order = ap (values_upto class order []) (zero-div (symbol_size class))
-
--- none change nothing
-pub none_relocated : (t : Target) (form : Form) (symbols b : List ℕ) → relocated t form [] symbols b ≡ Ok b
-none_relocated t form symbols b = ap (λ n. applied_upto t form [] symbols n b) (zero-div (entry_size t.class form))
-
 -- the values of the symbols in all pieces
 pub values_of_section : (r : Range) (s : SectionHeader) (f : List ℕ) (t : Target) (i : ℕ) (values : List ℕ)
     → r ≡ section_range s → range_within (section_range s) f ≡ true → div_ceil r.size 24576 ≤ i
@@ -148,11 +139,6 @@ values_of_section r s f t i values of within past is =
     ∙ sym (ap (option_map (symbol_values t.class t.order)) lies)
 
 -- ---- how many there may be
-
--- a range that lies in the file has no more bytes than the file
-pub range_most : (r : Range) (f : List ℕ) → range_within r f ≡ true → r.size ≤ length f
-range_most r f within =
-    omega (arith, range_long r.offset r.size f within, length-take r.size (drop r.offset f), length-drop r.offset f)
 
 -- nor have pieces of a section
 pub pieces_most : (s : SectionHeader) (f bytes piece : List ℕ) (m n : ℕ) → bytes ≡ take m (section_bytes s f)

@@ -1,9 +1,8 @@
 -- The places that relocations change, one section header further on, and the answer of a file.
-use Rattle.std.proofs.Common.{◌≡◌, ℕ, zero, suc, ◌+◌, ◌-◌, ◌<◌, ◌≤◌, true, false, nat_lt, List, [], ◌∷◌, length, Option}
+use Rattle.std.proofs.Common.{◌≡◌, ℕ, zero, suc, ◌+◌, ◌-◌, ◌<◌, ◌≤◌, false, nat_lt, List, [], length, Option}
 use Rattle.std.proofs.Common.{Some, None, Result, Ok, Err, MatchResult, arith, inl, inr, refl, sym, ap, subst, ◌∙◌}
-use Rattle.std.specs.declared.io.Error.{Error}
 use Rattle.std.specs.Prelude.{IfOk, IfErr}
-use Rattle.std.proofs.lemmas.Bool.{cases_lt, le-ltb, lt-ltb}
+use Rattle.std.proofs.lemmas.Bool.{cases_lt, le-ltb}
 use Rattle.std.proofs.lemmas.Option.{none-some}
 use Rattle.dl_elf.specs.declared.file.Elf.{Elf}
 use Rattle.dl_elf.specs.declared.named.NamedSection.{NamedSection}
@@ -19,10 +18,10 @@ use Rattle.dl_reloc.specs.declared.placed.Placed.{Placed}
 use Rattle.dl_file.specs.LineTable.{line_section, option_or}
 use Rattle.dl_file.specs.OneByOne.{placed_at, placed_if, placed_upto, relocations_at, relocations_in, relocations_upto}
 use Rattle.dl_file.specs.OneByOne.{wide_at, wide_upto}
-use Rattle.dl_file.specs.Relocations.{HasRelocations, and_then, relocation_sections, relocations_of}
-use Rattle.dl_file.specs.Answering.{IsCounted, StopsListing, StopsReading}
+use Rattle.dl_file.specs.Relocations.{HasRelocations, and_then, relocations_of}
+use Rattle.dl_file.specs.Answering.{StopsListing}
 use Rattle.dl_file.specs.Places.{ArePlaces, StopsPlaces, line_places, places_of, places_with}
-use Rattle.dl_file.proofs.ListedLemmas.{listed, none_listed}
+use Rattle.dl_file.proofs.ListedLemmas.{listed}
 use Rattle.dl_file.proofs.LineTableLemmas.{MemoryIsFree, header_free}
 use Rattle.dl_file.proofs.RelocationLemmas.{no_sum, not_one}
 
@@ -112,31 +111,7 @@ listed_to_fault e f line n before first from less so_far next =
     (ap (and_then (placed_at e f line (suc (n - 1)))) so_far
     ∙ (ap (λ k. placed_at e f line k before) back ∙ next))
 
--- all sections were looked at
-pub listed_whole : (e : Elf) (f : List ℕ) (line : NamedSection) (n : ℕ) (b : List Placed) → n - 1 ≤ e.count - 1
-    → e.count ≤ n → placed_upto e f line (n - 1) ≡ Ok b → placed_upto e f line (e.count - 1) ≡ Ok b
-listed_whole e f line n b within past is =
-    let end : e.count - 1 ≡ n - 1 = omega (arith, within, past) in ap (placed_upto e f line) end ∙ is
-
 -- ---- the line section, by how many sections of relocations it has
-
-pub places_without : (e : Elf) (f : List ℕ) (line : NamedSection) (n : ℕ)
-    → relocations_of e f line.number ≡ Some n → n ≡ 0 → line_places e f line ≡ Ok []
-places_without e f line n told none =
-    let l = listed e f line n told in
-    ap (places_with e f line) l.are ∙ by l.sections l.many
-  where
-    by : (sections : List SectionHeader) → length sections ≡ n → places_with e f line (Some sections) ≡ Ok []
-    by [] many = refl
-    by (s ∷ more) many = absurd (omega (arith, many, none))
-
-pub places_refused : (e : Elf) (f : List ℕ) (line : NamedSection) (n : ℕ)
-    → relocations_of e f line.number ≡ Some n → 16 < n
-    → line_places e f line ≡ Err (fault.Damaged (part.Relocations line.name))
-places_refused e f line n told many =
-    let l = listed e f line n told in
-    let past : nat_lt 16 (length l.sections) ≡ true = lt-ltb 16 (length l.sections) (omega (arith, l.many, many)) in
-    ap (places_with e f line) l.are ∙ rw past refl
 
 pub places_listed : (e : Elf) (f : List ℕ) (line : NamedSection) (n : ℕ)
     → relocations_of e f line.number ≡ Some n → ¬ (n ≡ 0) → n ≤ 16
@@ -145,14 +120,6 @@ places_listed e f line n told some few =
     let l = listed e f line n told in
     let past : nat_lt 16 (length l.sections) ≡ false = le-ltb 16 (length l.sections) (omega (arith, l.many, few)) in
     ap (places_with e f line) l.are ∙ rw past (l.placed some)
-
--- a section header isn't there
-pub uncounted_listed : (e : Elf) (f : List ℕ) (line : NamedSection) (Memory : Type 0) (why : ElfFault)
-    → IsCounted (relocations_of e f line.number) (Err why) → StopsListing (line_places e f line) Memory why
-uncounted_listed e f line Memory (fault.Read error) is = tt
-uncounted_listed e f line Memory (fault.Damaged part.SectionHeaders) is =
-    ap (places_with e f line) (none_listed (relocation_sections e f line.number) is)
-uncounted_listed e f line Memory other is = absurd is
 
 -- ---- faults
 
@@ -172,13 +139,6 @@ pub fault_listed : (answer whole : Result (List Placed) ElfFault) (Memory Needed
 fault_listed answer whole Memory Needed (fault.Read error) told needs is = tt
 fault_listed answer whole Memory Needed fault.NoMemory told needs is = needs is
 fault_listed answer whole Memory Needed other told needs is = told is
-
--- a section can't be read
-pub unread_listed : (answer : Result (List Placed) ElfFault) (Fails : Error → Type 0) (why : ElfFault)
-    → StopsReading Fails why → StopsListing answer (Unit {0}) why
-unread_listed answer Fails (fault.Read error) is = tt
-unread_listed answer Fails fault.NoMemory is = tt
-unread_listed answer Fails other is = absurd is
 
 -- ---- a file
 

@@ -1,9 +1,8 @@
 -- The first of candidates one after the other.
-use Rattle.std.proofs.Common.{◌≡◌, ◌++◌, ◌∷◌, [], ℕ, List, Option, Some, None, refl, sym, ap, ◌∙◌, ◌<◌, length, map, drop}
+use Rattle.std.proofs.Common.{◌≡◌, ◌++◌, ◌∷◌, [], ℕ, List, Option, Some, None, refl, sym, ap, ◌∙◌}
 use Rattle.std.specs.List.{All}
 use Rattle.std.specs.declared.io.Error.{Error}
-use Rattle.std.proofs.Common.{◌+◌, ◌≤◌, Bor, add-one, drop-cons, get_or}
-use Rattle.std.proofs.Math.ListN.{drop_of_length-le}
+use Rattle.std.proofs.Common.{◌+◌}
 use Rattle.std.proofs.lemmas.List.{append_assoc}
 use Rattle.std.proofs.lemmas.List.Elements.{All-append, All-cons, All-nil}
 use Rattle.dl_follow.specs.Candidates.{Candidate, IsFirst, IsTaken, PassedOver}
@@ -60,12 +59,3 @@ pub follows_none : (held : List ℕ → Option (List ℕ)) (fails : List ℕ →
     → Follows held fails own all rest → rest ≡ [] → IsFirst held fails own all None
 follows_none held fails own all rest so_far is =
     so_far None (rw is (All-nil (PassedOver held fails own)))
-
--- the candidates of folders, from one on
-pub from_dir : (of : List ℕ → Candidate) (dirs : List (Bor (List ℕ))) (i : ℕ) (d : Bor (List ℕ)) → i < length dirs
-    → map of (map (λ dir. dir.now) (drop i dirs)) ≡ of (get_or dirs i d).now ∷ map of (map (λ dir. dir.now) (drop (i + 1) dirs))
-from_dir of dirs i d h = rw (drop-cons dirs i d h, add-one) refl
-
-pub no_dir : (of : List ℕ → Candidate) (dirs : List (Bor (List ℕ))) (i : ℕ) → length dirs ≤ i
-    → map of (map (λ dir. dir.now) (drop i dirs)) ≡ []
-no_dir of dirs i end = rw (drop_of_length-le dirs end) refl

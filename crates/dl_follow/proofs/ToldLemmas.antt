@@ -1,21 +1,11 @@
 -- The paths that are tried, and the text of the first of them.
-use Rattle.std.proofs.Common.{◌≡◌, ◌<◌, ◌≤◌, ◌∙◌, ℕ, suc, false, List, [], ◌∷◌, ◌++◌, ◌+◌, length, codes, flat_map}
+use Rattle.std.proofs.Common.{◌≡◌, ◌∙◌, ℕ, suc, false, List, [], ◌∷◌, ◌++◌, ◌+◌, length, codes, flat_map}
 use Rattle.std.proofs.Common.{refl, sym, ap, arith, append_assoc, append-nil, length-append}
 use Rattle.std.specs.Prelude.{◌==◌, if◌then◌else◌}
-use Rattle.std.proofs.lemmas.Bool.{le-leb, lt-leb, lt-ltb, ne_eqb}
+use Rattle.std.proofs.lemmas.Bool.{lt-ltb, ne_eqb}
 use Rattle.std.proofs.lemmas.Grind.{flat_map-append}
 use Rattle.dl_open.specs.Shown.{shown_bytes}
-use Rattle.dl_follow.specs.Candidates.{Candidate}
-use Rattle.dl_follow.specs.NotFoundText.{listed, listed_first, tried}
-
--- a candidate whose path is short enough, and one whose path isn't
-pub tried_first : (all : List Candidate) (c : Candidate) (others : List Candidate) → all ≡ c ∷ others → length c.path ≤ 4096
-    → tried all ≡ c.path ∷ tried others
-tried_first all c others is fits = ap tried is ∙ rw (le-leb (length c.path) 4096 fits) refl
-
-pub tried_later : (all : List Candidate) (c : Candidate) (others : List Candidate) → all ≡ c ∷ others → 4096 < length c.path
-    → tried all ≡ tried others
-tried_later all c others is long = ap tried is ∙ rw (lt-leb (length c.path) 4096 long) refl
+use Rattle.dl_follow.specs.NotFoundText.{listed, listed_first}
 
 pub length-more : (done : List (List ℕ)) (path : List ℕ) (told : ℕ) → length done ≡ told → length (done ++ path ∷ []) ≡ told + 1
 length-more done path told is = omega (arith, is, length-append done (path ∷ []))
@@ -44,17 +34,3 @@ listed_cut (a ∷ b ∷ []) path others three = absurd cc
 listed_cut (a ∷ b ∷ c ∷ []) path others three =
     rw (lt-ltb 3 (length (a ∷ b ∷ c ∷ path ∷ others)) (omega arith)) refl
 listed_cut (a ∷ b ∷ c ∷ d ∷ done) path others three = absurd (omega (arith, three))
-
--- there are some, and no more
-pub listed_all : (done : List (List ℕ)) (told : ℕ) → length done ≡ told → told ≤ 3 → (told == 0) ≡ false
-    → listed_first done ≡ listed done
-listed_all [] told is few some = absurd cc
-listed_all (a ∷ []) told is few some = append-nil (listed (a ∷ []))
-listed_all (a ∷ b ∷ []) told is few some = append-nil (listed (a ∷ b ∷ []))
-listed_all (a ∷ b ∷ c ∷ []) told is few some = append-nil (listed (a ∷ b ∷ c ∷ []))
-listed_all (a ∷ b ∷ c ∷ d ∷ done) told is few some = absurd (omega (arith, is, few))
-
--- there are none
-pub listed_none : (done : List (List ℕ)) → length done ≡ 0 → listed_first done ≡ codes "none"
-listed_none [] none = refl
-listed_none (a ∷ done) none = absurd cc

@@ -1,9 +1,8 @@
 -- What the bytes come to once the last one is counted.
 use Rattle.std.proofs.Common.{◌≤◌, ◌≡◌, ◌≢◌, ℕ, ◌+◌, ◌⊎◌, inl, inr, List, [], length, Option, Some, None, refl, sym, ap}
-use Rattle.std.proofs.Common.{Bool, true, false, not, eqb, ◌==◌, subst, ◌∙◌, arith}
-use Rattle.std.proofs.lemmas.Bool.{cases_eq, eq-eqb}
+use Rattle.std.proofs.Common.{subst, ◌∙◌, arith}
+use Rattle.std.proofs.lemmas.Bool.{cases_eq}
 use Rattle.dl_head.specs.declared.dialect.Dialect.{Dialect}
-use Rattle.std.specs.Option.{option_eq}
 use Rattle.dl_head.specs.declared.reader.Phase.{Phase}
 use Rattle.dl_head.specs.declared.reader.Phase.TheVariants as phase
 use Rattle.dl_head.specs.declared.reader.HeadReader.{HeadReader}
@@ -228,9 +227,3 @@ settles_more r new phase.OlderFiles none other same = (λ e. (refl, same), λ e.
 settles_more r new phase.Padding none other same = (λ e. (refl, same), λ e. absurd (other e))
 settles_more r new phase.Done none other same = (λ e. (refl, same), λ e. absurd (other e))
 settles_more r new (phase.Failed f) none other same = (λ e. (refl, same), λ e. absurd (other e))
-
-pub not_ended : (o : Option ℕ) (n : ℕ) (b : Bool) → b ≡ true → b ≡ not (option_eq eqb o (Some n)) → o ≢ Some n
-not_ended o n b t e same =
-    let f : true ≡ not (n == n) = sym t ∙ e ∙ ap (λ (p : Option ℕ). not (option_eq eqb p (Some n))) same in
-    let g : true ≡ false = f ∙ ap not (eq-eqb n n refl) in
-    absurd cc

@@ -1,11 +1,11 @@
 -- Bytes offered in turns, whatever the answers are.
-use Rattle.std.proofs.Common.{◌≡◌, ◌+◌, ◌<◌, ◌≤◌, ◌⊎◌, inl, inr, ℕ, zero, suc, Bool, true, false, List, [], ◌∷◌, ◌++◌}
-use Rattle.std.proofs.Common.{length, min, take, drop, slice_index_or, refl, sym, ap, subst, ◌∙◌, arith, append_assoc}
-use Rattle.std.proofs.Common.{append-nil, length-take, length-drop}
+use Rattle.std.proofs.Common.{◌≡◌, ◌+◌, ◌<◌, ◌≤◌, ◌⊎◌, inl, inr, ℕ, Bool, true, false, List, [], ◌∷◌, ◌++◌}
+use Rattle.std.proofs.Common.{length, take, drop, slice_index_or, refl, sym, ap, subst, ◌∙◌, arith, append_assoc}
+use Rattle.std.proofs.Common.{append-nil, length-take}
 use Rattle.std.proofs.lemmas.List.{take_more, drop_more, take-append-drop, take-take, drop-drop}
 use Rattle.std.proofs.lemmas.List.Sums.{sum_by-cons}
 use Rattle.std.proofs.Math.Seq.{take-add}
-use Rattle.dl_head.specs.Turns.{Answer, used_in, last_given, IsTrace, some_turns}
+use Rattle.dl_head.specs.Turns.{Answer, used_in, last_given, IsTrace}
 
 -- the first k bytes after b, and then i more
 pub joined : (b bytes : List ℕ) (k i : ℕ) → (b ++ take k bytes) ++ take i (drop k bytes) ≡ b ++ take (k + i) bytes
@@ -97,70 +97,3 @@ module _ {A : Type 0} (May : List ℕ → List ℕ → Answer A → Type 0) (goe
   trace_rest b bytes [] a answers t = absurd cc
   trace_rest b bytes (n ∷ turns) a answers t =
       elim (true_or_false (goes_on a.gave)) [ inl is ↦ (n, turns, t.0, t.2 is) | inr is ↦ (n, [], t.0, t.1 is) ]
-
-  -- the turn that was answered last
-  pub record LastTurn (b bytes : List ℕ) (answers : List (Answer A)) (first : A) : Type 0 where
-    pub tail : ℕ
-    pub n : ℕ
-    pub answer : Answer A
-    pub may : May (b ++ take tail bytes) (take n (drop tail bytes)) answer
-    pub total : used_in answers ≡ tail + answer.used
-    pub is_last : last_given first answers ≡ answer.gave
-
-  pub last_turn : (b bytes turns : List ℕ) (a : Answer A) (answers : List (Answer A)) (first : A)
-      → IsTrace May goes_on b bytes turns (a ∷ answers) → LastTurn b bytes (a ∷ answers) first
-  last_turn b bytes turns a [] first t =
-      let r = trace_rest b bytes turns a [] t in
-      record {
-        tail = 0;
-        n = r.0;
-        answer = a;
-        may = rw (append-nil b) r.2;
-        total = used_cons a [] ∙ omega arith;
-        is_last = refl;
-      }
-  last_turn b bytes turns a (c ∷ answers) first t =
-      let r = trace_rest b bytes turns a (c ∷ answers) t in
-      let l = last_turn (b ++ take a.used bytes) (drop a.used bytes) r.1 c answers a.gave r.3 in
-      record {
-        tail = a.used + l.tail;
-        n = l.n;
-        answer = l.answer;
-        may = rw (← joined b bytes a.used l.tail, ← drop-drop l.tail a.used bytes) l.may;
-        total = used_cons a (c ∷ answers) ∙ ap (λ (k : ℕ). a.used + k) l.total ∙ omega arith;
-        is_last = l.is_last;
-      }
-
--- each turn that offered anything used a byte or was refused memory, or all bytes are taken
-abbrev pub Moves : (bytes turns : List ℕ) → (taken refused : ℕ) → Type 0
-Moves bytes turns taken refused = (taken ≡ length bytes) ⊎ (some_turns turns ≤ taken + refused)
-
--- of a piece that is empty
-either_none : (n : ℕ) (bytes : List ℕ) → length (take n bytes) ≡ min n (length bytes)
-    → ((length bytes ≡ 0) ⊎ (n ≡ 0)) ⊎ (1 ≤ length (take n bytes))
-either_none zero bytes size = inl (inr refl)
-either_none (suc n) [] size = inl (inl refl)
-either_none (suc n) (x ∷ bytes) size = inr (omega arith)
-
--- a turn before others: it used all of its bytes, or one, or was refused memory
-pub moves_first : (bytes turns : List ℕ) (n used more taken refused : ℕ) → used ≤ length (take n bytes)
-    → (used ≡ length (take n bytes)) ⊎ (1 ≤ used + more) → taken ≤ length (drop used bytes)
-    → Moves (drop used bytes) turns taken refused → Moves bytes (n ∷ turns) (used + taken) (more + refused)
-moves_first bytes turns n used more taken refused le moved within m = on moved m where
-  size : length (take n bytes) ≡ min n (length bytes)
-  size = length-take n bytes
-
-  counted : some_turns (n ∷ turns) ≡ min n 1 + some_turns turns
-  counted = sum_by-cons (λ k. min k 1) n turns
-
-  on : (used ≡ length (take n bytes)) ⊎ (1 ≤ used + more) → Moves (drop used bytes) turns taken refused
-      → Moves bytes (n ∷ turns) (used + taken) (more + refused)
-  on moved (inl all) = inl (omega (arith, all, le, size, length-drop used bytes))
-  on (inr some) (inr turned) = inr (omega (arith, some, turned, counted))
-  on (inl all) (inr turned) = elim (either_none n bytes size) [
-    | inl none ↦ elim none [
-      | inl no_bytes ↦ inl (omega (arith, no_bytes, le, size, within, length-drop used bytes))
-      | inr no_turn ↦ inr (omega (arith, no_turn, turned, counted))
-    ]
-    | inr some ↦ inr (omega (arith, all, some, turned, counted))
-  ]

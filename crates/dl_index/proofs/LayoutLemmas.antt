@@ -4,8 +4,8 @@ use Rattle.std.proofs.Math.Nat.{mul-le-mul_right}
 use Rattle.std.proofs.lemmas.List.{drop-drop, drop-take, take-take}
 use Rattle.dl_num.specs.Fixed.{is_number_size, little}
 use Rattle.dl_index.specs.Columns.{number_at}
-use Rattle.dl_index.specs.IsIndex.{IsLaidOut, IsPlaced}
-use Rattle.dl_index.specs.Layout.{cut_of, field, sizes, part, rounded, width_in, build_id_len_in}
+use Rattle.dl_index.specs.IsIndex.{IsLaidOut}
+use Rattle.dl_index.specs.Layout.{cut_of, field, sizes, part, rounded, width_in}
 use Rattle.dl_index.specs.LayoutOf.{HasLayoutWidths, HasSizes, IsByHeader, IsLayoutOf}
 use Rattle.dl_index.specs.Parts.{Reads}
 use Rattle.dl_index.specs.declared.header.Header.{Header}
@@ -29,33 +29,6 @@ part_of {b = b} is k = ap (λ n. slice_index_or (cut_of n (drop 128 b)) k []) (s
 
 is_size : (n m : ℕ) → n ≡ m → is_number_size n ≡ true → is_number_size m ≡ true
 is_size n m is size = subst (λ k. is_number_size k ≡ true) is size
-
--- the parts fill the bytes where the header has the numbers of a layout of as many
-pub placed_of : (l : Layout) (b : List ℕ) → HasSizes l b → HasLayoutWidths l b → build_id_len_in b ≤ 32 → length b ≡ l.len
-    → IsPlaced b
-placed_of l b s w build_id len =
-    let end1 = l.after_starts in
-    let end2 = l.after_files in
-    let end3 = l.after_lines in
-    let end4 = l.after_columns in
-    let end5 = l.after_discriminators in
-    let end6 = l.after_statements in
-    let end7 = l.after_file_table in
-    let end8 = l.after_text_table in
-    let end9 = l.after_texts in
-    let all : 128 + sum (map rounded (layout_sizes l)) ≡ length b = omega arith in
-    record {
-      widths =
-          rw (
-            is_size _ _ w.starts l.starts_size,
-            is_size _ _ w.files l.files_size,
-            is_size _ _ w.lines l.lines_size,
-            is_size _ _ w.columns l.columns_size,
-            is_size _ _ w.discriminators l.discriminators_size,
-          );
-      build_id = build_id;
-      end = subst (λ s. 128 + sum (map rounded s) ≡ length b) (sizes_by s w) all;
-    }
 
 -- a layout by the header of bytes is theirs
 pub layout_by : {l : Layout} {h : Header} {b : List ℕ} → IsByHeader l h → Reads h b → IsLaidOut b → IsLayoutOf l b

@@ -118,16 +118,6 @@ pub record FourAmong (start now : ℕ → ℕ) (count count' : ℕ) (x : Four �
   pub of_third : Among start now count count' x.third third left steps
   pub of_fourth : Among start now count count' x.fourth fourth left steps
 
-pub four_end : {start now : ℕ → ℕ} {count count' : ℕ} {x : Four ℕ} {first second third fourth left probes : ℕ}
-    → FourAmong start now count count' x first second third fourth left probes → left ≤ 1
-    → FindFour start count x (record { first = first; second = second; third = third; fourth = fourth })
-four_end f one = record {
-  first = ends f.of_first one;
-  second = ends f.of_second one;
-  third = ends f.of_third one;
-  fourth = ends f.of_fourth one;
-}
-
 -- a search in a column whose width is known is one in the column
 pub by_width : (bytes : List ℕ) (len x r : ℕ) (v w : Width) → v ≡ w
     → (Rise (number_at (size_of w) bytes) len → number_at (size_of w) bytes 0 ≤ x

@@ -8,9 +8,6 @@ use Rattle.dl_index_file.specs.Narrowed.{Narrowed}
 lt_or_le : (m n : ℕ) → (m < n) ⊎ (n ≤ m)
 lt_or_le m n = ⊎_elim (λ u. inr u.1) (λ a. inl a.1) (leb_tells n m)
 
-pub all_left : (start : ℕ → ℕ) (count x : ℕ) → Narrowed start count x 0 count
-all_left start count x = record { upto = λ h. h; next = λ rise less. absurd (omega arith) }
-
 module _ (start : ℕ → ℕ) (count x low left : ℕ) (within : low + left ≤ count) (some : 0 < left)
     (n : Narrowed start count x low left) where
   pub goes_up : (half : ℕ) → half ≤ left → start (low + half) ≤ x → Narrowed start count x (low + half) (left - half)

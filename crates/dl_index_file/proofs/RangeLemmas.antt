@@ -23,12 +23,6 @@ size_small Two = omega arith
 size_small Four = omega arith
 size_small Eight = omega arith
 
-pub size_some : (w : Width) → 0 < size_of w
-size_some One = omega arith
-size_some Two = omega arith
-size_some Four = omega arith
-size_some Eight = omega arith
-
 -- what was read into the front of a buffer
 pub read_is : (rest zeros part tail : List ℕ) (n s at : ℕ) → n ≡ s → s ≤ length zeros
     → length part ≡ length (take n zeros) → part ≡ take (length (take n zeros)) (drop at rest)

@@ -1,16 +1,14 @@
 -- The abbreviations of a table that are kept, and entries without the attributes whose values have no bytes.
 use Rattle.std.proofs.Common.{◌≡◌, ℕ, ◌+◌, ◌-◌, ◌<◌, ◌≤◌, Bool, true, false, cond, List, [], ◌∷◌, ◌++◌, length}
 use Rattle.std.proofs.Common.{drop, Option, Some, None, Result, Ok, Err, refl, sym, ap, subst, ◌∙◌, arith, append_assoc}
-use Rattle.std.proofs.Common.{Bor, Global, Vec, option_map}
+use Rattle.std.proofs.Common.{Bor}
 use Rattle.std.specs.Prelude.{◌==◌, ◌||◌, if◌then◌else◌, nat_lt, not}
-use Rattle.std.specs.BTreeMap.{Updates, get}
-use Rattle.std.specs.Option.{is_some, option_or}
-use Rattle.std.specs.Ordering.{nat_cmp}
+use Rattle.std.specs.Option.{option_or}
 use Rattle.std.proofs.lemmas.Bool.{le-ltb, true≢false}
 use Rattle.std.proofs.lemmas.Bool.Decides.{Decides-eqb}
 use Rattle.dl_num.specs.declared.fixed.Order.{Order}
 use Rattle.dl_info.specs.declared.front.Stop.{Stop}
-use Rattle.dl_info.specs.declared.front.Stop.TheVariants.{Short, Damaged}
+use Rattle.dl_info.specs.declared.front.Stop.TheVariants.{Short}
 use Rattle.dl_info.specs.declared.form.Encoding.{Encoding}
 use Rattle.dl_info.specs.declared.abbreviation.Attribute.{Attribute}
 use Rattle.dl_info.specs.declared.abbreviations.Attributes.{Attributes}
@@ -19,12 +17,11 @@ use Rattle.dl_info.specs.declared.abbreviations.Table.{Table}
 use Rattle.dl_info.specs.declared.head.Head.{Head}
 use Rattle.dl_info.specs.Front.{◌>>=◌, uleb_at}
 use Rattle.dl_info.specs.Forms.{Told, direct_at, has_none, value_at}
-use Rattle.dl_info.specs.Abbreviations.{Abbreviation, attributes_in, declaration_at, declared_from, declared_in, or_none}
+use Rattle.dl_info.specs.Abbreviations.{Abbreviation, declaration_at, declared_from, declared_in, or_none}
 use Rattle.dl_info.specs.Entries.{EntryData, entry_at, values_at, with_value, without_values}
 use Rattle.dl_info.specs.Heads.{head_at}
 use Rattle.dl_info.specs.Kept.{AreAlike, IsTable, StandsFor, has_bytes, list_of, kept_in, kept_more, kept_of, with_bytes}
 use Rattle.dl_info.proofs.AbbreviationLemmas.{declaration_stops, declarations_go_on, declarations_run_out, declared_here}
-use Rattle.dl_info.proofs.MapLemmas.{query}
 
 -- ---- attributes without bytes
 
@@ -121,38 +118,6 @@ one_kept kept now a others whole has are so_far =
 
 -- ---- a table
 
--- a code that is kept already
-pub kept_before : (t : Table) (d : Abbreviation) (code : ℕ) → is_some (kept_in t d.code) ≡ true
-    → kept_in t code ≡ kept_more (kept_in t code) d code
-kept_before t d code is = by (kept_in t code) (d.code == code) refl refl where
-  by : (o : Option (List Attribute)) (same : Bool) → kept_in t code ≡ o → (d.code == code) ≡ same
-      → o ≡ kept_more o d code
-  by (Some attributes) same kept at = refl
-  by None false kept at = rw at refl
-  by None true kept at =
-      let there : kept_in t d.code ≡ None = ap (kept_in t) ((Decides-eqb d.code code).0 at) ∙ kept in
-      absurd (true≢false (sym is ∙ ap is_some there))
-
--- a code that is new
-pub kept_new : (old new : Table) (d : Abbreviation) (attributes : Vec Attribute Global) (code : ℕ)
-    → kept_in old d.code ≡ None → attributes.items ≡ with_bytes d.attributes
-    → Updates nat_cmp old.attributes new.attributes d.code (Some attributes)
-    → kept_in new code ≡ kept_more (kept_in old code) d code
-kept_new old new d attributes code none are updates =
-    ap items (rw (← query d.code code) (updates.0 code)) ∙ by (d.code == code) refl where
-      items : Option (Vec Attribute Global) → Option (List Attribute)
-      items o = option_map (λ v. v.items) o
-
-      by : (same : Bool) → (d.code == code) ≡ same
-          → items (cond same (Some attributes) (get nat_cmp old.attributes code)) ≡ kept_more (kept_in old code) d code
-      by true at =
-          let there : kept_in old code ≡ None = ap (kept_in old) (sym ((Decides-eqb d.code code).0 at)) ∙ none in
-          rw (there, at) (ap Some are)
-      by false at = before (kept_in old code) where
-        before : (o : Option (List Attribute)) → o ≡ kept_more o d code
-        before (Some x) = refl
-        before None = rw at refl
-
 -- what is kept so far, where these are the attributes that come of all declarations and of those that are left
 abbrev Stands : Option (List Attribute) → (whole left : Result (List Attribute) Stop) → Type 0
 Stands None whole left = whole ≡ left
@@ -162,12 +127,6 @@ Stands (Some attributes) whole left = Some attributes ≡ kept_of whole
 abbrev pub IsSoFar : Table → (b : List ℕ) → (left : ℕ) → (rest : List ℕ) → Type 0
 IsSoFar t b left rest =
     (code : ℕ) → Stands (kept_in t code) (declared_in (length b) code b) (declared_in left code rest)
-
-pub none_yet : (t : Table) (b : List ℕ) → ((code : ℕ) → kept_in t code ≡ None) → IsSoFar t b (length b - 0) b
-none_yet t b none code =
-    let all : length b - 0 ≡ length b = omega arith in
-    subst (λ o. Stands o (declared_in (length b) code b) (declared_in (length b - 0) code b)) (sym (none code))
-    (ap (λ n. declared_in n code b) (sym all))
 
 ended : (kept : Option (List Attribute)) (whole left : Result (List Attribute) Stop) (s : Stop) → Err s ≡ left
     → Stands kept whole left → kept ≡ kept_of whole
@@ -216,25 +175,6 @@ kept_stands list offset code section kept is some =
           let same : list.now ≡ with_bytes declared = cc is in
           λ encoding e b. ap (λ l. values_at encoding l e b) same ∙ alike declared encoding e b
       by (Err s) is = absurd (cc is)
-
-pub none_stands : (offset code : ℕ) (section : List ℕ) (kept : Option (List Attribute))
-    → kept ≡ kept_of (declared_in (length (drop offset section)) code (drop offset section)) → kept ≡ None
-    → StandsFor (Err Damaged) (declared_from offset code section)
-none_stands offset code section kept is none =
-    by (declared_in (length (drop offset section)) code (drop offset section)) (sym none ∙ is) where
-      by : (r : Result (List Attribute) Stop) → None ≡ kept_of r → StandsFor (Err Damaged) (or_none r)
-      by (Ok declared) is = absurd (cc is)
-      by (Err s) is = refl
-
-pub declared_stands : (bytes : Bor (List ℕ)) (r : Result (List Attribute) Stop) → Ok (attributes_in bytes.now) ≡ r
-    → StandsFor (Ok (attributes.Declared bytes)) r
-declared_stands bytes (Ok declared) is =
-    let same : attributes_in bytes.now ≡ declared = cc is in λ encoding e b. ap (λ l. values_at encoding l e b) same
-declared_stands bytes (Err s) is = absurd (cc is)
-
-pub stop_stands : (s : Stop) (r : Result (List Attribute) Stop) → Err s ≡ r → StandsFor (Err s) r
-stop_stands s (Ok declared) is = absurd (cc is)
-stop_stands s (Err t) is = cc is
 
 -- ---- the first entry
 

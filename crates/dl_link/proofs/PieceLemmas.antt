@@ -1,7 +1,7 @@
 -- Pieces of a file that are read one after the other.
 use Rattle.std.proofs.Common.{◌≡◌, ◌≤◌, ◌+◌, ◌-◌, ℕ, List, ◌++◌, length, take, drop, sym, ap, ◌∙◌, arith}
 use Rattle.std.proofs.Common.{length-drop, length-take}
-use Rattle.std.proofs.lemmas.List.{length-take-le, take-append-drop, take_all}
+use Rattle.std.proofs.lemmas.List.{length-take-le}
 use Rattle.std.proofs.Math.Seq.{take-add}
 
 -- how many bytes came
@@ -12,12 +12,6 @@ piece_len f piece offset n m within is =
     let rest = length-drop offset f in
     let front = length-take m (drop offset f) in
     ((λ few. omega (arith, len, rest, front, few)), omega (arith, len, rest, front), omega (arith, len, rest, front))
-
--- the last piece
-pub last_piece : (f piece : List ℕ) (offset n m : ℕ) → take n piece ≡ take m (drop offset f)
-    → length (drop offset f) ≤ m → take offset f ++ take n piece ≡ f
-last_piece f piece offset n m is few =
-    ap (λ xs. take offset f ++ xs) (is ∙ take_all m (drop offset f) few) ∙ take-append-drop offset f
 
 -- one more piece
 pub next_piece : (f piece : List ℕ) (offset m : ℕ) → take m piece ≡ take m (drop offset f)

@@ -222,16 +222,6 @@ pub record SoFar (spans : List Span) (slots : List Slot) (cuts : List Cut) (coun
   pub each : (j : ℕ) → j < count → (k : ℕ) × (k < length cuts) × (cut_place cuts k ≡ slot_place slots j)
   pub upto : (k : ℕ) → k < length cuts → (j : ℕ) × (j < count) × (cut_place cuts k ≡ slot_place slots j)
 
-pub none_so_far : (spans : List Span) (slots : List Slot) → SoFar spans slots [] 0
-none_so_far spans slots =
-    record {
-      few = omega arith;
-      rise = λ k m lt less. absurd (omega arith);
-      right = λ k lt. absurd (omega arith);
-      each = λ j lt. absurd (omega arith);
-      upto = λ k lt. absurd (omega arith);
-    }
-
 module _ (spans : List Span) (slots : List Slot) (cuts : List Cut) (i : ℕ) (so_far : SoFar spans slots cuts i)
     (rises : IsRising slots) (lt : i < length slots) where
   -- the place of the next slot is a new one

@@ -1,6 +1,6 @@
 -- What is kept of the sequences, row by row.
 use Rattle.std.proofs.Common.{◌≡◌, ℕ, ◌+◌, ◌-◌, true, false, List, [], ◌∷◌, ◌++◌, length, Option, Some, None, arith}
-use Rattle.std.proofs.Common.{refl, sym, ap, ap₂, ◌∙◌, length-append}
+use Rattle.std.proofs.Common.{sym, ap, ap₂, ◌∙◌, length-append}
 use Rattle.std.specs.Option.{option_map_or}
 use Rattle.dl_rows.specs.declared.row.Row.{Row}
 use Rattle.dl_look.specs.declared.probed.Span.{Span}
@@ -37,9 +37,6 @@ pub record SoFar (rows : List Row) (kept : List Span) (start : ℕ) (run : Optio
   pub kept_is : kept ≡ spans rows
   pub start_is : start + length (unended rows) ≡ length rows
   pub run_is : run ≡ run_of (unended rows)
-
-pub none_so_far : SoFar [] [] 0 None
-none_so_far = record { kept_is = refl; start_is = refl; run_is = refl }
 
 module _ (rows : List Row) (kept : List Span) (start : ℕ) (run : Option SequenceSoFar)
     (so_far : SoFar rows kept start run) (r : Row) (extended : SequenceSoFar)

@@ -44,22 +44,7 @@ grows_trans a b c first second = (
   second.1 ∙ ap (λ l. l ++ second.0) first.1 ∙ Rattle.std.proofs.Common.append_assoc a first.0 second.0,
 )
 
-pub grows_none : {A : Type 0} (a b : List A) → b ≡ a → Grows a b
-grows_none a b is = ([], is ∙ sym (Rattle.std.proofs.Common.append-nil a))
-
 module _ (u : UnitFiles) (old new : List Named) (numbers : List ℕ) where
-  -- more files leave the numbers right
-  pub seen_grown : Grows old new → AreSeen u old numbers → AreSeen u new numbers
-  seen_grown grows seen k lt = elim (seen k lt) [
-    | inl none ↦ inl none
-    | inr is ↦ inr (still_there old new (get_or numbers k 0) (file_in u k) grows is)
-  ]
-
-  pub numbered_grown : (file : ℕ) → Grows old new → IsNumbered u old numbers file → IsNumbered u new numbers file
-  numbered_grown file grows is = record {
-    right = still_there old new (get_or numbers (place_of numbers file) 0) (file_in u (place_of numbers file)) grows is.right;
-  }
-
   -- a number that was looked up, and is not the one that stands for none
   pub numbered_seen : (file entry : ℕ) → 0 < length numbers → entry ≡ place_of numbers file
       → (get_or numbers entry 0 ≡ 0x7fffffffffffffff → ⊥) → AreSeen u old numbers → IsNumbered u old numbers file

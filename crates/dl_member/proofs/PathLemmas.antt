@@ -27,11 +27,6 @@ around_last text front rest back at h is_front is_rest is_back =
           (NoCharPasses-char 40 (drop h.0 text) i h.1.0 (omega arith) (omega (arith, within, ap length same)));
     }
 
--- one stands there
-pub is_there : (text rest : List ℕ) (at : ℕ) → MatchBeginsAt (RFindsChar 40) text at → rest ≡ drop at text
-    → ((r : List ℕ) → rest ≢ 40 ∷ r) → ⊥
-is_there text rest at h is_rest none = none (drop h.0 text) (is_rest ∙ drop_at_char 40 text at h.0 h.1.1 (omega arith))
-
 -- what stands before one that is behind another: the other isn't the last
 not_before : (a b x y : List ℕ) → a ++ 40 ∷ b ≡ x ++ 40 ∷ y → ((i : ℕ) → i < length y → get_or y i 0 ≢ 40) → length x < length a → ⊥
 not_before a b x y e last less =

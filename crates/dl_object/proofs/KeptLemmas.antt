@@ -58,9 +58,6 @@ module _ (order : Order) (h : Params) (places : List Placed) (section at : ℕ) 
       (sequences_kept h places section (at + length (bytes_of s)) (sequences found.found).whole)
       (bytes_of (sequences found.found).begun ++ found.rest)
 
-  pub rest_after : (spelled_in order h b).rest ≡ (spelled_in order h rest).rest
-  rest_after = ap (λ (f : Standing Spelled). f.rest) (spelled_after order h b s rest r)
-
   -- no whole sequence, and then what isn't whole or good
   module _ (none : NoEnd s) (nowhere : SpellsNowhere (spelled order h) rest) where
     pub kept_rest : program_kept order h places section at b ≡ b

@@ -44,12 +44,6 @@ module _ (order : Order) (h : Params) (places : List Placed) (section offset : �
     pub kept : program_kept order h places section offset old
         ≡ take at new ++ program_kept order h places section (offset + at) (drop at old)
 
-  pub none_replaced : Replaced old 0
-  none_replaced = record {
-    rest = refl;
-    kept = ap (λ (n : ℕ). program_kept order h places section n old) (omega arith);
-  }
-
   module _ (new : List ℕ) (at : ℕ) (so : Replaced new at) where
     -- a whole sequence more
     module _ (q : Sequence) (f : FrontIs order h (drop at new) (front.Sequence q)) where

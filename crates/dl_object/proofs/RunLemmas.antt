@@ -8,7 +8,6 @@ use Rattle.dl_field.specs.declared.params.Params.{Params}
 use Rattle.dl_rows.specs.declared.operation.Operation.{Operation}
 use Rattle.dl_rows.specs.Matrix.{is_end}
 use Rattle.dl_rows.specs.OperationSpelt.{operation_spelt, good_one}
-use Rattle.dl_rows.proofs.OperationFront.{NoneGood}
 use Rattle.dl_object.specs.Sequences.{Spelled, spelled, spelled_by, spelled_in, bytes_of}
 use Rattle.dl_object.specs.Fronts.{NoEnd, Runs}
 
@@ -19,10 +18,6 @@ spelled_first order h w o first = record {
   spells = ap (λ j. spelled_by w (good_one j)) first.spells;
   shortest = λ front x back e. ap (λ j. spelled_by front (good_one j)) (first.shortest front x back e);
 }
-
-pub spelled_nowhere : (order : Order) (h : Params) (b : List ℕ) → NoneGood order h b
-    → SpellsNowhere (spelled order h) b
-spelled_nowhere order h b none front back e = ap (spelled_by front) (none front back e)
 
 pub runs_bytes : (order : Order) (h : Params) (b : List ℕ) (s : List Spelled) (rest : List ℕ) → Runs order h b s rest
     → b ≡ bytes_of s ++ rest

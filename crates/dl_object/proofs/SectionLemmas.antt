@@ -2,7 +2,7 @@
 use Rattle.std.proofs.Common.{◌≡◌, ◌⊎◌, inl, inr, ℕ, ◌+◌, ◌-◌, ◌<◌, ◌≤◌, min, List, [], ◌++◌, length, take, drop}
 use Rattle.std.proofs.Common.{Option, Some}
 use Rattle.std.proofs.Common.{None}
-use Rattle.std.proofs.Common.{refl, sym, ap, subst, ◌∙◌, arith, append_assoc, length-drop, length-take-le}
+use Rattle.std.proofs.Common.{sym, ap, subst, ◌∙◌, arith, append_assoc, length-drop, length-take-le}
 use Rattle.std.proofs.lemmas.Bool.{cases_lt}
 use Rattle.std.proofs.lemmas.List.{take-append-drop, take-take, drop-drop, drop_all}
 use Rattle.std.proofs.lemmas.Slice.{between_to_end}
@@ -23,9 +23,6 @@ module _ (dialect : Dialect) (places : List Placed) (section : ℕ) (old : List 
     pub rest : drop at bytes ≡ drop at old
     pub kept : (new : List ℕ) → Keeps dialect places section at (drop at old) new
         → Keeps dialect places section 0 old (take at bytes ++ new)
-
-  pub no_unit_yet : UnitsReplaced old 0
-  no_unit_yet = record { rest = refl; kept = λ new k. k }
 
   module _ (bytes : List ℕ) (at : ℕ) (so : UnitsReplaced bytes at) (b : List ℕ) (same : b ≡ drop at bytes) where
     -- no unit more

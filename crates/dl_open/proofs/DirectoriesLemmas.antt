@@ -12,7 +12,6 @@ use Rattle.dl_dirs.specs.Units.{directory, entries, has_index, has_line_str, has
 use Rattle.dl_file.specs.InfoTable.{GivesInfo, GivesInfoOption, HasInfo, InfoTable}
 use Rattle.std.specs.Prelude.{IfErr, MatchResult}
 use Rattle.std.specs.declared.io.Error.{Error}
-use Rattle.dl_file.specs.ContentReader.{ContentFails}
 use Rattle.dl_file.specs.Faults.{FailsOnly}
 use Rattle.dl_file.specs.LineReader.{LineReaderFails}
 use Rattle.dl_file.specs.LineTable.{Content, Gives, GivesLine, GivesOption, Inflated, Plain}
@@ -29,18 +28,6 @@ use Rattle.dl_open.specs.Tables.{bytes_of}
 use Rattle.dl_open.specs.Walked.{AreFound, AreHad, ArePlaces, IsHadWhere}
 
 -- ---- reads that fail
-
--- they fail with these errors alone
-pub unread_only : (refuses : ℕ → Type 0) (most : ℕ) (Fails fails : Error → Type 0) (why : Unread) → FailsOnly Fails fails
-    → IsUnread refuses most Fails why → IsUnread refuses most fails why
-unread_only refuses most Fails fails (Read error) only unread = only error unread
-unread_only refuses most Fails fails NoMemory only unread = unread
-
-content_only : {S : Type 0} {g : _} (all_bytes : S → Option (List ℕ)) (fails_with : S → Error → Type 0)
-    (fails : Error → Type 0) (reader : ContentReader S g) (c : Content) → Gives all_bytes fails_with fails reader c
-    → FailsOnly (ContentFails all_bytes fails_with reader) fails
-content_only all_bytes fails_with fails reader (Plain bytes) gives = gives.3
-content_only all_bytes fails_with fails reader (Inflated name bytes damage) gives = gives.4
 
 pub line_only : {S : Type 0} {g : _} (all_bytes : S → Option (List ℕ)) (fails_with : S → Error → Type 0)
     (fails : Error → Type 0) (reader : LineReader S g) (c : Content) → GivesLine all_bytes fails_with fails reader c

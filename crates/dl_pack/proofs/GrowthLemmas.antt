@@ -16,7 +16,7 @@ use Rattle.dl_pack.specs.declared.names.FileTexts.{FileTexts}
 use Rattle.dl_pack.specs.Columns.{byte_at, column_bytes, column_of, columns_of, greatest, least_size, number_of, padded, part_by}
 use Rattle.dl_pack.specs.Columns.{statement_bytes, width_by}
 use Rattle.dl_pack.specs.IndexOf.{header_front}
-use Rattle.dl_pack.specs.Tables.{file_bytes, file_table, no_file, text_entries, texts_at}
+use Rattle.dl_pack.specs.Tables.{file_bytes, file_table, no_file, texts_at}
 use Rattle.dl_pack.proofs.ItemLemmas.{size_is}
 use Rattle.dl_pack.proofs.TableLemmas.{bytes_more}
 
@@ -45,10 +45,6 @@ files_len files (place ∷ order) texts =
       files_len files order texts,
       length-append (file_bytes texts (get_or files place no_file)) (file_table files order texts),
     )
-
-pub entries_len : (place : ℕ) (texts : List (List ℕ)) → length (text_entries place texts) ≡ 16 * length texts
-entries_len place [] = refl
-entries_len place (text ∷ texts) = omega (arith, entries_len (place + length text) texts)
 
 joined_upto : (texts : List (List ℕ)) (k : ℕ) (order : List ℕ)
     → length (concat (texts_at texts (take k order))) ≤ length (concat (texts_at texts order))

@@ -1,12 +1,10 @@
 -- Numbers of items in the order of first mention, and one more.
-use Rattle.std.proofs.Common.{◌≡◌, ℕ, zero, suc, ◌+◌, ◌<◌, ◌≤◌, ◌^◌, Bool, get_or, replicate, length-append, true, false, List, [], ◌∷◌, ◌++◌, length}
+use Rattle.std.proofs.Common.{◌≡◌, ℕ, zero, suc, ◌+◌, ◌<◌, ◌≤◌, ◌^◌, Bool, get_or, length-append, true, false, List, [], ◌∷◌, ◌++◌, length}
 use Rattle.std.proofs.Common.{arith, refl, sym, ap, ap₂, subst, add-one, length-set, ◌∙◌, eqb, get_or-set_other, get_or-set_same}
 use Rattle.std.specs.Prelude.{if◌then◌else◌, slice_index, slice_set}
 use Rattle.std.specs.List.{All}
 use Rattle.std.proofs.lemmas.Bool.{eqb-true, eqb-false, eq-eqb, ne_eqb}
 use Rattle.std.proofs.lemmas.List.Elements.{All-head, All-tail, All-push}
-use Rattle.std.proofs.lemmas.List.{length-replicate}
-use Rattle.std.proofs.lemmas.List.Folds.{sum_by-replicate}
 use Rattle.std.proofs.lemmas.List.Sums.{sum_by-set}
 use Rattle.dl_pack.specs.Faults.{AreTooMany}
 use Rattle.dl_pack.specs.Numbering.{one_more, number_in, with_mention}
@@ -94,18 +92,6 @@ module _ (numbers : List ℕ) (item : ℕ) (lt : item < length numbers) (none : 
     counted_more after number e is =
         let more : length after ≡ length order + 1 = ap length e ∙ length-append order (item ∷ []) in
         omega (arith, one_less number (omega (arith, is)), counted, length-set numbers item number, more)
-
-pub none_counted : (numbers order : List ℕ) (count : ℕ) → numbers ≡ replicate count 0 → order ≡ []
-    → length order + unnumbered_count numbers ≡ length numbers
-none_counted numbers order count is none =
-    omega (
-      arith,
-      ap length none,
-      ap length is,
-      length-replicate {A = ℕ} count 0,
-      ap unnumbered_count is,
-      sum_by-replicate unnumbered count 0,
-    )
 
 -- an item more is one too many
 pub many_more : (order : List ℕ) (item : ℕ) → number_in order item ≡ 0 → 2 ^ 32 ≤ length order + 1

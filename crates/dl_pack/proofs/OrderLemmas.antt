@@ -5,7 +5,7 @@ use Rattle.std.specs.Prelude.{◌==◌, if◌then◌else◌}
 use Rattle.std.specs.List.{All, flat_map}
 use Rattle.std.proofs.lemmas.List.{take_more, append-nil, take-append-drop}
 use Rattle.std.proofs.lemmas.Grind.{flat_map-append}
-use Rattle.std.proofs.lemmas.List.Elements.{All-append, All-more}
+use Rattle.std.proofs.lemmas.List.Elements.{All-more}
 use Rattle.dl_pack.specs.Faults.{AreTooMany}
 use Rattle.dl_pack.specs.Numbering.{number_in, with_mention, mentioned}
 
@@ -34,14 +34,6 @@ pub mentioned_items : (f : ℕ → List ℕ) (items order : List ℕ) (i d : ℕ
 mentioned_items f items order i d before after same lt was is =
     mentioned_more f items i d before after lt (was ∙ ap (λ order. mentioned [] (flat_map f (take i order))) (sym same)) is
     ∙ ap (λ order. mentioned [] (flat_map f (take (i + 1) order))) same
-
-pub within_more : {A : Type 0} (f : A → List ℕ) (xs : List A) (i : ℕ) (d : A) (n count : ℕ) → i < length xs → n ≡ count
-    → All (λ item. item < count) (flat_map f (take i xs)) → All (λ item. item < n) (f (get_or xs i d))
-    → All (λ item. item < count) (flat_map f (take (i + 1) xs))
-within_more f xs i d n count lt same was more =
-    subst (All (λ item. item < count)) (sym (flat_push f xs i d lt))
-    (All-append (λ item. item < count) (flat_map f (take i xs)) (f (get_or xs i d)) was
-    (subst (λ n. All (λ item. item < n) (f (get_or xs i d))) same more))
 
 -- what holds of the items of a list that is another one's
 pub all_items : (P : ℕ → Type 0) (items order : List ℕ) (i d : ℕ) → items ≡ order → i < length items

@@ -1,16 +1,11 @@
 -- The tables of files and of texts, one entry more.
-use Rattle.std.proofs.Common.{◌≡◌, ℕ, zero, suc, ◌+◌, ◌-◌, ◌<◌, ◌≤◌, ◌^◌, min, List, [], ◌∷◌, ◌++◌, length, get_or, take}
-use Rattle.std.proofs.Common.{arith, refl, sym, ap, ap₂, ◌∙◌, append_assoc, length-append}
+use Rattle.std.proofs.Common.{◌≡◌, ℕ, ◌+◌, ◌-◌, ◌<◌, ◌^◌, min, List, [], ◌∷◌, ◌++◌, length, get_or, take}
+use Rattle.std.proofs.Common.{arith, sym, ap, ap₂, ◌∙◌, append_assoc}
 use Rattle.std.specs.List.{flat_map, concat}
 use Rattle.std.proofs.lemmas.List.{take_more, map-append, append-nil, flat_map_more}
 use Rattle.std.proofs.lemmas.List.Folds.{concat-append}
 use Rattle.dl_num.specs.Fixed.{little_bytes}
-use Rattle.dl_pack.specs.Numbering.{number_in}
-use Rattle.dl_pack.specs.Tables.{text_number, text_entries, texts_at, total_len}
-
-pub text_number-suc : (order : List ℕ) (text : ℕ) → (text ≡ 0 → ⊥) → number_in order (text - 1) ≡ text_number order text
-text_number-suc order zero some = absurd (some refl)
-text_number-suc order (suc text) some = let e : suc text - 1 ≡ text = omega arith in ap (number_in order) e
+use Rattle.dl_pack.specs.Tables.{text_entries, texts_at, total_len}
 
 pub entries_push : (place : ℕ) (texts : List (List ℕ)) (text : List ℕ)
     → text_entries place (texts ++ text ∷ [])
@@ -26,10 +21,6 @@ entries_push place (first ∷ texts) text =
 
 pub put_two : (o0 o1 o2 a b : List ℕ) → o1 ≡ o0 ++ a → o2 ≡ o1 ++ b → o2 ≡ o0 ++ (a ++ b)
 put_two o0 o1 o2 a b e1 e2 = e2 ∙ ap (λ o. o ++ b) e1 ∙ append_assoc o0 a b
-
-pub longer_by_two : (start o0 o1 o2 a b : List ℕ) → length start ≤ length o0 → o1 ≡ o0 ++ a → o2 ≡ o1 ++ b
-    → length start ≤ length o2
-longer_by_two start o0 o1 o2 a b le e1 e2 = omega (arith, le, ap length e1, ap length e2, length-append o0 a, length-append o1 b)
 
 pub put_three : (o0 o1 o2 o3 a b c : List ℕ) → o1 ≡ o0 ++ a → o2 ≡ o1 ++ b → o3 ≡ o2 ++ c → o3 ≡ o0 ++ (a ++ (b ++ c))
 put_three o0 o1 o2 o3 a b c e1 e2 e3 = put_two o0 o1 o3 a (b ++ c) e1 (put_two o1 o2 o3 b c e2 e3)

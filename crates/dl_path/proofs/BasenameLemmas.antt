@@ -36,10 +36,3 @@ module _ (sep : ℕ → Bool) where
       ap (λ (c : Bool). if c then after_the_last sep path
       else b ∷ path) (or_true (sep b) (list_any sep path) (any_at path i d (omega arith) is))
       ∙ after_at path i d (omega arith) is none
-
-  -- one byte more that is no separator
-  pub none_more : (path : List ℕ) (i d : ℕ) → i < length path → sep (get_or path i d) ≡ false
-      → list_any sep (drop (suc i) path) ≡ false → list_any sep (drop i path) ≡ false
-  none_more [] i d lt is none = absurd (omega arith)
-  none_more (b ∷ path) zero d lt is none = or_false (sep b) (list_any sep path) is none
-  none_more (b ∷ path) (suc i) d lt is none = none_more path i d (omega arith) is none

@@ -1,7 +1,7 @@
 -- Texts that are printed front after front.
-use Rattle.std.proofs.Common.{◌≡◌, ℕ, zero, suc, ◌+◌, ◌<◌, ◌≤◌, Bool, true, false, List, [], ◌∷◌, ◌++◌, length, take}
+use Rattle.std.proofs.Common.{◌≡◌, ℕ, zero, suc, ◌+◌, ◌<◌, ◌≤◌, Bool, true, false, List, [], ◌∷◌, ◌++◌, length, take, ap₂}
 use Rattle.std.proofs.Common.{drop, max}
-use Rattle.std.proofs.Common.{get_or, refl, sym, ap, ap₂, ◌∙◌, arith, ⊎_elim, codes, append_assoc, append-nil, ◌/◌, ◌%◌}
+use Rattle.std.proofs.Common.{get_or, refl, sym, ap, ◌∙◌, arith, ⊎_elim, codes, append_assoc, append-nil, ◌/◌, ◌%◌}
 use Rattle.std.specs.Prelude.{if◌then◌else◌, ◌==◌, ◌||◌, ◌&&◌, nat_le, nat_lt, not, cond}
 use Rattle.std.specs.List.{list_all}
 use Rattle.std.specs.Str.{all_scalars, bytes_eq, chars, chars_after, encode_utf8_all, is_utf8, lead_bits}
@@ -187,21 +187,6 @@ escape_front (b ∷ text) (suc k) all some =
     ∙ ap (λ (l : List ℕ). l ++ escape (drop n w)) (escape_same (take n w) all ∙ sym (stands_front (take n w) all))
     ∙ ap (λ (j : ℕ). front_text escape_byte (take j w) ++ escape (drop j w)) (sym same)
 
--- one byte more
-all_suc : (p : ℕ → Bool) (text : List ℕ) (n : ℕ) → n < length text → list_all p (take n text) ≡ true
-    → p (get_or text n 0) ≡ true → list_all p (take (suc n) text) ≡ true
-all_suc p [] n lt all is = absurd (omega arith)
-all_suc p (b ∷ text) zero lt all is = ap (λ (x : Bool). x && true) is
-all_suc p (b ∷ text) (suc n) lt all is =
-    let q = and_parts (p b) (list_all p (take n text)) all in
-    ap₂ (λ (x y : Bool). x && y) q.0 (all_suc p text n (omega arith) q.1 is)
-
-pub all_more : (p : ℕ → Bool) (text : List ℕ) (n : ℕ) → n < length text → list_all p (take n text) ≡ true
-    → p (get_or text n 0) ≡ true → list_all p (take (n + 1) text) ≡ true
-all_more p text n lt all is =
-    let on : n + 1 ≡ suc n = omega arith in
-    ap (λ (m : ℕ). list_all p (take m text)) on ∙ all_suc p text n lt all is
-
 pub json_nothing : escape (utf8_lossy []) ≡ []
 json_nothing = ap escape (utf8_lossy_empty [] refl)
 
@@ -272,16 +257,6 @@ chunk_text bs valid invalid rest parts is is' last = by (length invalid == 0) re
       ∙ ap (λ (c : Bool). (escape valid ++ (if c then [] else replacement_bytes)) ++ escape (utf8_lossy rest)) (sym e)
 
 -- ---- texts of which all bytes stand for themselves
-
-pub all_one : (p : ℕ → Bool) (w : List ℕ) (b : ℕ) → list_all p (w ++ b ∷ []) ≡ (list_all p w && p b)
-all_one p [] b = by (p b) where
-  by : (c : Bool) → (c && true) ≡ c
-  by true = refl
-  by false = refl
-all_one p (x ∷ w) b = ap (λ (c : Bool). p x && c) (all_one p w b) ∙ by (p x) (list_all p w) (p b) where
-  by : (a b c : Bool) → (a && (b && c)) ≡ ((a && b) && c)
-  by true b c = refl
-  by false b c = refl
 
 pub plain_shown : (w : List ℕ) → list_all is_plain w ≡ true → w ≡ shown w
 plain_shown w all =

@@ -96,13 +96,6 @@ difference_too_large before b w rest i parts is out =
 
 -- ---- the first number of an entry
 
--- one of one byte
-first_short : (a : ℕ) (b : List ℕ) → a < 128 → first_number (a ∷ b) ≡ Some (a % 128)
-first_short a b less =
-    let below : a % 128 + 0 < 2 ^ 71 = omega arith in
-    let sum : a % 128 + 0 ≡ a % 128 = omega arith in
-    rw (lt-ltb a 128 less, lt-ltb a 128 less, lt-ltb (a % 128 + 0) (2 ^ 71) below) (ap Some sum)
-
 leb_after : (a : ℕ) (z : List ℕ) → 128 ≤ a → is_leb (a ∷ z) ≡ is_leb z
 leb_after a [] more = le-ltb a 128 more
 leb_after a (c ∷ z) more = rw (le-leb 128 a more) refl
@@ -129,15 +122,8 @@ first_long : (a : ℕ) (b : List ℕ) (n : ℕ) → 128 ≤ a → unsigned_front
     → first_number (a ∷ b) ≡ Some (a % 128 + 128 * n)
 first_long a b n more is = first_more a b more ∙ ap (option_map (λ n. a % 128 + 128 * n)) is
 
-first_none : (a : ℕ) (b : List ℕ) → 128 ≤ a → ◌≡◌ {A = Option ℕ} (unsigned_front (2 ^ 64) b) None
-    → ◌≡◌ {A = Option ℕ} (first_number (a ∷ b)) None
-first_none a b more none = first_more a b more ∙ ap (option_map (λ n. a % 128 + 128 * n)) none
-
 first_rest : (a : ℕ) (b : List ℕ) → 128 ≤ a → after_leb (a ∷ b) ≡ after_leb b
 first_rest a b more = rw (le-ltb a 128 more) refl
-
-first_short_rest : (a : ℕ) (b : List ℕ) → a < 128 → after_leb (a ∷ b) ≡ b
-first_short_rest a b less = rw (lt-ltb a 128 less) refl
 
 -- its flags, and the rest of it modulo 2^64
 long_split : (a n k : ℕ) → (k ≡ 4) ⊎ (k ≡ 8) → (a % k ≡ (a % 128 + 128 * n) % k)
@@ -162,15 +148,6 @@ long_told (a ∷ b) k high flags low rest cases some more told first lowest =
       rw lowest split.1,
       told.1 ∙ (ap after_leb all ∙ sym (first_rest a b more)),
     )
-
--- that the bytes end inside it, or that it is too large
-pub long_none : (b : List ℕ) → 1 ≤ length b → 128 ≤ get_or b 0 0
-    → ◌≡◌ {A = Option ℕ} (unsigned_front (2 ^ 64) (take (length b - 1) (drop 1 b))) None
-    → ◌≡◌ {A = Option ℕ} (first_number b) None
-long_none [] some more none = absurd (omega (arith, some))
-long_none (a ∷ b) some more none =
-    let all : take (length (a ∷ b) - 1) b ≡ b = take_all (length (a ∷ b) - 1) b (omega arith) in
-    first_none a b more (ap (unsigned_front (2 ^ 64)) (sym all) ∙ none)
 
 -- ---- the offset
 

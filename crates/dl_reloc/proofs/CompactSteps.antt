@@ -1,5 +1,5 @@
 -- What the entries of a section of compact relocations make of bytes, one entry further on.
-use Rattle.std.proofs.Common.{◌≡◌, ℕ, suc, ◌+◌, ◌-◌, ◌^◌, ◌<◌, ◌≤◌, List, [], Option, Some, None, Ok, Err, false}
+use Rattle.std.proofs.Common.{◌≡◌, ℕ, suc, ◌+◌, ◌-◌, ◌^◌, ◌<◌, List, [], Option, Some, None, Ok, Err, false}
 use Rattle.std.proofs.Common.{arith, ap, ◌∙◌}
 use Rattle.dl_reloc.specs.declared.target.Class.{Class}
 use Rattle.dl_reloc.specs.declared.target.Target.{Target}
@@ -66,10 +66,3 @@ pub next_damaged : (t : Target) (symbols : List ℕ) (h : CompactHeader) (e : En
 next_damaged t symbols h e b before n i less none =
     ap (λ d. made_by t symbols d before)
     (one_of t.class h e b n i less ∙ ap (by t.class h (n - (i + 1))) none)
-
--- after the last one
-pub all_made : (t : Target) (symbols : List ℕ) (h : CompactHeader) (e : Entry) (b made : List ℕ) (n i : ℕ) → n ≤ i
-    → made_by t symbols (compact_after t.class h e (n - i) b) made ≡ Ok made
-all_made t symbols h e b made n i past =
-    let none : n - i ≡ 0 = omega (arith, past) in
-    ap (λ k. made_by t symbols (compact_after t.class h e k b) made) none

@@ -1,16 +1,10 @@
 -- Items of a table, and of tables one after the other.
-use Rattle.std.proofs.Common.{◌≡◌, ℕ, suc, ◌+◌, ◌*◌, ◌/◌, ◌<◌, ◌≤◌, List, ◌++◌, take, drop, length, arith, ap, ◌∙◌}
+use Rattle.std.proofs.Common.{◌≡◌, ℕ, ◌+◌, ◌*◌, ◌/◌, ◌≤◌, List, ◌++◌, take, drop, length, arith, ap, ◌∙◌}
 use Rattle.std.proofs.Common.{length-append, length-drop}
 use Rattle.std.proofs.lemmas.List.{drop-append-le, take-append-le}
-use Rattle.std.proofs.Math.Nat.{add-mul, div-mul-le_self, mul-add-div_right, mul-div_cancel, mul-le-mul_right}
+use Rattle.std.proofs.Math.Nat.{add-mul, mul-add-div_right, mul-div_cancel}
 use Rattle.std.proofs.Math.Seq.{drop-append-add}
 use Rattle.dl_reloc.specs.Entries.{count, item}
-
--- a whole item lies in its table
-pub item_within : (i size len : ℕ) → i < len / size → i * size + size ≤ len
-item_within i size len less =
-    let more : suc i * size ≤ len / size * size = mul-le-mul_right size less in
-    omega (arith, more, div-mul-le_self len size)
 
 -- an item of the first part
 pub front_item : (size i : ℕ) (xs ys : List ℕ) → i * size + size ≤ length xs → item size i (xs ++ ys) ≡ item size i xs

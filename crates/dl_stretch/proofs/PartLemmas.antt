@@ -20,7 +20,7 @@ use Rattle.dl_stretch.specs.declared.sequence.SequenceRuns.{SequenceRuns}
 use Rattle.dl_stretch.specs.Parts.{ended, AreParted}
 use Rattle.dl_stretch.proofs.RenumberLemmas.{answer-moved, sound_moved}
 use Rattle.dl_stretch.proofs.SpanAnswers.{answer-append, answer-grown, answer_added, runs-grown, sound_grown, sound_append}
-use Rattle.dl_stretch.proofs.SpanAnswers.{sound_added, sound_none}
+use Rattle.dl_stretch.proofs.SpanAnswers.{sound_added}
 
 abbrev Within : ℕ → List Span → Type 0
 Within n spans = All (λ (s : Span). s.start + s.len ≤ n) spans
@@ -51,21 +51,9 @@ sound_cut runs more spans sound within = record {
 pub ended_len : (s : SequenceRuns) → length (ended s) ≡ s.begun
 ended_len s = length-take-le s.begun s.runs.items s.within
 
-pub parted_none : AreParted [] [] 0 0
-parted_none = record {
-  sound = sound_none [];
-  runs_few = omega arith;
-  spans_few = omega arith;
-  before = λ k d lt. absurd (omega arith);
-  after = λ k d lt. absurd (omega arith);
-}
-
 module _ (runs : List Run) (spans : List Span) (w n : ℕ) (parted : AreParted runs spans w n) where
   whole_sound : AreSound runs (take n spans)
   whole_sound = sound_take runs spans n parted.sound
-
-  pub sound_whole : AreSound runs (take n spans)
-  sound_whole = whole_sound
 
   unit_sound : AreSound runs (drop n spans)
   unit_sound = sound_drop runs spans n parted.sound
@@ -152,9 +140,6 @@ module _ (runs : List Run) (spans : List Span) (w n : ℕ) (parted : AreParted r
         ∙ answer-append all (take n spans) (drop n spans) a ended_front.full lt
         ∙ ap₂ option_or (front_answers (map (renumbered_run number) (drop w runs)) a)
         (answer-moved number runs w parted.runs_few (drop n spans) a parted.after)
-
-    pub none_left : (k a : ℕ) → k ≡ length spans → answer_of all (drop k spans) a ≡ None
-    none_left k a count = ap (λ l. answer_of all l a) (drop_all k spans (omega (arith, count)))
 
   -- ---- the current unit is forgotten
 

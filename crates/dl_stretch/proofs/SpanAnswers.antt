@@ -72,13 +72,6 @@ sound_grown runs more spans sound = record {
       (runs-grown runs more (get_or spans k d) (sound.within k d lt)) ∙ sound.full k d lt a small covers;
 }
 
-pub sound_none : (runs : List Run) → AreSound runs []
-sound_none runs = record {
-  within = λ k d lt. absurd (omega arith);
-  rise = λ k d lt. absurd (omega arith);
-  full = λ k d lt. absurd (omega arith);
-}
-
 pub sound_append : (runs : List Run) (spans more : List Span) → AreSound runs spans → AreSound runs more
     → AreSound runs (spans ++ more)
 sound_append runs spans more s m = record {

@@ -1,6 +1,6 @@
 -- Stretches, one after the other.
-use Rattle.std.proofs.Common.{◌≡◌, ◌≢◌, ℕ, zero, suc, ◌-◌, ◌<◌, ◌≤◌, ◌^◌, Bool, true, false, inl, inr, List, [], ◌∷◌, Option, Some}
-use Rattle.std.proofs.Common.{◌++◌, length, get_or, None, arith, refl, sym, ap, ap₂, subst, ◌∙◌}
+use Rattle.std.proofs.Common.{◌≡◌, ◌≢◌, ℕ, suc, ◌-◌, ◌<◌, ◌≤◌, ◌^◌, Bool, true, false, inl, inr, List, [], ◌∷◌, Option, Some}
+use Rattle.std.proofs.Common.{◌++◌, None, arith, refl, sym, ap, ap₂, subst, ◌∙◌}
 use Rattle.std.specs.Prelude.{if◌then◌else◌, nat_le, nat_lt, is_none}
 use Rattle.std.specs.List.{All}
 use Rattle.std.specs.Option.{option_and_then, option_or}
@@ -132,18 +132,6 @@ one_list f s t are are' at at' =
     ∙ sym (told_from-at t a (rise t are'.apart) ∙ are'.right a lt))
 
 -- ---- stretches while they are made
-
-last_told-at : (s : List Stretch) (n : ℕ) (d : Stretch) → length s ≡ suc n → last_told s ≡ (get_or s n d).told
-last_told-at [] n d e = absurd (omega arith)
-last_told-at (x ∷ []) zero d e = refl
-last_told-at (x ∷ []) (suc n) d e = absurd (omega arith)
-last_told-at (x ∷ y ∷ s) zero d e = absurd (omega arith)
-last_told-at (x ∷ y ∷ s) (suc n) d e = last_told-at (y ∷ s) n d (omega arith)
-
-pub last_told-read : (s : List Stretch) (x : Stretch) → 0 < length s → x ≡ get_or s (length s - 1) x
-    → x.told ≡ last_told s
-last_told-read s x some is =
-    ap (λ (x : Stretch). x.told) is ∙ sym (last_told-at s (length s - 1) x (omega arith))
 
 -- a stretch at the end
 stretch_more : (s : List Stretch) (x : Stretch) (a : ℕ)
