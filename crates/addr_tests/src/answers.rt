@@ -3,9 +3,9 @@ use crate::sections::{
     ALL, DEAD, NO_ADDRESS, NOT_ALL, OVER, PATHS, PLAIN, TOP, assert_addr, assert_pieces, at, plain,
     section,
 };
-use dl_addr::{Form, Question, Style};
+use dl_addr::{AnswerForm, Question, Style};
 use dl_head::FaultKind;
-use dl_run::RunFault;
+use dl_sections::RunFault;
 use std::test::Fail;
 
 /// A unit of version 4.
@@ -58,7 +58,7 @@ fn bases_and_addresses(rt: HostRuntime) -> Result<(), Fail> {
     let question = Question {
         base: 0x5555_0000_0000,
         style: Style {
-            form: Form::AddressAndLocation,
+            form: AnswerForm::AddressAndLocation,
             ..PLAIN
         },
         ..plain(asked.as_slice())

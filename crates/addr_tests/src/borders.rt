@@ -1,6 +1,6 @@
 //! Paths whose parts end or begin with bytes that, put together without the slash between them, would be a character.
 use crate::sections::{ALL, PLAIN, assert_addr, at, plain};
-use dl_addr::{Asked, Form, Question, Style};
+use dl_addr::{AnswerForm, Asked, Question, Style};
 use std::test::Fail;
 
 /// Directories `/d` and `e`, which end with bytes that begin a character, an empty one and `f\`. Files by a name that
@@ -29,7 +29,7 @@ const DRIVES: &str =
         01 02 10 00 01 01";
 
 const BASENAMES: Style<'static> = Style {
-    form: Form::Location,
+    form: AnswerForm::Location,
     basenames: true,
     section: None,
 };
@@ -75,7 +75,7 @@ fn borders_of_basenames(rt: HostRuntime) -> Result<(), Fail> {
 fn borders_of_objects(rt: HostRuntime) -> Result<(), Fail> {
     let asked = [at(0xa000), at(0xb000), at(0xa040)];
     let style = Style {
-        form: Form::Json,
+        form: AnswerForm::Json,
         ..PLAIN
     };
     let question = Question {

@@ -1,6 +1,6 @@
 //! Directories that put no slash before a path, and those that aren't there.
 use crate::sections::{ALL, NODIR, PATHS, PLAIN, assert_addr, at, plain};
-use dl_addr::{Form, Question, Style};
+use dl_addr::{AnswerForm, Question, Style};
 use std::test::Fail;
 
 /// An empty directory 0, as `-ffile-prefix-map` leaves it, and `lib`; files `a.c` in directory 0, `b.c` in 1, `??` in
@@ -62,7 +62,7 @@ fn directories_that_are_missing(rt: HostRuntime) -> Result<(), Fail> {
 fn unknown_paths(rt: HostRuntime) -> Result<(), Fail> {
     let asked = [at(0x5020), at(0x10a0)];
     let style = Style {
-        form: Form::Json,
+        form: AnswerForm::Json,
         ..PLAIN
     };
     let question = Question {

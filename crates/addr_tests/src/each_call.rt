@@ -1,8 +1,8 @@
 //! A fault at each read, each write and each growth in turn.
 use crate::sections::{DEAD, PATHS, assert_answer, at, options, plain, section};
-use dl_addr::{Asked, Found, addr};
+use dl_addr::{Asked, WhichFound, addr};
 use dl_memory::System;
-use dl_run::RunFault;
+use dl_sections::RunFault;
 use std::alloc::Global;
 use std::process::Abort;
 use std::test::Fail;
@@ -41,7 +41,7 @@ fn assert_read(
     alloc: Global,
     section: &[u8],
     (before, fault): (usize, Fault),
-    wanted: (&str, Result<Found, RunFault>),
+    wanted: (&str, Result<WhichFound, RunFault>),
 ) {
     let mut input = Source::new(section, READ).with_fault(before, fault);
     assert_answer(rt, alloc, &mut input, &plain(&asked()), &options(), wanted);
@@ -60,7 +60,7 @@ fn assert_faults(rt: &impl Abort, alloc: Global, section: &[u8], before: usize) 
             alloc,
             section,
             (before, fault),
-            (text(352), Ok(Found::All)),
+            (text(352), Ok(WhichFound::All)),
         );
     }
 }

@@ -2,11 +2,11 @@
 use crate::sections::{DEAD, OVER, PATHS, TOP, at, options, plain, section};
 use dl_addr::{Asked, CompilationDirectories, Location, Question, Style, print_location};
 use dl_head::FaultKind;
-use dl_index::{Found, IndexRef, open};
+use dl_index::{FoundLine, IndexRef, open};
 use dl_making::{Table, make_index, make_index_around, make_index_until, make_index_until_around};
 use dl_memory::System;
 use dl_print::Printer;
-use dl_run::{Damage, DamagedUnits, RunFault};
+use dl_sections::{Damage, DamagedUnits, RunFault};
 use std::alloc::Global;
 use std::process::Abort;
 use std::test::Fail;
@@ -23,7 +23,7 @@ fn plain_table<'a>() -> Table<'a> {
 }
 
 /// The bytes of the path of what is told; none where it isn't known.
-fn path(alloc: Global, found: &Found<'_>) -> Result<Option<Vec<u8>>, Fail> {
+fn path(alloc: Global, found: &FoundLine<'_>) -> Result<Option<Vec<u8>>, Fail> {
     if found.texts.first.is_none() {
         return Ok(None);
     }
@@ -40,7 +40,7 @@ fn print_found(
     printer: &mut Printer,
     output: &mut Sink,
     (style, asked): (Style<'_>, Asked),
-    found: &Found<'_>,
+    found: &FoundLine<'_>,
 ) -> Result<(), Fail> {
     let path = path(alloc, found)?;
     let location = Location {

@@ -1,6 +1,6 @@
 //! Sequences that begin where there is code.
 use crate::sections::{DEAD, PATHS, assert_addr, at, plain};
-use dl_addr::{Found, Question};
+use dl_addr::{Question, WhichFound};
 use dl_look::{AddressRange, CodeRanges};
 use dl_memory::System;
 use std::alloc::Global;
@@ -12,7 +12,7 @@ fn assert_within(
     rt: &impl Abort,
     alloc: Global,
     range: AddressRange,
-    wanted: (&str, Found),
+    wanted: (&str, WhichFound),
 ) -> Result<(), Fail> {
     let code = CodeRanges::build(&System::new(alloc), &[range])
         .ok()
@@ -31,27 +31,32 @@ fn assert_within(
 #[test]
 fn live_sequences(rt: HostRuntime) -> Result<(), Fail> {
     for (start, size, text, found) in [
-        (0x40, 1, "/d/live.c:7:3\n??:0\n??:0\n", Found::NotAll),
-        (0, 1, "/d/dead.c:2:2\n/d/dead.c:2:2\n??:0\n", Found::NotAll),
+        (0x40, 1, "/d/live.c:7:3\n??:0\n??:0\n", WhichFound::NotAll),
+        (
+            0,
+            1,
+            "/d/dead.c:2:2\n/d/dead.c:2:2\n??:0\n",
+            WhichFound::NotAll,
+        ),
         (
             0x1000,
             u64::MAX,
             "??:0\n??:0\n/src/main.c:11:1\n",
-            Found::NotAll,
+            WhichFound::NotAll,
         ),
         (
             0,
             0x1000,
             "/d/dead.c:2:2\n/d/dead.c:2:2\n??:0\n",
-            Found::NotAll,
+            WhichFound::NotAll,
         ),
         (
             0,
             0x1001,
             "/d/dead.c:2:2\n/d/dead.c:2:2\n/src/main.c:11:1\n",
-            Found::All,
+            WhichFound::All,
         ),
-        (0x1000, 0, "??:0\n??:0\n??:0\n", Found::NotAll),
+        (0x1000, 0, "??:0\n??:0\n??:0\n", WhichFound::NotAll),
     ] {
         let range = AddressRange { start, size };
         assert_within(&rt, rt.alloc(), range, (text, found))?;

@@ -1,6 +1,6 @@
 //! Lines that are JSON objects.
 use crate::sections::{NO_ADDRESS, NOT_ALL, OVER, PATHS, PLAIN, assert_addr, at, plain};
-use dl_addr::{Form, Question, Style};
+use dl_addr::{AnswerForm, Question, Style};
 use std::test::Fail;
 
 /// A unit of two files, in a directory `/q"` and by the names `a\b` and, in bytes that are no UTF-8, `\xff`
@@ -18,7 +18,7 @@ fn objects(rt: HostRuntime) -> Result<(), Fail> {
     let alloc = rt.alloc();
     let asked = [at(0x13), NO_ADDRESS, at(0x14), at(0x1071), at(0x18)];
     let style = Style {
-        form: Form::Json,
+        form: AnswerForm::Json,
         ..PLAIN
     };
     let question = Question {
@@ -46,7 +46,7 @@ fn objects(rt: HostRuntime) -> Result<(), Fail> {
 fn objects_of_a_section(rt: HostRuntime) -> Result<(), Fail> {
     let asked = [at(0x13), NO_ADDRESS, at(0x18)];
     let style = Style {
-        form: Form::Json,
+        form: AnswerForm::Json,
         section: Some(".text.\"\\\n\u{e9}"),
         ..PLAIN
     };

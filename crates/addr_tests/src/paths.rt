@@ -3,7 +3,7 @@ use crate::sections::{
     ALL, NODIR, PATHS, PLAIN, RELATIVE, assert_addr, assert_answer, at, options, plain, section,
 };
 use dl_addr::{Asked, CompilationDirectories, Question, Style};
-use dl_run::Options;
+use dl_sections::Options;
 use std::alloc::Global;
 use std::process::Abort;
 use std::test::Fail;

@@ -2,11 +2,11 @@
 ghost use Rattle.std.specs.Prelude.{◌≤◌};
 
 use crate::indices::index_lines;
-use dl_addr::{Asked, CompilationDirectories, Form, Found, Question, Style, addr};
+use dl_addr::{AnswerForm, Asked, CompilationDirectories, Question, Style, WhichFound, addr};
 use dl_head::Dialect;
 use dl_memory::System;
 use dl_num::Order;
-use dl_run::{Options, RunFault, SECTION_LIMIT};
+use dl_sections::{Options, RunFault, SECTION_LIMIT};
 use std::alloc::Global;
 use std::process::Abort;
 use std::test::Fail;
@@ -63,7 +63,7 @@ pub const TOP: &str =
 
 /// Locations, with whole paths.
 pub const PLAIN: Style<'static> = Style {
-    form: Form::Location,
+    form: AnswerForm::Location,
     basenames: false,
     section: None,
 };
@@ -110,10 +110,10 @@ pub fn plain<'a>(asked: &'a [Asked]) -> Question<'a> {
 }
 
 /// Each of the asked addresses has an answer.
-pub const ALL: Result<Found, RunFault> = Ok(Found::All);
+pub const ALL: Result<WhichFound, RunFault> = Ok(WhichFound::All);
 
 /// One of the asked addresses at least has no answer.
-pub const NOT_ALL: Result<Found, RunFault> = Ok(Found::NotAll);
+pub const NOT_ALL: Result<WhichFound, RunFault> = Ok(WhichFound::NotAll);
 
 /// Asserts what `addr` over this input prints and answers.
 pub fn assert_answer(
@@ -122,7 +122,7 @@ pub fn assert_answer(
     input: &mut Source<'_>,
     question: &Question<'_>,
     options: &Options<'_>,
-    wanted: (&str, Result<Found, RunFault>),
+    wanted: (&str, Result<WhichFound, RunFault>),
 )
     requires { options.now.limit ≤ SECTION_LIMIT }
 {
@@ -139,7 +139,7 @@ pub fn assert_pieces(
     alloc: Global,
     section: &[u8],
     question: &Question<'_>,
-    wanted: (&str, Result<Found, RunFault>),
+    wanted: (&str, Result<WhichFound, RunFault>),
 ) {
     for most in [1, 7, 4096] {
         let mut input = Source::new(section, most);
@@ -153,7 +153,7 @@ pub fn assert_addr(
     alloc: Global,
     units: &[&str],
     question: &Question<'_>,
-    wanted: (&str, Result<Found, RunFault>),
+    wanted: (&str, Result<WhichFound, RunFault>),
 ) -> Result<(), Fail> {
     let section = section(alloc, units)?;
     assert_pieces(rt, alloc, section.as_slice(), question, wanted);

@@ -1,6 +1,6 @@
 //! Lines whose reader or writer fails, and lines to the end.
 use crate::sample::INDEX;
-use dl_addr::{Form, Found, Style};
+use dl_addr::{AnswerForm, Style, WhichFound};
 use dl_dialogue::{AnswerFault, Answered, answer_lines};
 use dl_index::open;
 use dl_memory::System;
@@ -11,7 +11,7 @@ use std::test::Fail;
 use test_support::{Fault, Sink, Source};
 
 const STYLE: Style<'static> = Style {
-    form: Form::Location,
+    form: AnswerForm::Location,
     basenames: false,
     section: None,
 };
@@ -37,8 +37,8 @@ fn end_of(answered: Result<Answered, AnswerFault>) -> End {
     match answered {
         Ok(answered) => match (&answered.no_address, answered.found) {
             (Some(line), _) => End::Other(line.number),
-            (None, Found::All) => End::All,
-            (None, Found::NotAll) => End::NotAll,
+            (None, WhichFound::All) => End::All,
+            (None, WhichFound::NotAll) => End::NotAll,
         },
         Err(AnswerFault::Input) => End::Input,
         Err(AnswerFault::Write(lost)) => End::Write(lost.out),

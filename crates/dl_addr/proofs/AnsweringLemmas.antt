@@ -18,19 +18,19 @@ use Rattle.dl_print.specs.declared.fault.WriteFault.{WriteFault}
 use Rattle.dl_print.specs.declared.summary.Summary.{Summary}
 use Rattle.dl_print.specs.Output.{TellsOut}
 use Rattle.dl_print.specs.ValueText.{Strings, strings_of}
-use Rattle.dl_run.specs.declared.fault.RunFault.{RunFault}
-use Rattle.dl_run.specs.declared.fault.RunFault.TheVariants as fault
-use Rattle.dl_run.specs.Section.{Visit, HasBegun, EndsAs, header_of, of_end, section_visits}
-use Rattle.dl_run.specs.Visiting.{Ran, VisitorStops}
-use Rattle.dl_run.proofs.SectionLemmas.{has_front}
+use Rattle.dl_sections.specs.declared.fault.RunFault.{RunFault}
+use Rattle.dl_sections.specs.declared.fault.RunFault.TheVariants as fault
+use Rattle.dl_sections.specs.Section.{Visit, HasBegun, EndsAs, header_of, of_end, section_visits}
+use Rattle.dl_sections.specs.Visiting.{Ran, VisitorStops}
+use Rattle.dl_sections.proofs.SectionLemmas.{has_front}
 use Rattle.dl_look.specs.declared.asked.Asked.{Asked}
 use Rattle.dl_addr.specs.declared.locating.Locator.{Locator}
-use Rattle.dl_addr.specs.declared.question.Found.{Found}
-use Rattle.dl_addr.specs.declared.question.Found.TheVariants as found
+use Rattle.dl_addr.specs.declared.question.WhichFound.{WhichFound}
+use Rattle.dl_addr.specs.declared.question.WhichFound.TheVariants as found
 use Rattle.dl_addr.specs.declared.question.Question.{Question}
 use Rattle.dl_dirs.specs.declared.compilation.CompilationDirectories.{CompilationDirectories}
-use Rattle.dl_addr.specs.declared.style.Form.{Form}
-use Rattle.dl_addr.specs.declared.style.Form.TheVariants as forms
+use Rattle.dl_addr.specs.declared.style.AnswerForm.{AnswerForm}
+use Rattle.dl_addr.specs.declared.style.AnswerForm.TheVariants as forms
 use Rattle.dl_addr.specs.declared.style.Style.{Style}
 use Rattle.dl_addr.specs.Answers.{located_seen}
 use Rattle.dl_look.specs.Asked.{looked_up, place_of}
@@ -101,7 +101,7 @@ asked_room q u h refuses memory (n, within, refused) few =
 -- ---- the answers of a locator are those of the units
 
 -- a path as it is kept, printed
-text_by : (form : Form) (basenames : Bool) (directory path : Option (List ℕ))
+text_by : (form : AnswerForm) (basenames : Bool) (directory path : Option (List ℕ))
     → named_text form (if basenames then option_map (λ p. if basenames then basename (compiled_in directory p) else p) path
     else option_map (compiled_in directory)
     (option_map (λ p. if basenames then basename (compiled_in directory p) else p) path))
@@ -113,7 +113,7 @@ text_by form false directory None = refl
 text_by form false directory (Some path) = refl
 
 -- the path tells nothing but its own text
-pub same_row : (form : Form) (text : List ℕ) (r : Row) (unit : ℕ) (path path' : Option (List ℕ))
+pub same_row : (form : AnswerForm) (text : List ℕ) (r : Row) (unit : ℕ) (path path' : Option (List ℕ))
     → row_text form text (location_at r unit path) ≡ row_text form text (location_at r unit path')
 same_row forms.Location text r unit path path' = refl
 same_row forms.AddressAndLocation text r unit path path' = refl
@@ -376,7 +376,7 @@ module _ {M : Type 0} (dialect : Dialect) (q : Question) (s : Strings) (first : 
           Appends-trans start mid now [] (answer_lines dialect s q units) nothing
           (subst (Appends mid now) (lines_same visits (located dialect live units) same) out)
 
-      pub all_told : (summary : Summary) (all_found : Found)
+      pub all_told : (summary : Summary) (all_found : WhichFound)
           → Ran (locate_story refuses) dialect limit bytes left first new start mid (Ok summary)
           → ((visits : List Visit) → Locating first new start mid visits
           → PrintsAll mid now q (answer_for first visits q.base) (Ok all_found))
@@ -391,13 +391,13 @@ module _ {M : Type 0} (dialect : Dialect) (q : Question) (s : Strings) (first : 
             lines_out r.0 (section_visits dialect r.0 []) r.3 r.4 p.1,
           )
 
-      told_of : (f : RunFault) (all_found : Found) → (r : Reads (Err f))
+      told_of : (f : RunFault) (all_found : WhichFound) → (r : Reads (Err f))
           → PrintsAll mid now q (answer_for first r.visits q.base) (Ok all_found)
           → (units : List (List ℕ)) × (b : List ℕ) × (back : List ℕ)
           × Ends Refuses dialect limit bytes left q units b back (Err f) × Appends start now (answer_lines dialect s q units)
       told_of f all_found r p = (r.units, r.b, r.back, r.ends, lines_out r.units r.visits r.same r.out p.1)
 
-      pub fault_told : (f : RunFault) (all_found : Found)
+      pub fault_told : (f : RunFault) (all_found : WhichFound)
           → Ran (locate_story refuses) dialect limit bytes left first new start mid (Err f)
           → ((visits : List Visit) → Locating first new start mid visits
           → PrintsAll mid now q (answer_for first visits q.base) (Ok all_found))
@@ -449,7 +449,7 @@ module _ {M : Type 0} (dialect : Dialect) (q : Question) (s : Strings) (first : 
             ),
           )
 
-      pub is_told : (ending : Result Summary RunFault) (printed : Result Found WriteFault)
+      pub is_told : (ending : Result Summary RunFault) (printed : Result WhichFound WriteFault)
           → Ran (locate_story refuses) dialect limit bytes left first new start mid ending
           → ((visits : List Visit) → Locating first new start mid visits
           → PrintsAll mid now q (answer_for first visits q.base) printed)

@@ -14,17 +14,17 @@ use Rattle.dl_look.specs.Asked.{looked_up, place_of}
 use Rattle.dl_print.specs.declared.fault.WriteFault.{WriteFault}
 use Rattle.dl_print.specs.Output.{TellsOut}
 use Rattle.dl_print.specs.ValueText.{Strings}
-use Rattle.dl_run.specs.declared.around.Survey.{Survey}
-use Rattle.dl_run.specs.declared.fault.RunFault.{RunFault}
-use Rattle.dl_run.specs.declared.fault.RunFault.TheVariants as fault
-use Rattle.dl_run.specs.Around.{Block, whole, IsBlock, block_bytes, bytes_of, units_around, Rest, begun, rest_bytes}
-use Rattle.dl_run.specs.Around.{IsCutTo, RanAround, visits_around}
-use Rattle.dl_run.specs.Section.{Visit, of_end}
-use Rattle.dl_run.specs.Visiting.{Settled, VisitorStops}
-use Rattle.dl_run.proofs.Fronts.{all_front}
+use Rattle.dl_sections.specs.declared.around.Survey.{Survey}
+use Rattle.dl_sections.specs.declared.fault.RunFault.{RunFault}
+use Rattle.dl_sections.specs.declared.fault.RunFault.TheVariants as fault
+use Rattle.dl_sections.specs.Around.{Block, whole, IsBlock, block_bytes, bytes_of, units_around, Rest, begun, rest_bytes}
+use Rattle.dl_sections.specs.Around.{IsCutTo, RanAround, visits_around}
+use Rattle.dl_sections.specs.Section.{Visit, of_end}
+use Rattle.dl_sections.specs.Visiting.{Settled, VisitorStops}
+use Rattle.dl_sections.proofs.Fronts.{all_front}
 use Rattle.dl_addr.specs.declared.locating.Locator.{Locator}
-use Rattle.dl_addr.specs.declared.question.Found.{Found}
-use Rattle.dl_addr.specs.declared.question.Found.TheVariants as found
+use Rattle.dl_addr.specs.declared.question.WhichFound.{WhichFound}
+use Rattle.dl_addr.specs.declared.question.WhichFound.TheVariants as found
 use Rattle.dl_addr.specs.declared.question.Question.{Question}
 use Rattle.dl_addr.specs.AroundCommands.{EndsAsked, LocatesAround, answer_around, lines_around, located_around}
 use Rattle.dl_addr.specs.Commands.{found_in, is_answered}
@@ -186,7 +186,7 @@ module _ {M : Type 0} (dialect : Dialect) (q : Question) (s : Strings) (first : 
     -- ---- what is printed then
 
     module _ (now : Option (List ℕ)) where
-      abbrev Prints : Result Found WriteFault → Type 0
+      abbrev Prints : Result WhichFound WriteFault → Type 0
       Prints printed =
           (visits : List Visit) → Locating first new start mid visits
           → PrintsAll mid now q (answer_for first visits q.base) printed
@@ -195,13 +195,13 @@ module _ {M : Type 0} (dialect : Dialect) (q : Question) (s : Strings) (first : 
           → seen_lines q.style (answer_for first r.visits q.base) q.asked.now ≡ lines_around dialect s q r.blocks
       lines_are ending r = lines_same dialect q s first knows r.visits (located_around dialect code r.blocks) r.same
 
-      lines_out : (ending : Result Survey RunFault) (r : Reads ending) (all_found : Found) → Prints (Ok all_found)
+      lines_out : (ending : Result Survey RunFault) (r : Reads ending) (all_found : WhichFound) → Prints (Ok all_found)
           → Appends start now (lines_around dialect s q r.blocks)
       lines_out ending r all_found prints =
           Appends-trans start mid now [] (lines_around dialect s q r.blocks) r.out
           (subst (Appends mid now) (lines_are ending r) (prints r.visits r.stands).1)
 
-      fault_told : (f : RunFault) (all_found : Found)
+      fault_told : (f : RunFault) (all_found : WhichFound)
           → RanAround (locate_story refuses) dialect limit bytes left first new start mid (Err f) → Prints (Ok all_found)
           → LocatesAround Refuses dialect s q limit bytes left start now (Err f)
       fault_told f all_found ran prints = by f (reads (Err f) ran) where
@@ -215,7 +215,7 @@ module _ {M : Type 0} (dialect : Dialect) (q : Question) (s : Strings) (first : 
         by (fault.ForeignUnit unit) r = absurd r.ends
         by (fault.Emit unit e) r = absurd r.ends
 
-      pub is_told_around : (ending : Result Survey RunFault) (printed : Result Found WriteFault)
+      pub is_told_around : (ending : Result Survey RunFault) (printed : Result WhichFound WriteFault)
           → RanAround (locate_story refuses) dialect limit bytes left first new start mid ending → Prints printed
           → LocatesAround Refuses dialect s q limit bytes left start now (told_around ending printed)
       is_told_around ending (Err lost) ran prints =

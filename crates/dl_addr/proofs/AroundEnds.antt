@@ -11,13 +11,13 @@ use Rattle.dl_rows.specs.declared.row.Row.{Row}
 use Rattle.dl_rows.specs.LineUnit.{events, unit_rows}
 use Rattle.dl_look.specs.declared.place.Place.{Place}
 use Rattle.dl_look.specs.LiveRows.{live_answer}
-use Rattle.dl_run.specs.Around.{Block, whole, damaged, block_bytes, bytes_of, units_around, block_visits, blocks_visits}
-use Rattle.dl_run.specs.Around.{Rest, begun, cut_off, broken, rest_visits, visits_around}
-use Rattle.dl_run.specs.Copying.{offset_after}
-use Rattle.dl_run.specs.RowsTold.{rows_after}
-use Rattle.dl_run.specs.Section.{Visit, of_damage, of_end, header_of, visits}
-use Rattle.dl_run.proofs.Fronts.{fronts_of, or_none}
-use Rattle.dl_run.proofs.VisitLemmas.{rows_after-append}
+use Rattle.dl_sections.specs.Around.{Block, whole, damaged, block_bytes, bytes_of, units_around, block_visits, blocks_visits}
+use Rattle.dl_sections.specs.Around.{Rest, begun, cut_off, broken, rest_visits, visits_around}
+use Rattle.dl_sections.specs.Copying.{offset_after}
+use Rattle.dl_sections.specs.RowsTold.{rows_after}
+use Rattle.dl_sections.specs.Section.{Visit, of_damage, of_end, header_of, visits}
+use Rattle.dl_sections.proofs.Fronts.{fronts_of, or_none}
+use Rattle.dl_sections.proofs.VisitLemmas.{rows_after-append}
 use Rattle.dl_addr.specs.AroundCommands.{located_along, located_around, located_in_block}
 use Rattle.dl_addr.specs.Locating.{located_after}
 use Rattle.dl_addr.specs.Locations.{Located, located_from, located_in}

@@ -9,11 +9,11 @@ use Rattle.dl_field.specs.HeaderData.{HeaderData}
 use Rattle.dl_rows.specs.declared.reader.Event.{Event}
 use Rattle.dl_rows.specs.declared.reader.Event.TheVariants as event
 use Rattle.dl_rows.specs.LineUnit.{ends_open, events, unit_rows}
-use Rattle.dl_run.specs.Section.{Visit, of_header, of_version, of_row, of_open, of_end, of_damage, header_of}
-use Rattle.dl_run.specs.Section.{header_visit, event_visits, visits, open_visit, unit_visits, units_visits}
-use Rattle.dl_run.specs.Section.{section_visits}
-use Rattle.dl_run.specs.Copying.{offset_after}
-use Rattle.dl_run.proofs.Fronts.{fronts_of, or_none}
+use Rattle.dl_sections.specs.Section.{Visit, of_header, of_version, of_row, of_open, of_end, of_damage, header_of}
+use Rattle.dl_sections.specs.Section.{header_visit, event_visits, visits, open_visit, unit_visits, units_visits}
+use Rattle.dl_sections.specs.Section.{section_visits}
+use Rattle.dl_sections.specs.Copying.{offset_after}
+use Rattle.dl_sections.proofs.Fronts.{fronts_of, or_none}
 use Rattle.dl_rows.specs.declared.row.Row.{Row}
 use Rattle.dl_look.specs.declared.place.Place.{Place}
 use Rattle.dl_addr.specs.Locating.{located_after}

@@ -6,7 +6,7 @@ use Rattle.dl_head.specs.declared.dialect.Dialect.{Dialect}
 use Rattle.dl_head.specs.Header.{header_in}
 use Rattle.dl_head.proofs.HeaderCells.{header_holds_its_cells}
 use Rattle.dl_head.proofs.HeaderLaws.{found_is_header}
-use Rattle.dl_run.specs.Section.{header_of}
+use Rattle.dl_sections.specs.Section.{header_of}
 use Rattle.dl_addr.specs.Room.{cells_of}
 
 pub cells_few : (dialect : Dialect) (u : List ℕ) → cells_of (header_of dialect u) ≤ length u

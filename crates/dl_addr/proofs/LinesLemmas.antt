@@ -11,8 +11,8 @@ use Rattle.dl_print.specs.Printed.{Printed}
 use Rattle.dl_print.specs.Output.{HasPrinted, PrintsMore, TellsOut}
 use Rattle.dl_print.proofs.Outs.{HasPrinted-out, TellsOut-more}
 use Rattle.dl_look.specs.declared.asked.Asked.{Asked}
-use Rattle.dl_addr.specs.declared.question.Found.{Found}
-use Rattle.dl_addr.specs.declared.question.Found.TheVariants as found
+use Rattle.dl_addr.specs.declared.question.WhichFound.{WhichFound}
+use Rattle.dl_addr.specs.declared.question.WhichFound.TheVariants as found
 use Rattle.dl_addr.specs.declared.style.Style.{Style}
 use Rattle.dl_addr.specs.Location.{Location}
 use Rattle.dl_addr.specs.Commands.{is_answered}
@@ -111,17 +111,17 @@ module _ (style : Style) (f : Asked → Option Location) (asked : List Asked) wh
   both_found false true = refl
   both_found false false = refl
 
-  pub found_more : (n : ℕ) (d : Asked) (is_found : Bool) (before after : Found) → n < length asked
+  pub found_more : (n : ℕ) (d : Asked) (is_found : Bool) (before after : WhichFound) → n < length asked
       → is_found ≡ is_fine (get_or asked n d) → before ≡ found_by f (take n asked)
       → after ≡ (if is_found then before else found.NotAll) → after ≡ found_by f (take (n + 1) asked)
   found_more n d is_found before after lt is was now =
       now
-      ∙ ap₂ (λ (b : Bool) (o : Found). if b then o else found.NotAll) is was
+      ∙ ap₂ (λ (b : Bool) (o : WhichFound). if b then o else found.NotAll) is was
       ∙ sym (both_found (list_all is_fine (take n asked)) (is_fine (get_or asked n d)))
       ∙ ap (λ (b : Bool). if b then found.All else found.NotAll) (sym (all_more (take n asked) (get_or asked n d)))
       ∙ ap (found_by f) (sym (take_more asked n d lt))
 
-  pub found_all : (n : ℕ) (result : Found) → length asked ≤ n → result ≡ found_by f (take n asked)
+  pub found_all : (n : ℕ) (result : WhichFound) → length asked ≤ n → result ≡ found_by f (take n asked)
       → result ≡ found_by f asked
   found_all n result le is = is ∙ ap (found_by f) (take_all n asked le)
 

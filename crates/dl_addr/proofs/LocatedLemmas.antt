@@ -17,13 +17,13 @@ use Rattle.dl_look.specs.Answer.{answer}
 use Rattle.dl_look.specs.LiveRows.{live_rows}
 use Rattle.dl_look.specs.Units.{answer_of_units}
 use Rattle.dl_look.proofs.LiveLemmas.{of_live_rows}
-use Rattle.dl_run.specs.Copying.{offset_after}
-use Rattle.dl_run.specs.RowsTold.{rows_after}
-use Rattle.dl_run.specs.Section.{Visit, of_header, of_version, of_row, of_open, of_end, of_damage, header_of}
-use Rattle.dl_run.specs.Section.{header_visit, event_visits, visits, open_visit, end_visits, unit_visits, units_visits}
-use Rattle.dl_run.specs.Section.{section_visits}
-use Rattle.dl_run.proofs.EventLemmas.{rows_visited}
-use Rattle.dl_run.proofs.Fronts.{or_assoc, or_none}
+use Rattle.dl_sections.specs.Copying.{offset_after}
+use Rattle.dl_sections.specs.RowsTold.{rows_after}
+use Rattle.dl_sections.specs.Section.{Visit, of_header, of_version, of_row, of_open, of_end, of_damage, header_of}
+use Rattle.dl_sections.specs.Section.{header_visit, event_visits, visits, open_visit, end_visits, unit_visits, units_visits}
+use Rattle.dl_sections.specs.Section.{section_visits}
+use Rattle.dl_sections.proofs.EventLemmas.{rows_visited}
+use Rattle.dl_sections.proofs.Fronts.{or_assoc, or_none}
 use Rattle.dl_addr.specs.Locations.{Located, located, located_from, located_in}
 use Rattle.dl_addr.specs.Locating.{ended_rows, located_after, located_under}
 
@@ -164,7 +164,7 @@ module _ (live : ℕ → Bool) where
 
     pub rows_of_unit : (dialect : Dialect) (offset : ℕ) (u : List ℕ) → rows_after [] (unit_visits dialect offset u) ≡ []
     rows_of_unit dialect offset u =
-        Rattle.dl_run.proofs.VisitLemmas.rows_after-append [] (visits dialect offset u) (end_visits dialect u)
+        Rattle.dl_sections.proofs.VisitLemmas.rows_after-append [] (visits dialect offset u) (end_visits dialect u)
         ∙ rows_of_end (rows_after [] (visits dialect offset u)) (ends_open (unit_rows dialect u)) (header_of dialect u)
 
     pub located_of_units : (dialect : Dialect) (n offset : ℕ) (units : List (List ℕ)) (more : List Visit)

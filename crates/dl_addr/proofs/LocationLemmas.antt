@@ -8,8 +8,8 @@ use Rattle.dl_print.specs.Text.{line}
 use Rattle.dl_addr.specs.declared.kept.KeptPath.{KeptPath}
 use Rattle.dl_addr.specs.declared.kept.PathUnit.{PathUnit}
 use Rattle.dl_addr.specs.declared.location.Location as given
-use Rattle.dl_addr.specs.declared.style.Form.{Form}
-use Rattle.dl_addr.specs.declared.style.Form.TheVariants as forms
+use Rattle.dl_addr.specs.declared.style.AnswerForm.{AnswerForm}
+use Rattle.dl_addr.specs.declared.style.AnswerForm.TheVariants as forms
 use Rattle.dl_addr.specs.declared.style.Style.{Style}
 use Rattle.dl_addr.specs.Location.{Location}
 use Rattle.dl_addr.specs.Locations.{asked_text, location_line, location_seen, row_text}
@@ -46,7 +46,7 @@ printed_at l path = record {
   is_stmt = l.is_stmt;
 }
 
-same_row : (form : Form) (text : List ℕ) (l : given.Location) (path : Option (List ℕ))
+same_row : (form : AnswerForm) (text : List ℕ) (l : given.Location) (path : Option (List ℕ))
     → row_text form text (printed_at l path) ≡ row_text form text (location_seen l)
 same_row forms.Location text l path = refl
 same_row forms.AddressAndLocation text l path = refl

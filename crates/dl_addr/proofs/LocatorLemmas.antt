@@ -16,17 +16,17 @@ use Rattle.dl_look.specs.Units.{FirstAnswer, answer_of_units}
 use Rattle.dl_memory.specs.declared.memory.NoMemory.{NoMemory}
 use Rattle.dl_memory.specs.Refusals.{IsRefused}
 use Rattle.dl_print.specs.ValueText.{strings_of}
-use Rattle.dl_run.specs.declared.fault.RunFault.TheVariants as fault
-use Rattle.dl_run.specs.Copying.{offset_after}
-use Rattle.dl_run.specs.RowsTold.{rows_after}
-use Rattle.dl_run.specs.declared.around.Damage.{Damage}
-use Rattle.dl_run.specs.GoingOn.{IsTold}
-use Rattle.dl_run.specs.Section.{Visit, of_damage, of_end}
+use Rattle.dl_sections.specs.declared.fault.RunFault.TheVariants as fault
+use Rattle.dl_sections.specs.Copying.{offset_after}
+use Rattle.dl_sections.specs.RowsTold.{rows_after}
+use Rattle.dl_sections.specs.declared.around.Damage.{Damage}
+use Rattle.dl_sections.specs.GoingOn.{IsTold}
+use Rattle.dl_sections.specs.Section.{Visit, of_damage, of_end}
 use Rattle.dl_rows.specs.declared.sink.Flow.{Flow}
 use Rattle.dl_rows.specs.declared.sink.Flow.TheVariants as flow
-use Rattle.dl_run.specs.Visiting.{GoesOn, StopsIn}
-use Rattle.dl_run.proofs.VisitLemmas.{rows_after-append}
-use Rattle.dl_run.proofs.Fronts.{map_none, or_none}
+use Rattle.dl_sections.specs.Visiting.{GoesOn, StopsIn}
+use Rattle.dl_sections.proofs.VisitLemmas.{rows_after-append}
+use Rattle.dl_sections.proofs.Fronts.{map_none, or_none}
 use Rattle.dl_addr.specs.declared.locating.Locator.{Locator}
 use Rattle.dl_addr.specs.declared.kept.FilePath.{FilePath}
 use Rattle.dl_addr.specs.declared.kept.PathUnit.{PathUnit}

@@ -9,15 +9,15 @@ use Rattle.dl_look.specs.declared.asked.Asked.{Asked}
 use Rattle.dl_look.specs.declared.place.Place.{Place}
 use Rattle.dl_look.specs.Asked.{place_of}
 use Rattle.dl_print.specs.ValueText.{Strings}
-use Rattle.dl_run.specs.declared.around.Damage.{Damage}
-use Rattle.dl_run.specs.declared.around.Survey.{Survey}
-use Rattle.dl_run.specs.Around.{Block, whole, damaged, bytes_of, units_around, faults_in, Rest, begun, cut_off, broken}
-use Rattle.dl_run.specs.Around.{rest_faults, damaged_units, faults_of, survey_of, IsCut, IsLast}
-use Rattle.dl_run.specs.Section.{summary_of}
-use Rattle.dl_run.proofs.BlockLemmas.{all_whole, bytes_of_units, each_unit, no_faults, units_of_units}
-use Rattle.dl_run.proofs.Fronts.{empty_both}
-use Rattle.dl_run.proofs.SectionLemmas.{none_begins, none_refused}
-use Rattle.dl_addr.specs.declared.question.Found.{Found}
+use Rattle.dl_sections.specs.declared.around.Damage.{Damage}
+use Rattle.dl_sections.specs.declared.around.Survey.{Survey}
+use Rattle.dl_sections.specs.Around.{Block, whole, damaged, bytes_of, units_around, faults_in, Rest, begun, cut_off, broken}
+use Rattle.dl_sections.specs.Around.{rest_faults, damaged_units, faults_of, survey_of, IsCut, IsLast}
+use Rattle.dl_sections.specs.Section.{summary_of}
+use Rattle.dl_sections.proofs.BlockLemmas.{all_whole, bytes_of_units, each_unit, no_faults, units_of_units}
+use Rattle.dl_sections.proofs.Fronts.{empty_both}
+use Rattle.dl_sections.proofs.SectionLemmas.{none_begins, none_refused}
+use Rattle.dl_addr.specs.declared.question.WhichFound.{WhichFound}
 use Rattle.dl_addr.specs.declared.question.Question.{Question}
 use Rattle.dl_dirs.specs.Compilation.{directory_by}
 use Rattle.dl_addr.specs.AroundCommands.{LocatesAround, lines_around, located_along, located_around}
@@ -72,7 +72,7 @@ module _ (dialect : Dialect) (s : Strings) (q : Question) (units : List (List �
 -- ---- sections
 
 module _ (refuses : ℕ → Type 0) (dialect : Dialect) (s : Strings) (q : Question) (limit : ℕ) (bytes : List ℕ)
-    (left start now : Option (List ℕ)) (all_found : Found) where
+    (left start now : Option (List ℕ)) (all_found : WhichFound) where
   abbrev Around : Type 0
   Around = LocatesAround refuses dialect s q limit bytes left start now (Ok (record { found = all_found; damaged = None }))
 

@@ -7,10 +7,10 @@ use Rattle.dl_head.specs.declared.dialect.Dialect.{Dialect}
 use Rattle.dl_memory.specs.Refusals.{IsRefused}
 use Rattle.dl_print.specs.Output.{TellsOut}
 use Rattle.dl_print.specs.ValueText.{Strings}
-use Rattle.dl_run.specs.declared.around.Survey.{Survey}
-use Rattle.dl_run.specs.declared.fault.RunFault.{RunFault}
-use Rattle.dl_run.specs.declared.fault.RunFault.TheVariants as fault
-use Rattle.dl_run.specs.Around.{Block, whole, damaged, block_bytes, units_around, Rest, begun, EndsAround, IsCutTo}
+use Rattle.dl_sections.specs.declared.around.Survey.{Survey}
+use Rattle.dl_sections.specs.declared.fault.RunFault.{RunFault}
+use Rattle.dl_sections.specs.declared.fault.RunFault.TheVariants as fault
+use Rattle.dl_sections.specs.Around.{Block, whole, damaged, block_bytes, units_around, Rest, begun, EndsAround, IsCutTo}
 use Rattle.dl_look.specs.declared.asked.Asked.{Asked}
 use Rattle.dl_look.specs.declared.place.Place.{Place}
 use Rattle.dl_look.specs.Asked.{looked_up, place_of}

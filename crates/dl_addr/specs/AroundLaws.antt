@@ -2,7 +2,7 @@
 use Rattle.std.specs.Prelude.{◌≡◌, ℕ, Bool, true, List, Option, None, Ok}
 use Rattle.dl_head.specs.declared.dialect.Dialect.{Dialect}
 use Rattle.dl_print.specs.ValueText.{Strings}
-use Rattle.dl_addr.specs.declared.question.Found.{Found}
+use Rattle.dl_addr.specs.declared.question.WhichFound.{WhichFound}
 use Rattle.dl_addr.specs.declared.question.Question.{Question}
 use Rattle.dl_addr.specs.AroundCommands.{LocatesAround}
 use Rattle.dl_addr.specs.Commands.{Locates}
@@ -11,7 +11,7 @@ use Rattle.dl_addr.specs.Commands.{Locates}
 abbrev pub SameWithoutDamage : Type 0
 SameWithoutDamage =
     (refused : ℕ → Bool) (dialect : Dialect) (s : Strings) (q : Question) (limit : ℕ) (bytes : List ℕ)
-    (left start now : Option (List ℕ)) (all_found : Found)
+    (left start now : Option (List ℕ)) (all_found : WhichFound)
     → (Locates (λ n. refused n ≡ true) dialect s q limit bytes left start now (Ok all_found)
     → LocatesAround (λ n. refused n ≡ true) dialect s q limit bytes left start now
     (Ok (record { found = all_found; damaged = None })))

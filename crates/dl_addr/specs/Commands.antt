@@ -11,13 +11,13 @@ use Rattle.dl_head.specs.declared.dialect.Dialect.{Dialect}
 use Rattle.dl_memory.specs.Refusals.{IsRefused}
 use Rattle.dl_print.specs.Output.{TellsOut}
 use Rattle.dl_print.specs.ValueText.{Strings}
-use Rattle.dl_run.specs.declared.fault.RunFault.{RunFault}
-use Rattle.dl_run.specs.declared.fault.RunFault.TheVariants as fault
+use Rattle.dl_sections.specs.declared.fault.RunFault.{RunFault}
+use Rattle.dl_sections.specs.declared.fault.RunFault.TheVariants as fault
 use Rattle.dl_print.specs.declared.summary.Summary.{Summary}
-use Rattle.dl_run.specs.Section.{EndsAs, HasUnits}
+use Rattle.dl_sections.specs.Section.{EndsAs, HasUnits}
 use Rattle.dl_look.specs.declared.asked.Asked.{Asked}
-use Rattle.dl_addr.specs.declared.question.Found.{Found}
-use Rattle.dl_addr.specs.declared.question.Found.TheVariants as found
+use Rattle.dl_addr.specs.declared.question.WhichFound.{WhichFound}
+use Rattle.dl_addr.specs.declared.question.WhichFound.TheVariants as found
 use Rattle.dl_addr.specs.declared.question.Question.{Question}
 use Rattle.dl_look.specs.Asked.{looked_up, place_of}
 use Rattle.dl_addr.specs.Code.{is_code}
@@ -39,7 +39,7 @@ abbrev pub is_answered : Asked → (is_found : Bool) → Bool
 is_answered a is_found = is_none a.address || is_found
 
 -- whether each address has an answer
-abbrev pub found_in : Dialect → Question → List (List ℕ) → Found
+abbrev pub found_in : Dialect → Question → List (List ℕ) → WhichFound
 found_in dialect q units =
     if list_all (λ a. is_answered a (is_some (answer_in dialect q units a))) q.asked.now then found.All
     else found.NotAll
@@ -69,7 +69,7 @@ Ends refuses dialect limit bytes left q units b back result = EndsAs dialect lim
 -- `addr`: the lines of what is asked, answered by the units before the end or the fault. Where memory was refused for
 -- the places, nothing is read or written.
 abbrev pub Locates : (refuses : ℕ → Type 0) → Dialect → Strings → Question → (limit : ℕ) (bytes : List ℕ) (left start now : Option (List ℕ))
-    → Result Found RunFault → Type 0
+    → Result WhichFound RunFault → Type 0
 Locates refuses dialect s q limit bytes left start now (Ok all_found) =
     (units : List (List ℕ)) × (summary : Summary) × EndsAs dialect limit bytes left units [] [] (Ok summary)
     × (all_found ≡ found_in dialect q units) × Appends start now (answer_lines dialect s q units)

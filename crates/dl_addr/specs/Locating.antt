@@ -11,12 +11,12 @@ use Rattle.dl_look.specs.FindersRows.{Stand, answered_count}
 use Rattle.dl_look.specs.LiveRows.{live_rows, Tells}
 use Rattle.dl_memory.specs.Refusals.{IsRefused}
 use Rattle.dl_print.specs.ValueText.{strings_of}
-use Rattle.dl_run.specs.declared.fault.RunFault.{RunFault}
-use Rattle.dl_run.specs.declared.fault.RunFault.TheVariants.{NoMemory}
-use Rattle.dl_run.specs.Copying.{offset_after}
-use Rattle.dl_run.specs.RowsTold.{rows_after}
-use Rattle.dl_run.specs.Section.{Visit, of_header, of_row, of_end, of_damage}
-use Rattle.dl_run.specs.Visiting.{Story}
+use Rattle.dl_sections.specs.declared.fault.RunFault.{RunFault}
+use Rattle.dl_sections.specs.declared.fault.RunFault.TheVariants.{NoMemory}
+use Rattle.dl_sections.specs.Copying.{offset_after}
+use Rattle.dl_sections.specs.RowsTold.{rows_after}
+use Rattle.dl_sections.specs.Section.{Visit, of_header, of_row, of_end, of_damage}
+use Rattle.dl_sections.specs.Visiting.{Story}
 use Rattle.dl_addr.specs.declared.kept.PathUnit.{PathUnit}
 use Rattle.dl_addr.specs.declared.locating.Locator.{Locator}
 use Rattle.dl_addr.specs.Code.{is_code}

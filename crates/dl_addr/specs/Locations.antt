@@ -11,11 +11,11 @@ use Rattle.dl_look.specs.LiveRows.{live_answer}
 use Rattle.dl_print.specs.Digits.{hexadecimal_of}
 use Rattle.dl_print.specs.Text.{line}
 use Rattle.dl_print.specs.ValueText.{Strings}
-use Rattle.dl_run.specs.Section.{header_of}
+use Rattle.dl_sections.specs.Section.{header_of}
 use Rattle.dl_look.specs.declared.asked.Asked.{Asked}
 use Rattle.dl_addr.specs.declared.location.Location as given
-use Rattle.dl_addr.specs.declared.style.Form.{Form}
-use Rattle.dl_addr.specs.declared.style.Form.TheVariants as forms
+use Rattle.dl_addr.specs.declared.style.AnswerForm.{AnswerForm}
+use Rattle.dl_addr.specs.declared.style.AnswerForm.TheVariants as forms
 use Rattle.dl_addr.specs.declared.style.Style.{Style}
 use Rattle.dl_addr.specs.Location.{Location, location_at}
 use Rattle.dl_addr.specs.Json.{json_asked, json_row}
@@ -72,13 +72,13 @@ abbrev pub place_text : (path : List ℕ) → Location → List ℕ
 place_text path l = path ++ (codes ":" ++ decimal l.line) ++ column_text l.column
 
 -- what is told, under the text of its path
-abbrev pub row_text : Form → (path : List ℕ) → Location → List ℕ
+abbrev pub row_text : AnswerForm → (path : List ℕ) → Location → List ℕ
 row_text forms.Location path l = place_text path l
 row_text forms.AddressAndLocation path l = place_text path l
 row_text forms.Json path l = json_row path l ++ codes "}"
 
 -- where nothing is told
-abbrev pub no_row_text : Form → List ℕ
+abbrev pub no_row_text : AnswerForm → List ℕ
 no_row_text forms.Location = codes "??:0"
 no_row_text forms.AddressAndLocation = codes "??:0"
 no_row_text forms.Json = codes "}"
@@ -92,7 +92,7 @@ abbrev pub address_text : Option ℕ → List ℕ
 address_text address = option_map_or (λ n. codes "0x" ++ hexadecimal_of 16 n ++ codes " ") address []
 
 -- what stands before the answer
-abbrev pub asked_text : Form → (section : Option (List ℕ)) → Asked → List ℕ
+abbrev pub asked_text : AnswerForm → (section : Option (List ℕ)) → Asked → List ℕ
 asked_text forms.Location section a = []
 asked_text forms.AddressAndLocation section a = address_text a.address
 asked_text forms.Json section a = json_asked a.address section

@@ -1,19 +1,19 @@
 -- The texts of paths, as they are printed.
 use Rattle.std.specs.Prelude.{ℕ, if◌then◌else◌, List, Option, Some, None, codes}
 use Rattle.dl_path.specs.Shown.{basename, shown}
-use Rattle.dl_addr.specs.declared.style.Form.{Form}
-use Rattle.dl_addr.specs.declared.style.Form.TheVariants.{Location, AddressAndLocation, Json}
+use Rattle.dl_addr.specs.declared.style.AnswerForm.{AnswerForm}
+use Rattle.dl_addr.specs.declared.style.AnswerForm.TheVariants.{Location, AddressAndLocation, Json}
 use Rattle.dl_addr.specs.declared.style.Style.{Style}
 use Rattle.dl_addr.specs.Json.{json_string}
 
 -- as the form of the line has it
-abbrev pub text_in : Form → List ℕ → List ℕ
+abbrev pub text_in : AnswerForm → List ℕ → List ℕ
 text_in Location path = shown path
 text_in AddressAndLocation path = shown path
 text_in Json path = json_string path
 
 -- where no path is known
-abbrev pub no_path_text : Form → List ℕ
+abbrev pub no_path_text : AnswerForm → List ℕ
 no_path_text Location = codes "??"
 no_path_text AddressAndLocation = codes "??"
 no_path_text Json = codes "null"

@@ -8,11 +8,11 @@ ghost use Rattle.dl_input.specs.Failing.{Blames};
 ghost use Rattle.dl_look.specs.declared.place.Place as place;
 ghost use Rattle.dl_print.specs.ValueText.{strings_of};
 ghost use Rattle.dl_print.specs.Output.{BlamesWriter as PrintBlames};
-ghost use Rattle.dl_run.specs.Blaming.{BlamesWriter};
-ghost use Rattle.dl_run.specs.Commands.{strings_in};
-ghost use Rattle.dl_run.specs.Section.{Visit};
+ghost use Rattle.dl_sections.specs.Blaming.{BlamesWriter};
+ghost use Rattle.dl_sections.specs.Commands.{strings_in};
+ghost use Rattle.dl_sections.specs.Section.{Visit};
 ghost use Rattle.dl_addr.specs.declared.locating.Locator as locators;
-ghost use Rattle.dl_addr.specs.declared.question.Found.TheVariants as all_found;
+ghost use Rattle.dl_addr.specs.declared.question.WhichFound.TheVariants as all_found;
 ghost use Rattle.dl_addr.specs.Answers.{answer_seen};
 ghost use Rattle.dl_addr.specs.AroundCommands.{LocatesAround};
 ghost use Rattle.dl_look.specs.Asked.{looked_up};
@@ -23,13 +23,13 @@ ghost use Rattle.dl_addr.specs.Printing.{PrintsAll, answer_for, told, told_aroun
 
 use crate::locating::{Answer, Locator};
 use crate::printing::print_line;
-use crate::question::{Found, FoundAround, Question};
+use crate::question::{FoundAround, Question, WhichFound};
 use dl_input::Source;
 use dl_look::{Asked, Place};
 use dl_memory::{Memory, NoMemory};
 use dl_output::Destination;
 use dl_print::{Printer, StringSections, Summary, WriteFault};
-use dl_run::{Options, RunFault, SECTION_LIMIT, Survey, read_units, read_units_around};
+use dl_sections::{Options, RunFault, SECTION_LIMIT, Survey, read_units, read_units_around};
 
 /// Answers each address with a line, in the order in which they are asked: its location, by the first
 /// unit whose sequences cover it, or that there is none.
@@ -44,7 +44,7 @@ pub fn addr<M: Memory, R: Source, W: Destination>(
     output: &mut W,
     question: &Question<'_>,
     options: &Options<'_>,
-) -> Result<Found, RunFault>
+) -> Result<WhichFound, RunFault>
     requires { options.now.limit ≤ SECTION_LIMIT }
     ensures ran { (bs : List ℕ) × Consumes (R.remaining input.old) (R.remaining input.new) bs
         × Locates (M.refuses memory.now) options.now.dialect (strings_in options.now) question.now options.now.limit bs
@@ -65,8 +65,8 @@ pub fn addr<M: Memory, R: Source, W: Destination>(
 /// What is answered where the reading ended so, and then the lines were printed.
 fn told(
     ended: Result<Summary, RunFault>,
-    printed: Result<Found, WriteFault>,
-) -> Result<Found, RunFault>
+    printed: Result<WhichFound, WriteFault>,
+) -> Result<WhichFound, RunFault>
     ensures { result ≡ told ended printed }
 {
     let found = printed?;
@@ -106,7 +106,7 @@ pub fn addr_around<M: Memory, R: Source, W: Destination>(
 /// What is answered where the reading around damaged units ended so, and then the lines were printed.
 fn told_around(
     ended: Result<Survey, RunFault>,
-    printed: Result<Found, WriteFault>,
+    printed: Result<WhichFound, WriteFault>,
 ) -> Result<FoundAround, RunFault>
     ensures { result ≡ told_around ended printed }
 {
@@ -158,7 +158,7 @@ fn print_all<M: Memory, W: Destination>(
     locator: &Locator<'_, '_, '_, M>,
     output: &mut W,
     question: &Question<'_>,
-) -> Result<Found, WriteFault>
+) -> Result<WhichFound, WriteFault>
     ensures printed { (first : locators.Locator M) (start held : Option (List ℕ)) (visits : List Visit)
         → Locating first locator.now start held visits
         → IsMadeFor first (map (looked_up question.now.base) question.now.asked.now)
@@ -167,7 +167,7 @@ fn print_all<M: Memory, W: Destination>(
     ensures blames_writer { PrintBlames W.fails result }
 {
     let mut printer = Printer::new();
-    let mut found = Found::All;
+    let mut found = WhichFound::All;
     let mut number = 0;
     while number < question.asked.len() {
         let asked = question.asked[number];
@@ -207,8 +207,8 @@ fn is_answered(asked: Asked, is_found: bool) -> bool
 }
 
 /// Whether all are found, with one more.
-fn also(found: Found, is_found: bool) -> Found
+fn also(found: WhichFound, is_found: bool) -> WhichFound
     ensures { result ≡ (if is_found then found else all_found.NotAll) }
 {
-    if is_found { found } else { Found::NotAll }
+    if is_found { found } else { WhichFound::NotAll }
 }

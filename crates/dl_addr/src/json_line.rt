@@ -5,7 +5,7 @@ ghost use Rattle.dl_print.specs.Digits.{hexadecimal, hexadecimal_of};
 ghost use Rattle.dl_print.specs.Output.{BlamesWriter as PrintBlames, Prints};
 ghost use Rattle.std.specs.Option.{option_copied};
 ghost use Rattle.dl_addr.specs.Json.{json_address, json_asked, json_is_stmt, json_position, json_row, json_section, json_string};
-ghost use Rattle.dl_addr.specs.declared.style.Form.TheVariants as all_forms;
+ghost use Rattle.dl_addr.specs.declared.style.AnswerForm.TheVariants as all_forms;
 ghost use Rattle.dl_addr.specs.Answers.{answer_seen};
 ghost use Rattle.dl_addr.specs.Texts.{path_kept};
 ghost use Rattle.dl_addr.specs.Printing.{named_text};
@@ -13,7 +13,7 @@ ghost use Rattle.dl_addr.specs.Printing.{named_text};
 use crate::kept::KeptPath;
 use crate::locating::Answer;
 use crate::path_text::print_path;
-use crate::style::Form;
+use crate::style::AnswerForm;
 use dl_output::Destination;
 use dl_path::print_json_text;
 use dl_print::{Printer, WriteFault};
@@ -134,7 +134,7 @@ fn print_path_member<W: Destination>(
     ensures blames_writer { PrintBlames W.fails result }
 {
     printer.put(output, b",\"path\":")?;
-    print_path(printer, output, Form::Json, path)
+    print_path(printer, output, AnswerForm::Json, path)
 }
 
 /// Prints the line, the column and the discriminator.

@@ -17,5 +17,5 @@ pub use answering::{addr, addr_around};
 pub use dl_dirs::CompilationDirectories;
 pub use dl_look::Asked;
 pub use location::{Location, print_location};
-pub use question::{Found, FoundAround, Question};
-pub use style::{Form, Style};
+pub use question::{FoundAround, Question, WhichFound};
+pub use style::{AnswerForm, Style};

@@ -16,7 +16,7 @@ use dl_output::Destination;
 use dl_path::{beside_table, has_directory_0, is_whole_path};
 use dl_print::StringSections;
 use dl_rows::{Flow, Row};
-use dl_run::{AroundDamage, Damage, RunFault, Visitor};
+use dl_sections::{AroundDamage, Damage, RunFault, Visitor};
 
 /// Looks places up in the rows of live sequences, unit by unit, and keeps the paths of those that it finds.
 #[derive(Drop)]
@@ -123,7 +123,7 @@ impl<'s, 'o, 'q, M: Memory> Locator<'s, 'o, 'q, M> {
     ghost use Rattle.std.specs.Prelude.{Bool, Option, option_map, []};
     ghost use Rattle.std.specs.Option.{option_and_then, option_copied};
     ghost use Rattle.dl_addr.specs.declared.locating.Locator as locator;
-    ghost use Rattle.dl_run.specs.Section.{Visit};
+    ghost use Rattle.dl_sections.specs.Section.{Visit};
     ghost use Rattle.dl_look.specs.FinderRows.{unended};
     ghost use Rattle.dl_addr.specs.Code.{is_code};
     ghost use Rattle.dl_addr.specs.Locating.{Locating, located_by, printed_by};

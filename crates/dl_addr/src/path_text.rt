@@ -3,14 +3,14 @@
 ghost use Rattle.std.specs.Prelude.{◌≡◌, ◌++◌, [], codes, unwrap_or};
 ghost use Rattle.std.specs.Option.{option_copied};
 ghost use Rattle.dl_print.specs.Output.{BlamesWriter as PrintBlames, Prints};
-ghost use Rattle.dl_addr.specs.declared.style.Form.TheVariants as all_forms;
+ghost use Rattle.dl_addr.specs.declared.style.AnswerForm.TheVariants as all_forms;
 ghost use Rattle.dl_path.specs.Paths.{slash_after};
 ghost use Rattle.dl_addr.specs.Printing.{inner_text, named_text};
 ghost use Rattle.dl_addr.specs.Shown.{no_path_text, text_in};
 ghost use Rattle.dl_addr.specs.Texts.{path_in_table, path_kept, path_named};
 
 use crate::kept::{KeptBytes, KeptPath, KeptText};
-use crate::style::Form;
+use crate::style::AnswerForm;
 use dl_output::Destination;
 use dl_path::{print_json_text, print_shown, wants_slash};
 use dl_print::{Printer, WriteFault};
@@ -19,7 +19,7 @@ use dl_print::{Printer, WriteFault};
 pub fn print_path<W: Destination>(
     printer: &mut Printer,
     output: &mut W,
-    form: Form,
+    form: AnswerForm,
     path: KeptPath<'_, '_>,
 ) -> Result<(), WriteFault>
     ensures printed { Prints (W.contents output.old) (W.contents output.new) printer.old printer.new
@@ -36,7 +36,7 @@ pub fn print_path<W: Destination>(
 fn print_known<W: Destination>(
     printer: &mut Printer,
     output: &mut W,
-    form: Form,
+    form: AnswerForm,
     path: KeptPath<'_, '_>,
     name: &KeptText<'_>,
 ) -> Result<(), WriteFault>
@@ -45,10 +45,10 @@ fn print_known<W: Destination>(
     ensures blames_writer { PrintBlames W.fails result }
 {
     match form {
-        Form::Location | Form::AddressAndLocation => {
+        AnswerForm::Location | AnswerForm::AddressAndLocation => {
             print_rooted(printer, output, form, path, name)
         }
-        Form::Json => print_quoted(printer, output, path, name),
+        AnswerForm::Json => print_quoted(printer, output, path, name),
     }
 }
 
@@ -56,15 +56,15 @@ fn print_known<W: Destination>(
 fn print_no_path<W: Destination>(
     printer: &mut Printer,
     output: &mut W,
-    form: Form,
+    form: AnswerForm,
 ) -> Result<(), WriteFault>
     ensures printed { Prints (W.contents output.old) (W.contents output.new) printer.old printer.new
         (no_path_text form) result }
     ensures blames_writer { PrintBlames W.fails result }
 {
     match form {
-        Form::Location | Form::AddressAndLocation => printer.put(output, b"??"),
-        Form::Json => printer.put(output, b"null"),
+        AnswerForm::Location | AnswerForm::AddressAndLocation => printer.put(output, b"??"),
+        AnswerForm::Json => printer.put(output, b"null"),
     }
 }
 
@@ -80,7 +80,7 @@ fn print_quoted<W: Destination>(
     ensures blames_writer { PrintBlames W.fails result }
 {
     printer.put(output, b"\"")?;
-    print_rooted(printer, output, Form::Json, path, name)?;
+    print_rooted(printer, output, AnswerForm::Json, path, name)?;
     printer.put(output, b"\"")
 }
 
@@ -88,7 +88,7 @@ fn print_quoted<W: Destination>(
 fn print_rooted<W: Destination>(
     printer: &mut Printer,
     output: &mut W,
-    form: Form,
+    form: AnswerForm,
     path: KeptPath<'_, '_>,
     name: &KeptText<'_>,
 ) -> Result<(), WriteFault>
@@ -108,7 +108,7 @@ fn print_rooted<W: Destination>(
 fn print_parts<W: Destination>(
     printer: &mut Printer,
     output: &mut W,
-    form: Form,
+    form: AnswerForm,
     path: KeptPath<'_, '_>,
     name: &KeptText<'_>,
 ) -> Result<(), WriteFault>
@@ -126,7 +126,7 @@ fn print_parts<W: Destination>(
 fn print_directory<W: Destination>(
     printer: &mut Printer,
     output: &mut W,
-    form: Form,
+    form: AnswerForm,
     directory: Option<&KeptText<'_>>,
 ) -> Result<(), WriteFault>
     ensures printed { Prints (W.contents output.old) (W.contents output.new) printer.old printer.new
@@ -145,7 +145,7 @@ fn print_directory<W: Destination>(
 fn print_folder<W: Destination>(
     printer: &mut Printer,
     output: &mut W,
-    form: Form,
+    form: AnswerForm,
     directory: &KeptText<'_>,
 ) -> Result<(), WriteFault>
     ensures printed { Prints (W.contents output.old) (W.contents output.new) printer.old printer.new
@@ -179,7 +179,7 @@ fn print_slash<W: Destination>(
 fn print_text<W: Destination>(
     printer: &mut Printer,
     output: &mut W,
-    form: Form,
+    form: AnswerForm,
     text: &KeptText<'_>,
 ) -> Result<(), WriteFault>
     ensures printed { Prints (W.contents output.old) (W.contents output.new) printer.old printer.new
@@ -190,7 +190,11 @@ fn print_text<W: Destination>(
         return printer.put(output, text.bytes());
     }
     match form {
-        Form::Location | Form::AddressAndLocation => print_shown(printer, output, text.bytes()),
-        Form::Json => print_json_text(printer, output, text.bytes()),
+        AnswerForm::Location | AnswerForm::AddressAndLocation => print_shown(
+            printer,
+            output,
+            text.bytes(),
+        ),
+        AnswerForm::Json => print_json_text(printer, output, text.bytes()),
     }
 }

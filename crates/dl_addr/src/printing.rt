@@ -11,7 +11,7 @@ ghost use Rattle.dl_addr.specs.Printing.{named_text, seen_line, seen_text};
 use crate::json_line::{print_json_asked, print_json_row};
 use crate::locating::Answer;
 use crate::path_text::print_path;
-use crate::style::{Form, Style};
+use crate::style::{AnswerForm, Style};
 use dl_look::Asked;
 use dl_output::Destination;
 use dl_print::{Printer, WriteFault};
@@ -45,9 +45,9 @@ fn print_asked<W: Destination>(
     ensures blames_writer { PrintBlames W.fails result }
 {
     match style.form {
-        Form::Location => printer.put(output, b""),
-        Form::AddressAndLocation => print_address(printer, output, asked.address),
-        Form::Json => print_json_asked(printer, output, asked.address, style.section),
+        AnswerForm::Location => printer.put(output, b""),
+        AnswerForm::AddressAndLocation => print_address(printer, output, asked.address),
+        AnswerForm::Json => print_json_asked(printer, output, asked.address, style.section),
     }
 }
 
@@ -73,7 +73,7 @@ fn print_address<W: Destination>(
 fn print_answer<W: Destination>(
     printer: &mut Printer,
     output: &mut W,
-    form: Form,
+    form: AnswerForm,
     answer: Option<Answer<'_, '_>>,
 ) -> Result<(), WriteFault>
     ensures printed { Prints (W.contents output.old) (W.contents output.new) printer.old printer.new
@@ -90,7 +90,7 @@ fn print_answer<W: Destination>(
 fn print_row<W: Destination>(
     printer: &mut Printer,
     output: &mut W,
-    form: Form,
+    form: AnswerForm,
     answer: &Answer<'_, '_>,
 ) -> Result<(), WriteFault>
     ensures printed { Prints (W.contents output.old) (W.contents output.new) printer.old printer.new
@@ -98,8 +98,10 @@ fn print_row<W: Destination>(
     ensures blames_writer { PrintBlames W.fails result }
 {
     match form {
-        Form::Location | Form::AddressAndLocation => print_place(printer, output, form, answer),
-        Form::Json => {
+        AnswerForm::Location | AnswerForm::AddressAndLocation => print_place(
+            printer, output, form, answer,
+        ),
+        AnswerForm::Json => {
             print_json_row(printer, output, answer)?;
             printer.put(output, b"}")
         }
@@ -109,15 +111,15 @@ fn print_row<W: Destination>(
 fn print_no_row<W: Destination>(
     printer: &mut Printer,
     output: &mut W,
-    form: Form,
+    form: AnswerForm,
 ) -> Result<(), WriteFault>
     ensures printed { Prints (W.contents output.old) (W.contents output.new) printer.old printer.new
         (no_row_text form) result }
     ensures blames_writer { PrintBlames W.fails result }
 {
     match form {
-        Form::Location | Form::AddressAndLocation => printer.put(output, b"??:0"),
-        Form::Json => printer.put(output, b"}"),
+        AnswerForm::Location | AnswerForm::AddressAndLocation => printer.put(output, b"??:0"),
+        AnswerForm::Json => printer.put(output, b"}"),
     }
 }
 
@@ -125,7 +127,7 @@ fn print_no_row<W: Destination>(
 fn print_place<W: Destination>(
     printer: &mut Printer,
     output: &mut W,
-    form: Form,
+    form: AnswerForm,
     answer: &Answer<'_, '_>,
 ) -> Result<(), WriteFault>
     ensures printed { Prints (W.contents output.old) (W.contents output.new) printer.old printer.new

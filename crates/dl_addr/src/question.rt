@@ -3,7 +3,7 @@
 use crate::style::Style;
 use dl_dirs::CompilationDirectories;
 use dl_look::{Asked, CodeRanges};
-use dl_run::DamagedUnits;
+use dl_sections::DamagedUnits;
 
 /// What is asked of a section.
 #[derive(Clone, Copy)]
@@ -23,7 +23,7 @@ pub struct Question<'a> {
 
 /// Whether each address was answered.
 #[derive(Clone, Copy, Debug, PartialEq, Eq)]
-pub enum Found {
+pub enum WhichFound {
     All,
     NotAll,
 }
@@ -31,6 +31,6 @@ pub enum Found {
 /// What was answered of a section of which units may be damaged.
 #[derive(Clone, Copy, Debug, PartialEq, Eq)]
 pub struct FoundAround {
-    pub found: Found,
+    pub found: WhichFound,
     pub damaged: Option<DamagedUnits>,
 }

@@ -3,7 +3,7 @@
 /// How answers are printed.
 #[derive(Clone, Copy, Debug, PartialEq, Eq)]
 pub struct Style<'a> {
-    pub form: Form,
+    pub form: AnswerForm,
     /// Of a path the last component alone.
     pub basenames: bool,
     /// The name of the section that is asked of, where the user gave one. Objects of JSON have it.
@@ -12,7 +12,7 @@ pub struct Style<'a> {
 
 /// What the line of an address says.
 #[derive(Clone, Copy, Debug, PartialEq, Eq)]
-pub enum Form {
+pub enum AnswerForm {
     /// Its location.
     Location,
     /// The address as it was given, and its location.

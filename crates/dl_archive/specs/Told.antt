@@ -2,8 +2,8 @@
 use Rattle.std.specs.Prelude.{◌≡◌, ◌≤◌, ◌<◌, ◌+◌, ◌^◌, ⊤, ℕ, List, [], ◌∷◌, length, Option, Some, None, Result, Ok, Err}
 use Rattle.std.specs.declared.io.Error.{Error}
 use Rattle.dl_archive.specs.Archive.{and_others, EntryData, kind_of, long_names, member, MemberData, members, members_from, symbols}
-use Rattle.dl_archive.specs.declared.entry.Entry.{Entry}
-use Rattle.dl_archive.specs.declared.entry.Entry.TheVariants as entry
+use Rattle.dl_archive.specs.declared.entry.ArchiveEntry.{ArchiveEntry}
+use Rattle.dl_archive.specs.declared.entry.ArchiveEntry.TheVariants as entry
 use Rattle.dl_archive.specs.declared.fault.ArchiveFault.{ArchiveFault}
 use Rattle.dl_archive.specs.declared.fault.ArchiveFault.TheVariants.{Damaged, Read}
 use Rattle.dl_archive.specs.declared.member.Member.{Member}
@@ -43,16 +43,16 @@ MemberTold f old new (Err (Read error)) = left f new ≡ left f old
 
 -- ---- entry after entry; no public contract reaches these
 
-abbrev pub entry_seen : Entry → EntryData
+abbrev pub entry_seen : ArchiveEntry → EntryData
 entry_seen entry.Symbols = symbols
 entry_seen (entry.LongNames t) = long_names t
 entry_seen (entry.Member m) = member (seen m)
 
-abbrev pub entry_and_next : Entry × ℕ → EntryData × ℕ
+abbrev pub entry_and_next : ArchiveEntry × ℕ → EntryData × ℕ
 entry_and_next e = (entry_seen e.0, e.1)
 
 -- a table of long names ends below 2^64
-abbrev pub IsBelow : Entry → Type 0
+abbrev pub IsBelow : ArchiveEntry → Type 0
 IsBelow (entry.LongNames t) = t.offset + t.size < 2 ^ 64
 IsBelow other = ⊤
 
@@ -64,7 +64,7 @@ Ended f at (Err (Read error)) = ⊤
 
 -- the next entry
 abbrev pub EntryTold : {S : Type 0} → (f : List ℕ) (old new : Members S)
-    → Result (Option Entry) ArchiveFault → Type 0
+    → Result (Option ArchiveEntry) ArchiveFault → Type 0
 EntryTold f old new (Ok (Some e)) = left f old ≡ and_others (entry_seen e) (left f new)
 EntryTold f old new (Ok None) = (left f old ≡ ([], None)) × (left f new ≡ left f old)
 EntryTold f old new (Err (Damaged at)) = (left f old ≡ ([], Some at)) × (left f new ≡ left f old)

@@ -14,7 +14,7 @@ use std::io;
 
 /// What an entry of an archive is.
 #[derive(Drop)]
-pub(crate) enum Entry {
+pub(crate) enum ArchiveEntry {
     /// A table of symbols, which isn't read.
     Symbols,
     /// The table of long names, which stands there.
@@ -123,7 +123,7 @@ fn entry_of<S: ReadAt>(
     names: Option<Range>,
     header: &Header,
     body: u64,
-) -> io::Result<Option<Entry>>
+) -> io::Result<Option<ArchiveEntry>>
     requires names { IfSome names (λ t. t.offset + t.size < 2 ^ 64) }
     requires named { HasName header.now.name }
     requires body { body ≡ body_of header.now }
@@ -134,9 +134,9 @@ fn entry_of<S: ReadAt>(
     ensures fails { IfErr result (S.fails_with source.now) }
 {
     let member = match header.name {
-        NameField::Symbols => return Ok(Some(Entry::Symbols)),
+        NameField::Symbols => return Ok(Some(ArchiveEntry::Symbols)),
         NameField::LongNames => {
-            return Ok(Some(Entry::LongNames(Range {
+            return Ok(Some(ArchiveEntry::LongNames(Range {
                 offset: body,
                 size: header.size,
             })));
@@ -154,7 +154,7 @@ fn entry_of<S: ReadAt>(
         },
         NameField::InMember(len) => with_name_before(kind, header, body, len),
     };
-    Ok(member.map(Entry::Member))
+    Ok(member.map(ArchiveEntry::Member))
 }
 
 /// The entry at an offset, and where the next one begins; None where none stands there, or it doesn't lie in the file.
@@ -163,7 +163,7 @@ pub(crate) fn entry_at<S: ReadAt>(
     kind: Kind,
     names: Option<Range>,
     offset: u64,
-) -> io::Result<Option<(Entry, u64)>>
+) -> io::Result<Option<(ArchiveEntry, u64)>>
     requires { IfSome names (λ t. t.offset + t.size < 2 ^ 64) }
     ensures entry { ForBytes (S.all_bytes source.now) (λ f. IfOk result (λ entry. option_map entry_and_next entry ≡ entry_at kind f names offset)) }
     ensures below { IfOk result (λ entry. IfSome entry (λ e. IsBelow e.0)) }
@@ -186,14 +186,14 @@ pub(crate) fn entry_at<S: ReadAt>(
 }
 
 /// The table of long names behind an entry.
-pub(crate) fn names_after(entry: &Entry, names: Option<Range>) -> Option<Range>
+pub(crate) fn names_after(entry: &ArchiveEntry, names: Option<Range>) -> Option<Range>
     requires entry { IsBelow entry.now }
     requires names { IfSome names (λ t. t.offset + t.size < 2 ^ 64) }
     ensures names { result ≡ names_after (entry_seen entry.now) names }
     ensures below { IfSome result (λ t. t.offset + t.size < 2 ^ 64) }
 {
     match entry {
-        Entry::LongNames(table) => Some(*table),
-        Entry::Symbols | Entry::Member(_) => names,
+        ArchiveEntry::LongNames(table) => Some(*table),
+        ArchiveEntry::Symbols | ArchiveEntry::Member(_) => names,
     }
 }

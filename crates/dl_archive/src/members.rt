@@ -2,7 +2,7 @@
 ghost use Rattle.std.proofs.Props.{props};
 ghost use Rattle.std.specs.Prelude.{◌≡◌, ◌≤◌, ◌<◌, ◌+◌, ◌^◌, IfOk, IfErr, IfSome};
 
-use crate::entry::{Entry, entry_at, names_after};
+use crate::entry::{ArchiveEntry, entry_at, names_after};
 use crate::fault::ArchiveFault;
 use crate::kind::{Kind, archive_kind};
 use crate::member::Member;
@@ -49,7 +49,7 @@ impl<'a, S: ReadAt> Members<'a, S> {
     }
 
     /// The next entry, behind which the members are left; None at the end.
-    fn next_entry(&mut self) -> Result<Option<Entry>, ArchiveFault>
+    fn next_entry(&mut self) -> Result<Option<ArchiveEntry>, ArchiveFault>
         ensures source { archive_of self.new ≡ archive_of self.old }
         ensures told { ForBytes (S.all_bytes (archive_of self.old)) (λ f. EntryTold f
             self.old self.new result) }
@@ -93,8 +93,8 @@ impl<'a, S: ReadAt> Members<'a, S> {
     {
         loop {
             match self.next_entry()? {
-                Some(Entry::Member(member)) => return Ok(Some(member)),
-                Some(Entry::Symbols | Entry::LongNames(_)) => {}
+                Some(ArchiveEntry::Member(member)) => return Ok(Some(member)),
+                Some(ArchiveEntry::Symbols | ArchiveEntry::LongNames(_)) => {}
                 None => return Ok(None),
             }
         }

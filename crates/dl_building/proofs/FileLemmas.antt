@@ -4,11 +4,11 @@ use Rattle.std.specs.Prelude.{OnErr}
 use Rattle.std.specs.Global.{Vec}
 use Rattle.dl_held.specs.Holding.{CannotHold}
 use Rattle.dl_memory.specs.declared.memory.NoMemory.{NoMemory}
-use Rattle.dl_work.specs.Blaming.{BlamesWriter}
+use Rattle.dl_program.specs.Blaming.{BlamesWriter}
 use Rattle.dl_cmd.specs.Job.{IndexTexts}
-use Rattle.dl_run.specs.declared.around.Survey.{Survey}
-use Rattle.dl_work.specs.Indexing.{IndexesFile, IndexesFor}
-use Rattle.dl_work.specs.declared.stop.Stop.{Stop}
+use Rattle.dl_sections.specs.declared.around.Survey.{Survey}
+use Rattle.dl_program.specs.Indexing.{IndexesFile, IndexesFor}
+use Rattle.dl_program.specs.declared.stop.Stop.{Stop}
 use Rattle.dl_building.specs.FileBuilding.{IsFileBuilt, IsIndexed, built_of, file_words}
 
 -- what it does for these words, with an output that is held

@@ -2,17 +2,17 @@
 -- damaged units are gone around; refuses: for how many items memory is refused.
 use Rattle.std.specs.Prelude.{◌≡◌, ◌⊎◌, ℕ, Bool, false, List, [], Some, None, unwrap_or, Result, Ok, Err, IfOk, OnErr}
 use Rattle.std.specs.Global.{Vec}
-use Rattle.dl_calls.specs.declared.record.FaultRecord.{FaultRecord}
-use Rattle.dl_calls.specs.declared.status.Status.{Status}
+use Rattle.dl_buffers.specs.declared.record.FaultRecord.{FaultRecord}
+use Rattle.dl_buffers.specs.declared.status.Status.{Status}
 use Rattle.dl_cmd.specs.Job.{IndexTexts}
 use Rattle.dl_held.specs.Holding.{CannotHold}
 use Rattle.dl_memory.specs.declared.memory.NoMemory as held
-use Rattle.dl_run.specs.declared.around.Survey.{Survey}
-use Rattle.dl_run.specs.declared.fault.RunFault.TheVariants.{NoMemory}
-use Rattle.dl_work.specs.Blaming.{BlamesWriter, IsBlamed}
-use Rattle.dl_work.specs.Indexing.{IndexesFile}
-use Rattle.dl_work.specs.declared.stop.Stop.{Stop}
-use Rattle.dl_work.specs.declared.stop.Stop.TheVariants.{Run}
+use Rattle.dl_sections.specs.declared.around.Survey.{Survey}
+use Rattle.dl_sections.specs.declared.fault.RunFault.TheVariants.{NoMemory}
+use Rattle.dl_program.specs.Blaming.{BlamesWriter, IsBlamed}
+use Rattle.dl_program.specs.Indexing.{IndexesFile}
+use Rattle.dl_program.specs.declared.stop.Stop.{Stop}
+use Rattle.dl_program.specs.declared.stop.Stop.TheVariants.{Run}
 use Rattle.dl_building.specs.declared.file.Built.{Built}
 use Rattle.dl_building.specs.FileFaults.{status_by, stop_record}
 use Rattle.dl_building.specs.Putting.{PutsIndex}

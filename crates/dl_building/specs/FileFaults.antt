@@ -1,16 +1,16 @@
 -- The numbers that stand for what is wrong with a file, beside those of a section.
 use Rattle.std.specs.Prelude.{ℕ, Option, Some, None}
-use Rattle.dl_calls.specs.declared.record.FaultRecord.{FaultRecord}
-use Rattle.dl_calls.specs.declared.status.Status.{Status}
-use Rattle.dl_calls.specs.declared.status.Status.TheVariants as status
-use Rattle.dl_calls.specs.Records.{record_of}
+use Rattle.dl_buffers.specs.declared.record.FaultRecord.{FaultRecord}
+use Rattle.dl_buffers.specs.declared.status.Status.{Status}
+use Rattle.dl_buffers.specs.declared.status.Status.TheVariants as status
+use Rattle.dl_buffers.specs.Records.{record_of}
 use Rattle.dl_elf.specs.declared.fault.ElfFault.{ElfFault}
 use Rattle.dl_elf.specs.declared.fault.ElfFault.TheVariants as elf
 use Rattle.dl_open.specs.declared.fault.FileFault.TheVariants.{Elf}
-use Rattle.dl_run.specs.declared.fault.RunFault.{RunFault}
-use Rattle.dl_run.specs.declared.fault.RunFault.TheVariants as run
-use Rattle.dl_work.specs.declared.stop.Stop.{Stop}
-use Rattle.dl_work.specs.declared.stop.Stop.TheVariants as stop
+use Rattle.dl_sections.specs.declared.fault.RunFault.{RunFault}
+use Rattle.dl_sections.specs.declared.fault.RunFault.TheVariants as run
+use Rattle.dl_program.specs.declared.stop.Stop.{Stop}
+use Rattle.dl_program.specs.declared.stop.Stop.TheVariants as stop
 
 -- a kind that says nothing besides
 abbrev pub kind_record : ℕ → FaultRecord

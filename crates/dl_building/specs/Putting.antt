@@ -1,12 +1,12 @@
 -- The index that a call makes, in the room of its caller. Of the room, the length and the fault, p and g before the call, and
 -- q, n and h after it. damaged: the units that were gone around.
 use Rattle.std.specs.Prelude.{◌≡◌, ℕ, ◌<◌, ◌≤◌, List, length, Option, Some, None}
-use Rattle.dl_calls.specs.declared.record.FaultRecord.{FaultRecord}
-use Rattle.dl_calls.specs.declared.status.Status.{Status}
-use Rattle.dl_calls.specs.declared.status.Status.TheVariants as status
-use Rattle.dl_calls.specs.Records.{record_of}
-use Rattle.dl_calls.specs.UnitCalls.{written_over}
-use Rattle.dl_run.specs.declared.around.DamagedUnits.{DamagedUnits}
+use Rattle.dl_buffers.specs.declared.record.FaultRecord.{FaultRecord}
+use Rattle.dl_buffers.specs.declared.status.Status.{Status}
+use Rattle.dl_buffers.specs.declared.status.Status.TheVariants as status
+use Rattle.dl_buffers.specs.Records.{record_of}
+use Rattle.dl_buffers.specs.UnitCalls.{written_over}
+use Rattle.dl_sections.specs.declared.around.DamagedUnits.{DamagedUnits}
 
 -- it stands in the room's first bytes, and its length is told
 pub record IsPut (index p q : List ℕ) (n : ℕ) : Type 0 where

@@ -6,9 +6,9 @@ use Rattle.std.specs.Io.KnownBytes.{Consumes}
 use Rattle.std.specs.List.{list_any}
 use Rattle.std.specs.Option.{option_copied}
 use Rattle.dl_addr.specs.Code.{is_code}
-use Rattle.dl_calls.specs.declared.record.FaultRecord.{FaultRecord}
-use Rattle.dl_calls.specs.declared.status.Status.{Status}
-use Rattle.dl_calls.specs.declared.status.Status.TheVariants as status
+use Rattle.dl_buffers.specs.declared.record.FaultRecord.{FaultRecord}
+use Rattle.dl_buffers.specs.declared.status.Status.{Status}
+use Rattle.dl_buffers.specs.declared.status.Status.TheVariants as status
 use Rattle.dl_dirs.specs.Compilation.{directory_by}
 use Rattle.dl_head.specs.declared.dialect.Dialect.{Dialect}
 use Rattle.dl_look.specs.declared.code_ranges.AddressRange.{AddressRange}
@@ -19,8 +19,8 @@ use Rattle.dl_making.specs.declared.making.MadeAround.{MadeAround}
 use Rattle.dl_making.specs.declared.making.Table.{Table}
 use Rattle.dl_making.specs.Makes.{Makes, MakesAround}
 use Rattle.dl_print.specs.ValueText.{Strings}
-use Rattle.dl_run.specs.declared.fault.RunFault.{RunFault}
-use Rattle.dl_run.specs.declared.options.TheConstants.{SECTION_LIMIT}
+use Rattle.dl_sections.specs.declared.fault.RunFault.{RunFault}
+use Rattle.dl_sections.specs.declared.options.TheConstants.{SECTION_LIMIT}
 use Rattle.dl_building.specs.declared.section.CodeRange.{CodeRange}
 use Rattle.dl_building.specs.declared.section.SectionIndex.{SectionIndex}
 use Rattle.dl_building.specs.FileFaults.{run_record, status_by}

@@ -3,11 +3,11 @@
 ghost use Rattle.std.specs.Prelude.{◌≡◌, unwrap_or};
 ghost use Rattle.dl_building.specs.FileFaults.{elf_record, kind_record, run_record, status_by, stop_record};
 
-use dl_calls::{FaultRecord, Status};
+use dl_buffers::{FaultRecord, Status};
 use dl_elf::ElfFault;
 use dl_open::FileFault;
-use dl_run::RunFault;
-use dl_work::Stop;
+use dl_program::Stop;
+use dl_sections::RunFault;
 
 /// A fault of this kind, which says nothing besides.
 fn kind_record(kind: u32) -> FaultRecord

@@ -3,18 +3,18 @@
 ghost use Rattle.std.specs.Prelude.{◌≡◌, ℕ, [], List, Some};
 ghost use Rattle.dl_cmd.specs.Job.{index_words_made};
 ghost use Rattle.dl_building.specs.FileBuilding.{BuildsFile, IsFileBuilt, IsIndexed, built_of, file_words};
-ghost use Rattle.dl_work.specs.Indexing.{IndexesFor};
+ghost use Rattle.dl_program.specs.Indexing.{IndexesFor};
 
 use crate::faults::tell_stop;
 use crate::one_file::OneFile;
 use crate::room::put;
-use dl_calls::{FaultRecord, Status};
+use dl_buffers::{FaultRecord, Status};
 use dl_cmd::{IndexWords, UnitWords};
 use dl_held::{Held, Refusing};
 use dl_making::SetMemory;
 use dl_memory::NoMemory;
-use dl_run::{RunFault, Survey};
-use dl_work::{Stop, index};
+use dl_program::{Stop, index};
+use dl_sections::{RunFault, Survey};
 use std::marker::Brand;
 
 /// The index of a file.

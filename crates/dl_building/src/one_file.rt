@@ -2,7 +2,7 @@
 
 use dl_memory::Memory;
 use dl_open::FileSource;
-use dl_run::RunFault;
+use dl_sections::RunFault;
 use std::io;
 use std::io::Cursor;
 

@@ -2,9 +2,9 @@
 
 ghost use Rattle.dl_building.specs.Putting.{PutsIndex};
 
-use dl_calls::room::fill;
-use dl_calls::{FaultRecord, Status};
-use dl_run::DamagedUnits;
+use dl_buffers::room::fill;
+use dl_buffers::{FaultRecord, Status};
+use dl_sections::DamagedUnits;
 
 /// Puts an index into a room, where there is room for it, and tells the first of the units that are damaged.
 pub fn put(

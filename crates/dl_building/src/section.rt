@@ -4,21 +4,21 @@ ghost use Rattle.std.specs.Prelude.{◌≡◌, ℕ, true, false, IfOk, OnErr, le
 ghost use Rattle.dl_memory.specs.Refusals.{IsRefused};
 ghost use Rattle.std.specs.List.{list_any};
 ghost use Rattle.dl_addr.specs.Code.{is_code};
-ghost use Rattle.dl_calls.specs.Calls.{dialect_of, goes_on};
-ghost use Rattle.dl_calls.specs.PathCalls.{both_strings};
+ghost use Rattle.dl_buffers.specs.Calls.{dialect_of, goes_on};
+ghost use Rattle.dl_buffers.specs.PathCalls.{both_strings};
 ghost use Rattle.dl_look.specs.CodeRanges.{has_code};
 ghost use Rattle.dl_look.specs.Ranges.{is_in};
-ghost use Rattle.dl_run.specs.Commands.{strings_in};
+ghost use Rattle.dl_sections.specs.Commands.{strings_in};
 ghost use Rattle.dl_building.specs.SectionBuilding.{BuildsSection, IsSectionBuilt, PutsSection, address_range, is_live};
 
 use crate::faults::tell_run;
 use crate::room::put;
-use dl_calls::{FaultRecord, Status, dialect_of, goes_on};
+use dl_buffers::{FaultRecord, Status, dialect_of, goes_on};
 use dl_dirs::CompilationDirectories;
 use dl_look::{AddressRange, CodeRanges};
 use dl_making::{SetMemory, Table, make_index, make_index_around};
 use dl_memory::{Memory, NoMemory};
-use dl_run::{DamagedUnits, Options, RunFault, SECTION_LIMIT};
+use dl_sections::{DamagedUnits, Options, RunFault, SECTION_LIMIT};
 
 /// A range of addresses that have code.
 #[repr(C)]

@@ -1,10 +1,10 @@
 //! The call that tells the text of what is wrong with a file.
 
 ghost use Rattle.std.specs.Prelude.{◌≡◌, length};
-ghost use Rattle.dl_calls.specs.UnitCalls.{written_over};
+ghost use Rattle.dl_buffers.specs.UnitCalls.{written_over};
 ghost use Rattle.dl_building.specs.FileFaultTexts.{file_fault_words};
 
-use dl_calls::room::fill;
+use dl_buffers::room::fill;
 
 /// The words for a kind of fault of a file; none where no call tells it of a file.
 fn words(kind: u32) -> &'static [u8]

@@ -1,4 +1,4 @@
-//! The library for C: each export calls the function of dl_calls that does its work. Before them stand the calls of
+//! The library for C: each export calls the function of dl_buffers that does its work. Before them stand the calls of
 //! bindings/c/calls.c, whose names begin with `dl_`: no slice here is at a null pointer, also where it is empty. What C
 //! hands in and owes stands in include/boxantrel.h.
 #![tactic(auto)]
@@ -7,31 +7,31 @@ ghost use Rattle.std.specs.Prelude.{◌≡◌, ◌≤◌, drop, length};
 ghost use Rattle.dl_building.specs.FileBuilding.{BuildsFile};
 ghost use Rattle.dl_building.specs.FileFaultTexts.{file_fault_words};
 ghost use Rattle.dl_building.specs.SectionBuilding.{BuildsSection};
-ghost use Rattle.dl_calls.specs.declared.status.Status.{Status};
-ghost use Rattle.dl_calls.specs.AroundCalls.{ChecksBy, FindsAllBy};
-ghost use Rattle.dl_calls.specs.Calls.{dialect_of, goes_on};
-ghost use Rattle.dl_calls.specs.CopyCalls.{Copies};
-ghost use Rattle.dl_calls.specs.FaultCalls.{told_text};
-ghost use Rattle.dl_calls.specs.FindCalls.{Finds, place_at};
-ghost use Rattle.dl_calls.specs.PathCalls.{TellsPath, both_strings};
-ghost use Rattle.dl_calls.specs.PathsCalls.{TellsPaths};
-ghost use Rattle.dl_calls.specs.Records.{status_code};
-ghost use Rattle.dl_calls.specs.UnitCalls.{Describes, Lists, length_told, written_over};
+ghost use Rattle.dl_buffers.specs.declared.status.Status.{Status};
+ghost use Rattle.dl_buffers.specs.AroundCalls.{ChecksBy, FindsAllBy};
+ghost use Rattle.dl_buffers.specs.Calls.{dialect_of, goes_on};
+ghost use Rattle.dl_buffers.specs.CopyCalls.{Copies};
+ghost use Rattle.dl_buffers.specs.FaultCalls.{told_text};
+ghost use Rattle.dl_buffers.specs.FindCalls.{Finds, place_at};
+ghost use Rattle.dl_buffers.specs.PathCalls.{TellsPath, both_strings};
+ghost use Rattle.dl_buffers.specs.PathsCalls.{TellsPaths};
+ghost use Rattle.dl_buffers.specs.Records.{status_code};
+ghost use Rattle.dl_buffers.specs.UnitCalls.{Describes, Lists, length_told, written_over};
 ghost use Rattle.dl_memory.specs.Refusals.{SystemRefuses};
 ghost use Rattle.dl_memory.specs.declared.system.System.{System};
-ghost use Rattle.dl_index_calls.specs.IndexFaultCalls as index_faults;
-ghost use Rattle.dl_index_calls.specs.IndexFindCalls.{FindsMany, FindsOne};
-ghost use Rattle.dl_index_calls.specs.IndexPathCalls.{path_told};
-ghost use Rattle.dl_index_calls.specs.OpenCalls.{Opens, OpensUnchecked};
-ghost use Rattle.dl_index_calls.specs.StretchCalls.{ListsStretch};
+ghost use Rattle.dl_index_buffers.specs.IndexFaultCalls as index_faults;
+ghost use Rattle.dl_index_buffers.specs.IndexFindCalls.{FindsMany, FindsOne};
+ghost use Rattle.dl_index_buffers.specs.IndexPathCalls.{path_told};
+ghost use Rattle.dl_index_buffers.specs.OpenCalls.{Opens, OpensUnchecked};
+ghost use Rattle.dl_index_buffers.specs.StretchCalls.{ListsStretch};
 
+use dl_buffers::{Counts, FaultRecord, Place, RowRecord, UnitRecord};
 use dl_building::CodeRange;
-use dl_calls::{Counts, FaultRecord, Place, RowRecord, UnitRecord};
-use dl_index_calls::{IndexFaultRecord, IndexRecord, Layout, LocationRecord};
+use dl_index_buffers::{IndexFaultRecord, IndexRecord, Layout, LocationRecord};
 use dl_memory::System;
 use std::alloc::Global;
 
-/// As `dl_calls::check`.
+/// As `dl_buffers::check`.
 #[unsafe(no_mangle)]
 pub extern "C" fn boxantrel_check(
     alloc: Global,
@@ -43,10 +43,10 @@ pub extern "C" fn boxantrel_check(
     ensures { (status : Status) × (result ≡ status_code status)
         × ChecksBy (goes_on how) (dialect_of how) section.now counts.old counts.new fault.old fault.new status }
 {
-    dl_calls::check(alloc, section, how, counts, fault).code()
+    dl_buffers::check(alloc, section, how, counts, fault).code()
 }
 
-/// As `dl_calls::unit_at`.
+/// As `dl_buffers::unit_at`.
 #[unsafe(no_mangle)]
 pub extern "C" fn boxantrel_unit_at(
     alloc: Global,
@@ -59,10 +59,10 @@ pub extern "C" fn boxantrel_unit_at(
     ensures { (status : Status) × (result ≡ status_code status)
         × Describes (dialect_of how) (drop offset section.now) offset unit.old unit.new fault.old fault.new status }
 {
-    dl_calls::unit_at(alloc, section, how, offset, unit, fault).code()
+    dl_buffers::unit_at(alloc, section, how, offset, unit, fault).code()
 }
 
-/// As `dl_calls::rows_at`.
+/// As `dl_buffers::rows_at`.
 #[unsafe(no_mangle)]
 pub extern "C" fn boxantrel_rows_at(
     alloc: Global,
@@ -77,10 +77,10 @@ pub extern "C" fn boxantrel_rows_at(
         × Lists (dialect_of how) (drop offset section.now) offset rows.old rows.new count.old count.new fault.old
         fault.new status }
 {
-    dl_calls::rows_at(alloc, section, how, offset, rows, count, fault).code()
+    dl_buffers::rows_at(alloc, section, how, offset, rows, count, fault).code()
 }
 
-/// As `dl_calls::find`.
+/// As `dl_buffers::find`.
 #[unsafe(no_mangle)]
 pub extern "C" fn boxantrel_find(
     alloc: Global,
@@ -97,10 +97,10 @@ pub extern "C" fn boxantrel_find(
         fault.new status }
 {
     let place = Place { address, op_index };
-    dl_calls::find(alloc, section, how, place, row, unit, fault).code()
+    dl_buffers::find(alloc, section, how, place, row, unit, fault).code()
 }
 
-/// As `dl_calls::find_all`. `dl_find_all` hands in one number of addresses, rows and offsets.
+/// As `dl_buffers::find_all`. `dl_find_all` hands in one number of addresses, rows and offsets.
 #[unsafe(no_mangle)]
 pub extern "C" fn boxantrel_find_all(
     alloc: Global,
@@ -115,7 +115,7 @@ pub extern "C" fn boxantrel_find_all(
         × FindsAllBy SystemRefuses (goes_on how) (dialect_of how) section.now addresses.now rows.old rows.new units.old units.new
         fault.old fault.new status }
 {
-    dl_calls::find_all(
+    dl_buffers::find_all(
         &System::new(alloc),
         section,
         how,
@@ -127,7 +127,7 @@ pub extern "C" fn boxantrel_find_all(
     .code()
 }
 
-/// As `dl_calls::copy`.
+/// As `dl_buffers::copy`.
 #[unsafe(no_mangle)]
 pub extern "C" fn boxantrel_copy(
     alloc: Global,
@@ -140,10 +140,10 @@ pub extern "C" fn boxantrel_copy(
     ensures { (status : Status) × (result ≡ status_code status)
         × Copies SystemRefuses (dialect_of how) section.now room.old room.new len.old len.new fault.old fault.new status }
 {
-    dl_calls::copy(&System::new(alloc), section, how, room, len, fault).code()
+    dl_buffers::copy(&System::new(alloc), section, how, room, len, fault).code()
 }
 
-/// As `dl_calls::path_at`.
+/// As `dl_buffers::path_at`.
 #[unsafe(no_mangle)]
 pub extern "C" fn boxantrel_path_at(
     alloc: Global,
@@ -161,13 +161,13 @@ pub extern "C" fn boxantrel_path_at(
         × TellsPath (dialect_of how) (drop offset section.now) offset (both_strings line_str.now str.now) file path.old
         path.new len.old len.new fault.old fault.new status }
 {
-    dl_calls::path_at(
+    dl_buffers::path_at(
         alloc, section, how, offset, file, line_str, str, path, len, fault,
     )
     .code()
 }
 
-/// As `dl_calls::paths_at`. `dl_paths_at` hands in one number of files and ends.
+/// As `dl_buffers::paths_at`. `dl_paths_at` hands in one number of files and ends.
 #[unsafe(no_mangle)]
 pub extern "C" fn boxantrel_paths_at(
     alloc: Global,
@@ -185,23 +185,23 @@ pub extern "C" fn boxantrel_paths_at(
         × TellsPaths (dialect_of how) (drop offset section.now) offset (both_strings line_str.now str.now) files.now
         paths.old paths.new ends.old ends.new fault.old fault.new status }
 {
-    dl_calls::paths_at(
+    dl_buffers::paths_at(
         alloc, section, how, offset, files, line_str, str, paths, ends, fault,
     )
     .code()
 }
 
-/// As `dl_calls::fault_text`.
+/// As `dl_buffers::fault_text`.
 #[unsafe(no_mangle)]
 pub extern "C" fn boxantrel_fault_text(fault: &FaultRecord, text: &mut [u8]) -> usize
     ensures written { text.new ≡ written_over text.old (told_text fault.now) }
     ensures len { result ≡ length (told_text fault.now) }
     ensures few { result ≤ 128 }
 {
-    dl_calls::fault_text(fault, text)
+    dl_buffers::fault_text(fault, text)
 }
 
-/// As `dl_index_calls::open`.
+/// As `dl_index_buffers::open`.
 #[unsafe(no_mangle)]
 pub extern "C" fn boxantrel_index_open(
     bytes: &[u8],
@@ -211,10 +211,10 @@ pub extern "C" fn boxantrel_index_open(
     ensures { (status : Status) × (result ≡ status_code status)
         × Opens bytes.now index.old index.new fault.old fault.new status }
 {
-    dl_index_calls::open(bytes, index, fault).code()
+    dl_index_buffers::open(bytes, index, fault).code()
 }
 
-/// As `dl_index_calls::open_unchecked`.
+/// As `dl_index_buffers::open_unchecked`.
 #[unsafe(no_mangle)]
 pub extern "C" fn boxantrel_index_open_unchecked(
     bytes: &[u8],
@@ -224,10 +224,10 @@ pub extern "C" fn boxantrel_index_open_unchecked(
     ensures { (status : Status) × (result ≡ status_code status)
         × OpensUnchecked bytes.now index.old index.new fault.old fault.new status }
 {
-    dl_index_calls::open_unchecked(bytes, index, fault).code()
+    dl_index_buffers::open_unchecked(bytes, index, fault).code()
 }
 
-/// As `dl_index_calls::find`.
+/// As `dl_index_buffers::find`.
 #[unsafe(no_mangle)]
 pub extern "C" fn boxantrel_index_find(
     bytes: &[u8],
@@ -238,10 +238,10 @@ pub extern "C" fn boxantrel_index_find(
     ensures { (status : Status) × (result ≡ status_code status)
         × FindsOne layout.now bytes.now address location.old location.new status }
 {
-    dl_index_calls::find(bytes, layout, address, location).code()
+    dl_index_buffers::find(bytes, layout, address, location).code()
 }
 
-/// As `dl_index_calls::find_many`. `dl_index_find_many` hands in one number of addresses and locations.
+/// As `dl_index_buffers::find_many`. `dl_index_find_many` hands in one number of addresses and locations.
 #[unsafe(no_mangle)]
 pub extern "C" fn boxantrel_index_find_many(
     bytes: &[u8],
@@ -252,10 +252,10 @@ pub extern "C" fn boxantrel_index_find_many(
     ensures { (status : Status) × (result ≡ status_code status)
         × FindsMany layout.now bytes.now addresses.now locations.old locations.new status }
 {
-    dl_index_calls::find_many(bytes, layout, addresses, locations).code()
+    dl_index_buffers::find_many(bytes, layout, addresses, locations).code()
 }
 
-/// As `dl_index_calls::stretch`.
+/// As `dl_index_buffers::stretch`.
 #[unsafe(no_mangle)]
 pub extern "C" fn boxantrel_index_stretch(
     bytes: &[u8],
@@ -268,10 +268,10 @@ pub extern "C" fn boxantrel_index_stretch(
     ensures { (status : Status) × (result ≡ status_code status)
         × ListsStretch layout.now bytes.now k start.old start.new last.old last.new location.old location.new status }
 {
-    dl_index_calls::stretch(bytes, layout, k, start, last, location).code()
+    dl_index_buffers::stretch(bytes, layout, k, start, last, location).code()
 }
 
-/// As `dl_index_calls::path`.
+/// As `dl_index_buffers::path`.
 #[unsafe(no_mangle)]
 pub extern "C" fn boxantrel_index_path(
     bytes: &[u8],
@@ -281,16 +281,16 @@ pub extern "C" fn boxantrel_index_path(
     ensures written { path.new ≡ written_over path.old (path_told bytes.now location.now) }
     ensures len { result ≡ length_told (path_told bytes.now location.now) }
 {
-    dl_index_calls::path(bytes, location, path)
+    dl_index_buffers::path(bytes, location, path)
 }
 
-/// As `dl_index_calls::fault_text`.
+/// As `dl_index_buffers::fault_text`.
 #[unsafe(no_mangle)]
 pub extern "C" fn boxantrel_index_fault_text(fault: &IndexFaultRecord, text: &mut [u8]) -> usize
     ensures written { text.new ≡ written_over text.old (index_faults.told_text fault.now) }
     ensures len { result ≡ length_told (index_faults.told_text fault.now) }
 {
-    dl_index_calls::fault_text(fault, text)
+    dl_index_buffers::fault_text(fault, text)
 }
 
 /// As `dl_building::build_file`.

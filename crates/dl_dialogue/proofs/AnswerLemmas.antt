@@ -16,7 +16,7 @@ use Rattle.dl_look.specs.declared.asked.Asked.{Asked}
 use Rattle.dl_addr.specs.Commands.{is_answered}
 use Rattle.dl_addr.specs.Location.{Location}
 use Rattle.dl_addr.specs.Locations.{location_line}
-use Rattle.dl_addr.specs.declared.question.Found.TheVariants.{All, NotAll}
+use Rattle.dl_addr.specs.declared.question.WhichFound.TheVariants.{All, NotAll}
 use Rattle.dl_dialogue.specs.Answers.{Manner, StopsBy, answer_by, found_by, lines_by}
 use Rattle.dl_dialogue.specs.Standing.{Stands, stopped, written}
 use Rattle.dl_dialogue.specs.declared.answers.Answers.{Answers}

@@ -10,7 +10,7 @@ use Rattle.dl_elf.specs.declared.file.Range.{Range}
 use Rattle.dl_index_file.specs.Reading.{ReadFails, TextFails}
 use Rattle.dl_index.specs.Shown.{text_told, texts_told}
 use Rattle.dl_index.specs.TextPlaces.{AreAt, StandsAt}
-use Rattle.dl_index.specs.declared.index.Found.{Found}
+use Rattle.dl_index.specs.declared.index.FoundLine.{FoundLine}
 use Rattle.dl_index_file.specs.Shown.{Lies, text_shown}
 use Rattle.dl_index_file.specs.declared.fault.TextFault.{TextFault}
 use Rattle.dl_index_file.specs.declared.fault.TextFault.TheVariants as of
@@ -100,7 +100,7 @@ len_three a b c = omega (
   length-append ([] ++ concat a) (concat b),
 )
 
-pub path_len : (b : List ℕ) (found : Found) → AreAt b found → length (concat (texts_told found.texts)) ≤ 3 * length b
+pub path_len : (b : List ℕ) (found : FoundLine) → AreAt b found → length (concat (texts_told found.texts)) ≤ 3 * length b
 path_len b found at = omega (
   arith,
   len_three (text_told found.texts.first) (text_told found.texts.second) (text_told found.texts.third),

@@ -10,8 +10,8 @@ use Rattle.dl_look.specs.declared.asked.Asked.{Asked}
 use Rattle.dl_addr.specs.Commands.{is_answered}
 use Rattle.dl_addr.specs.Location.{Location}
 use Rattle.dl_addr.specs.Locations.{location_line}
-use Rattle.dl_addr.specs.declared.question.Found.{Found}
-use Rattle.dl_addr.specs.declared.question.Found.TheVariants as found
+use Rattle.dl_addr.specs.declared.question.WhichFound.{WhichFound}
+use Rattle.dl_addr.specs.declared.question.WhichFound.TheVariants as found
 use Rattle.dl_addr.specs.declared.style.Style.{Style}
 use Rattle.dl_dialogue.specs.declared.fault.AnswerFault.{AnswerFault}
 use Rattle.dl_dialogue.specs.declared.fault.AnswerFault.TheVariants.{Input, Tell, Write}
@@ -36,7 +36,7 @@ abbrev pub lines_by : Manner → List Asked → List ℕ
 lines_by m asked = flat_map (λ a. location_line m.style a (answer_by m a)) asked
 
 -- whether each address has an answer
-abbrev pub found_by : Manner → List Asked → Found
+abbrev pub found_by : Manner → List Asked → WhichFound
 found_by m asked =
     if list_all (λ a. is_answered a (is_some (answer_by m a))) asked then found.All else found.NotAll
 
@@ -57,7 +57,7 @@ StopsBy m Fails start now asked fault =
 
 -- all that is asked is answered, or the first ones are
 abbrev pub AnswersAll : Manner → (Fails : TellFault → Type 0) → List Asked → (start now : Option (List ℕ))
-    → Result Found AnswerFault → Type 0
+    → Result WhichFound AnswerFault → Type 0
 AnswersAll m Fails asked start now (Ok all_found) =
     (all_found ≡ found_by m asked) × Appends start now (lines_by m asked)
 AnswersAll m Fails asked start now (Err fault) = StopsBy m Fails start now asked fault

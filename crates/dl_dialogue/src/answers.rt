@@ -4,7 +4,7 @@ ghost use Rattle.std.specs.Prelude.{◌≡◌, ℕ, Option, IfOk, IfErr, if◌th
 ghost use Rattle.dl_addr.specs.Location as locations;
 ghost use Rattle.dl_addr.specs.Locations.{location_seen};
 ghost use Rattle.dl_addr.specs.Commands.{is_answered};
-ghost use Rattle.dl_addr.specs.declared.question.Found.TheVariants as all_found;
+ghost use Rattle.dl_addr.specs.declared.question.WhichFound.TheVariants as all_found;
 ghost use Rattle.dl_dialogue.specs.Answers.{AnswersAll, Manner, Determines, answer_by};
 ghost use Rattle.dl_dialogue.specs.Faults.{BlamesWriter, ReadsNothing, TellFails};
 ghost use Rattle.dl_dialogue.specs.Standing.{stopped, written};
@@ -12,7 +12,7 @@ ghost use Rattle.dl_dialogue.specs.Staying.{Stays};
 
 use crate::fault::{AnswerFault, TellFault};
 use crate::telling::Tell;
-use dl_addr::{Found, Location, Style, print_location};
+use dl_addr::{Location, Style, WhichFound, print_location};
 use dl_look::Asked;
 use dl_memory::Memory;
 use dl_output::Destination;
@@ -28,7 +28,7 @@ pub struct Answers<'q> {
     /// Room for the path of an answer.
     path: Vec<u8>,
     /// Whether each address has an answer.
-    found: Found,
+    found: WhichFound,
 }
 
 /// Whether what is asked has an answer, where it is an address.
@@ -39,10 +39,10 @@ fn is_answered(asked: Asked, is_found: bool) -> bool
 }
 
 /// Whether all are found, with one more.
-fn also(found: Found, is_found: bool) -> Found
+fn also(found: WhichFound, is_found: bool) -> WhichFound
     ensures { result ≡ (if is_found then found else all_found.NotAll) }
 {
-    if is_found { found } else { Found::NotAll }
+    if is_found { found } else { WhichFound::NotAll }
 }
 
 /// What a write came to.
@@ -106,12 +106,12 @@ impl<'q> Answers<'q> {
             style,
             base,
             path: Vec::new(alloc),
-            found: Found::All,
+            found: WhichFound::All,
         }
     }
 
     /// Whether each address that was asked has an answer.
-    pub fn found(&self) -> Found
+    pub fn found(&self) -> WhichFound
         ensures { result ≡ self.now.found }
     {
         self.found
@@ -223,7 +223,7 @@ pub fn answer_all<M: Memory, T: Tell, W: Destination>(
     base: u64,
     asked: &[Asked],
     output: &mut W,
-) -> Result<Found, AnswerFault>
+) -> Result<WhichFound, AnswerFault>
     ensures answers { (f : ℕ → Option locations.Location) → Determines (T.tells teller.old) f
         → AnswersAll (record { style = style.entry; base = base; told = f }) (TellFails (T.fails_with teller.old) (T.asks teller.old) (M.refuses memory.now)) asked.now
         (W.contents output.old) (W.contents output.new) result }

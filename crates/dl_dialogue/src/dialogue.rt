@@ -11,20 +11,20 @@ ghost use Rattle.dl_dialogue.specs.Faults.{BlamesWriter, ReadsNothing, TellFails
 use crate::answers::Answers;
 use crate::fault::AnswerFault;
 use crate::telling::Tell;
-use dl_addr::{Found, Style};
+use dl_addr::{Style, WhichFound};
 use dl_asked::{CurrentLine, LastLine, OtherLine};
 use dl_input::Source;
 use dl_memory::Memory;
 use dl_output::Destination;
 use dl_print::Printer;
-use dl_run::Input;
+use dl_sections::Input;
 use std::alloc::Global;
 
 /// What came of all lines.
 #[derive(Debug, Drop)]
 pub struct Answered {
     /// Whether each address has an answer.
-    pub found: Found,
+    pub found: WhichFound,
     /// The first line that is no address.
     pub no_address: Option<OtherLine>,
 }

@@ -14,7 +14,7 @@ use Rattle.std.proofs.lemmas.List.{drop-append-le, take-append-le, take_all}
 use Rattle.std.proofs.lemmas.List.Folds.{find-append}
 use Rattle.std.proofs.lemmas.Option.{slice_get_within}
 use Rattle.std.proofs.Math.Seq.{drop-append_seam}
-use Rattle.dl_info.specs.declared.entry.Entry.{Entry}
+use Rattle.dl_info.specs.declared.entry.FirstEntry.{FirstEntry}
 use Rattle.dl_info.specs.declared.entry.Text.{Text}
 use Rattle.dl_info.specs.Entries.{EntryData, entry, here, text}
 use Rattle.dl_info.proofs.MapLemmas.{query}
@@ -246,12 +246,12 @@ pub none_of : {A : Type 0} (o : Option A) → is_some o ≡ false → o ≡ None
 none_of None is = refl
 none_of (Some x) is = absurd (true≢false is)
 
-pub says_table : (u : Entry) (n : ℕ) → u.stmt_list ≡ None → says n (entry u) ≡ true → ⊥
+pub says_table : (u : FirstEntry) (n : ℕ) → u.stmt_list ≡ None → says n (entry u) ≡ true → ⊥
 says_table u n none said =
     true≢false
     (sym said ∙ ap (λ o. option_map_or (λ m. m == n) o false && is_some (option_map text u.comp_dir)) none)
 
-pub says_directory : (u : Entry) (n : ℕ) → ◌≡◌ {A = Option Text} u.comp_dir None → says n (entry u) ≡ true → ⊥
+pub says_directory : (u : FirstEntry) (n : ℕ) → ◌≡◌ {A = Option Text} u.comp_dir None → says n (entry u) ≡ true → ⊥
 says_directory u n none said = true≢false (sym said ∙ (ap (λ o. tests && is_some (option_map text o)) none ∙ never tests))
   where
     tests : Bool
@@ -262,7 +262,7 @@ says_directory u n none said = true≢false (sym said ∙ (ap (λ o. tests && is
     never false = refl
 
 -- one of a line table of which an entry is kept
-pub was_said : (p : Places) (es : List EntryData) (u : Entry) (offset : ℕ) → Holds p es → u.stmt_list ≡ Some offset
+pub was_said : (p : Places) (es : List EntryData) (u : FirstEntry) (offset : ℕ) → Holds p es → u.stmt_list ≡ Some offset
     → is_some (get nat_cmp p.numbers offset) ≡ true → (n : ℕ) → says n (entry u) ≡ true
     → is_some (saying n es) ≡ true
 was_said p es u offset h at known n said = by (get nat_cmp p.numbers n) refl where
@@ -289,12 +289,12 @@ was_said p es u offset h at known n said = by (get nat_cmp p.numbers n) refl whe
       ∙ of i (slice_get p.entries.items i) refl (h.numbered n i is)
 
 -- what is kept of it
-pub entry_kept : (u : Entry) (b : List ℕ) (offset : ℕ) (place : Place) (said : Text) → u.stmt_list ≡ Some offset
+pub entry_kept : (u : FirstEntry) (b : List ℕ) (offset : ℕ) (place : Place) (said : Text) → u.stmt_list ≡ Some offset
     → u.comp_dir ≡ Some said → place_text b place ≡ text said
     → kept_entry b (record { offset = offset; format = u.format; place = place; base = u.str_offsets_base }) ≡ entry u
 entry_kept u b offset place said table directory is = rw (table, directory, is) refl
 
-pub added : (p q new : Places) (u : Entry) (offset : ℕ) (place : Place) (said : Text) → q.numbers ≡ p.numbers
+pub added : (p q new : Places) (u : FirstEntry) (offset : ℕ) (place : Place) (said : Text) → q.numbers ≡ p.numbers
     → q.entries ≡ p.entries → Grows p.bytes.items q.bytes.items → u.stmt_list ≡ Some offset → u.comp_dir ≡ Some said
     → IsPlaced q.bytes.items place (text said) → get nat_cmp p.numbers offset ≡ None
     → ((es : List EntryData) → Holds q es → HasPlace q.bytes.items place → get nat_cmp q.numbers offset ≡ None
@@ -320,7 +320,7 @@ where_ok (Err e) P Q f p = p
 
 -- ---- units that say a directory
 
-pub one_says : (u : Entry) (offset : ℕ) (said : Text) → u.stmt_list ≡ Some offset → u.comp_dir ≡ Some said
+pub one_says : (u : FirstEntry) (offset : ℕ) (said : Text) → u.stmt_list ≡ Some offset → u.comp_dir ≡ Some said
     → HasDirectory (entry u ∷ [])
 one_says u offset said table directory =
     let so : says offset (entry u) ≡ true =

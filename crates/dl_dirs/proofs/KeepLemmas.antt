@@ -8,8 +8,8 @@ use Rattle.dl_info.specs.declared.unit.Answer.{Answer}
 use Rattle.dl_info.specs.Entries.{EntryData}
 use Rattle.dl_info.specs.Units.{unit_length}
 use Rattle.dl_dirs.specs.declared.places.Places.{Places}
-use Rattle.dl_dirs.specs.declared.walk.State.{State}
-use Rattle.dl_dirs.specs.declared.walk.State.TheVariants as state
+use Rattle.dl_dirs.specs.declared.walk.InfoStage.{InfoStage}
+use Rattle.dl_dirs.specs.declared.walk.InfoStage.TheVariants as state
 use Rattle.dl_dirs.specs.declared.walk.Walk.{Walk}
 use Rattle.dl_dirs.specs.Holding.{Fits, Holds}
 use Rattle.dl_dirs.specs.Standing.{Keeps, KeepsWith, begun, passed}
@@ -58,7 +58,7 @@ keeps_more places front taken later le k =
 pub begun_keeps : (walk : Walk) (awaited taken : ℕ) → walk.state ≡ state.Begun awaited → Keeps walk taken
     → KeepsWith walk.places walk.front.items taken
 begun_keeps walk awaited taken is k =
-    subst (λ (s : State). KeepsWith walk.places (begun s walk.front.items) taken) is k
+    subst (λ (s : InfoStage). KeepsWith walk.places (begun s walk.front.items) taken) is k
 
 -- a unit was read from its first bytes u
 module _ (old new : Places) (u : List ℕ) (answer : Answer UnitLength) (more : List EntryData)

@@ -11,9 +11,9 @@ use Rattle.dl_info.specs.declared.unit.Answer.TheVariants.{Found, More, Unreadab
 use Rattle.dl_info.specs.Entries.{EntryData}
 use Rattle.dl_info.specs.Units.{first_entry, unit_length}
 use Rattle.dl_info.proofs.SteadyUnits.{lengths_stay}
-use Rattle.dl_dirs.specs.declared.walk.State.TheVariants as state
+use Rattle.dl_dirs.specs.declared.walk.InfoStage.TheVariants as state
 use Rattle.dl_dirs.specs.declared.places.Places.{Places}
-use Rattle.dl_dirs.specs.declared.walk.State.{State}
+use Rattle.dl_dirs.specs.declared.walk.InfoStage.{InfoStage}
 use Rattle.dl_dirs.specs.declared.walk.Walk.{Walk}
 use Rattle.dl_dirs.specs.Holding.{Holds}
 use Rattle.dl_dirs.specs.Standing.{Awaits, GoesOn, Onward, StandsAt, StandsFor, told_length}
@@ -228,13 +228,13 @@ begun walk new order abbreviations b awaited places same is awaits g = record {
   abbreviations_are = same ∙ g.abbreviations_are;
   es = g.es;
   holds = subst (λ (p : Places). Holds p g.es) (sym places) g.holds;
-  stands = subst (λ (x : State). StandsAt order abbreviations x new.front.items b g.es) (sym is) (awaits, g.onward);
+  stands = subst (λ (x : InfoStage). StandsAt order abbreviations x new.front.items b g.es) (sym is) (awaits, g.onward);
 }
 
 pub some_awaited : (walk : Walk) (order : Order) (abbreviations b : List ℕ) (awaited : ℕ)
     → walk.state ≡ state.Begun awaited → StandsFor walk order abbreviations b → 1 ≤ awaited
 some_awaited walk order abbreviations b awaited was s =
-    let begun = subst (λ (x : State). StandsAt order abbreviations x walk.front.items b s.es) was s.stands in
+    let begun = subst (λ (x : InfoStage). StandsAt order abbreviations x walk.front.items b s.es) was s.stands in
     begun.0.some
 
 -- and a part u of a piece after them, but not all bytes that are awaited
@@ -243,7 +243,7 @@ pub grew : (walk new : Walk) (order : Order) (abbreviations b u : List ℕ) (awa
     → new.front.items ≡ walk.front.items ++ u → length u < awaited → walk.state ≡ state.Begun awaited
     → StandsFor walk order abbreviations b → StandsFor new order abbreviations (b ++ u)
 grew walk new order abbreviations b u awaited places same is front less was s =
-    let begun = subst (λ (x : State). StandsAt order abbreviations x walk.front.items b s.es) was s.stands in
+    let begun = subst (λ (x : InfoStage). StandsAt order abbreviations x walk.front.items b s.es) was s.stands in
     let at : StandsAt order abbreviations (state.Begun (awaited - length u)) (walk.front.items ++ u) (b ++ u) s.es = (
       awaits_less order walk.front.items u awaited begun.0 less,
       grows order abbreviations b s.es walk.front.items u begun.1,
@@ -253,7 +253,7 @@ grew walk new order abbreviations b u awaited places same is front less was s =
       abbreviations_are = same ∙ s.abbreviations_are;
       es = s.es;
       holds = subst (λ (p : Places). Holds p s.es) (sym places) s.holds;
-      stands = subst (λ (x : State). StandsAt order abbreviations x new.front.items (b ++ u) s.es) (sym is)
+      stands = subst (λ (x : InfoStage). StandsAt order abbreviations x new.front.items (b ++ u) s.es) (sym is)
           (subst
           (λ (f : List ℕ). StandsAt order abbreviations (state.Begun (awaited - length u)) f (b ++ u) s.es)
           (sym front)
@@ -267,7 +267,7 @@ pub grew_out : (walk new : Walk) (order : Order) (abbreviations b u : List ℕ) 
     → GoesOn new order abbreviations (b ++ u) new.front.items
     × ((l : UnitLength) → unit_length order new.front.items ≡ Found l → length new.front.items ≤ l.size)
 grew_out walk new order abbreviations b u awaited places same front within was s =
-    let begun = subst (λ (x : State). StandsAt order abbreviations x walk.front.items b s.es) was s.stands in (
+    let begun = subst (λ (x : InfoStage). StandsAt order abbreviations x walk.front.items b s.es) was s.stands in (
       record {
         order_is = ap (λ (p : Places). p.order) places ∙ s.order_is;
         abbreviations_are = same ∙ s.abbreviations_are;
@@ -320,7 +320,7 @@ all_told order abbreviations b front es awaited awaits onward =
           ∙ append-nil (found_in (first_entry order abbreviations front))
 
 -- in a state in which nothing is kept
-pub all_passed : (order : Order) (abbreviations front b : List ℕ) (es : List EntryData) (s : State)
+pub all_passed : (order : Order) (abbreviations front b : List ℕ) (es : List EntryData) (s : InfoStage)
     → ((awaited : ℕ) → s ≡ state.Begun awaited → ⊥) → StandsAt order abbreviations s front b es
     → entries order abbreviations b ≡ es
 all_passed order abbreviations front b es (state.Begun awaited) other stands = absurd (other awaited refl)

@@ -7,8 +7,8 @@ use Rattle.dl_info.specs.declared.unit.Answer.TheVariants.{Found, More, Unreadab
 use Rattle.dl_info.specs.Entries.{EntryData}
 use Rattle.dl_info.specs.Section.{section_of}
 use Rattle.dl_info.specs.Units.{first_entry, unit_length}
-use Rattle.dl_dirs.specs.declared.walk.State.{State}
-use Rattle.dl_dirs.specs.declared.walk.State.TheVariants as state
+use Rattle.dl_dirs.specs.declared.walk.InfoStage.{InfoStage}
+use Rattle.dl_dirs.specs.declared.walk.InfoStage.TheVariants as state
 use Rattle.dl_dirs.specs.declared.walk.Walk.{Walk}
 use Rattle.dl_dirs.specs.declared.places.Places.{Places}
 use Rattle.dl_dirs.specs.Holding.{Fits, Holds}
@@ -34,7 +34,7 @@ abbrev pub Onward : Order → (abbreviations : List ℕ) → (b : List ℕ) → 
 Onward order abbreviations b es front = (rest : List ℕ)
     → entries order abbreviations (b ++ rest) ≡ es ++ entries order abbreviations (front ++ rest)
 
-abbrev pub StandsAt : Order → (abbreviations : List ℕ) → State → (front b : List ℕ) → List EntryData → Type 0
+abbrev pub StandsAt : Order → (abbreviations : List ℕ) → InfoStage → (front b : List ℕ) → List EntryData → Type 0
 StandsAt order abbreviations (state.Begun wanted) front b es =
     Awaits order front wanted × Onward order abbreviations b es front
 StandsAt order abbreviations (state.Body left) front b es = (rest : List ℕ)
@@ -79,7 +79,7 @@ pub record KeepsWith (places : Places) (front : List ℕ) (taken : ℕ) : Type 0
   pub within : over + length front ≤ taken
 
 -- the first bytes that are kept of a unit
-abbrev pub begun : State → (front : List ℕ) → List ℕ
+abbrev pub begun : InfoStage → (front : List ℕ) → List ℕ
 begun (state.Begun wanted) front = front
 begun (state.Body left) front = []
 begun state.Ended front = []

@@ -16,7 +16,7 @@ ghost use Rattle.dl_dirs.specs.Holding.{said_size, text_kept, text_size};
 use crate::directories::Directories;
 use crate::extent::{Extent, bytes_of, put};
 use crate::texts::{Texts, index_text, section_text};
-use dl_info::{Entry, Text};
+use dl_info::{FirstEntry, Text};
 use dl_memory::{Memory, NoMemory};
 use dl_num::Order;
 use dl_table::Format;
@@ -136,7 +136,11 @@ impl Places {
     }
 
     /// Takes the first entry of the next unit: keeps it where it says the directory of a line table, and none did before.
-    pub(crate) fn add<M: Memory>(&mut self, memory: &M, unit: &Entry<'_>) -> Result<(), NoMemory>
+    pub(crate) fn add<M: Memory>(
+        &mut self,
+        memory: &M,
+        unit: &FirstEntry<'_>,
+    ) -> Result<(), NoMemory>
         ensures order { self.new.order ≡ self.old.order }
         ensures holds { OnOk result ((es : List EntryData) → Holds self.old es
             → Holds self.new (es ++ entry unit.now ∷ [])) }

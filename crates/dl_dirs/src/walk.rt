@@ -10,7 +10,7 @@ ghost use Rattle.dl_info.specs.Units.{first_entry, unit_length};
 ghost use Rattle.dl_dirs.specs.Units.{HasDirectory, entries, found_in};
 ghost use Rattle.dl_dirs.specs.Holding.{AreOf, Fits, Holds};
 ghost use Rattle.dl_dirs.specs.Standing.{Awaits, GoesOn, Keeps, KeepsWith, StandsFor, Took, passed, told_length};
-ghost use Rattle.dl_dirs.specs.declared.walk.State.TheVariants as state;
+ghost use Rattle.dl_dirs.specs.declared.walk.InfoStage.TheVariants as state;
 
 use crate::places::Places;
 use dl_info::{Abbreviations, Answer, UnitLength, first_entry, unit_length};
@@ -23,7 +23,7 @@ const AWAITED: usize = 32;
 
 /// Where a walk is.
 #[derive(Clone, Copy)]
-pub(crate) enum State {
+pub(crate) enum InfoStage {
     /// In a unit of which the first bytes are kept. After so many more they are read again.
     Begun(usize),
     /// So many bytes before the end of a unit whose first entry is passed.
@@ -39,7 +39,7 @@ pub(crate) enum State {
 #[derive(Drop)]
 pub struct Walk<'a> {
     abbreviations: Abbreviations<'a>,
-    state: State,
+    state: InfoStage,
     /// The first bytes of a unit.
     front: Vec<u8>,
     places: Places,
@@ -96,7 +96,7 @@ impl<'a> Walk<'a> {
     {
         Walk {
             abbreviations: Abbreviations::new(alloc, abbreviations),
-            state: State::Body(0),
+            state: InfoStage::Body(0),
             front: Vec::new(alloc),
             places: Places::new(alloc, order),
         }
@@ -134,9 +134,9 @@ impl<'a> Walk<'a> {
             → OnErr result (IsRefused (M.refuses memory.now) (taken + length piece.now)) }
     {
         match self.state {
-            State::Begun(awaited) => self.grow(memory, awaited, piece),
-            State::Body(left) => self.pass(memory, left, piece),
-            State::Ended => Ok(piece.len()),
+            InfoStage::Begun(awaited) => self.grow(memory, awaited, piece),
+            InfoStage::Body(left) => self.pass(memory, left, piece),
+            InfoStage::Ended => Ok(piece.len()),
         }
     }
 
@@ -160,7 +160,7 @@ impl<'a> Walk<'a> {
         let used = awaited.min(piece.len());
         memory.extend_from_slice(&mut self.front, &piece[..used])?;
         if used < awaited {
-            self.state = State::Begun(awaited - used);
+            self.state = InfoStage::Begun(awaited - used);
         } else {
             self.read_front(memory)?;
         }
@@ -184,9 +184,11 @@ impl<'a> Walk<'a> {
             &mut self.abbreviations,
             &self.front,
         )? {
-            Answer::Found(unit) => State::Body(unit.size.saturating_sub(self.front.len() as u64)),
-            Answer::More => State::Begun(awaited(self.places.order, &self.front)),
-            Answer::Unreadable => State::Ended,
+            Answer::Found(unit) => InfoStage::Body(
+                unit.size.saturating_sub(self.front.len() as u64),
+            ),
+            Answer::More => InfoStage::Begun(awaited(self.places.order, &self.front)),
+            Answer::Unreadable => InfoStage::Ended,
         };
         Ok(())
     }
@@ -204,7 +206,7 @@ impl<'a> Walk<'a> {
             → OnErr result (IsRefused (M.refuses memory.now) (taken + length piece.now)) }
     {
         if left >= piece.len() as u64 {
-            self.state = State::Body(left - piece.len() as u64);
+            self.state = InfoStage::Body(left - piece.len() as u64);
             return Ok(piece.len());
         }
         let left = left as usize;
@@ -224,11 +226,11 @@ impl<'a> Walk<'a> {
         match read(memory, &mut self.places, &mut self.abbreviations, piece)? {
             Answer::Found(unit) => {
                 let used = unit.size.min(piece.len() as u64);
-                self.state = State::Body(unit.size - used);
+                self.state = InfoStage::Body(unit.size - used);
                 return Ok(used as usize);
             }
             Answer::More => self.keep(memory, piece)?,
-            Answer::Unreadable => self.state = State::Ended,
+            Answer::Unreadable => self.state = InfoStage::Ended,
         }
         Ok(piece.len())
     }
@@ -244,7 +246,7 @@ impl<'a> Walk<'a> {
     {
         self.front.clear();
         memory.extend_from_slice(&mut self.front, front)?;
-        self.state = State::Begun(awaited(self.places.order, front));
+        self.state = InfoStage::Begun(awaited(self.places.order, front));
         Ok(())
     }
 
@@ -263,7 +265,7 @@ impl<'a> Walk<'a> {
             front,
             mut places,
         } = self;
-        if let State::Begun(_) = state {
+        if let InfoStage::Begun(_) = state {
             let _ = read(memory, &mut places, &mut abbreviations, &front)?;
         }
         Ok(places)

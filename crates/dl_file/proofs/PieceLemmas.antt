@@ -12,8 +12,8 @@ use Rattle.dl_elf.specs.Elf.{bytes_at}
 use Rattle.dl_elf.specs.Sections.{lies_within, range_within, section_bytes, section_range}
 use Rattle.dl_reloc.specs.declared.target.Class.{Class}
 use Rattle.dl_reloc.specs.declared.target.Class.TheVariants.{Bits32, Bits64}
-use Rattle.dl_reloc.specs.declared.target.Form.{Form}
-use Rattle.dl_reloc.specs.declared.target.Form.TheVariants.{Rela, Rel}
+use Rattle.dl_reloc.specs.declared.target.AddendPlace.{AddendPlace}
+use Rattle.dl_reloc.specs.declared.target.AddendPlace.TheVariants.{Rela, Rel}
 use Rattle.dl_reloc.specs.declared.target.Target.{Target}
 use Rattle.dl_reloc.proofs.CountLemmas.{values_counted}
 use Rattle.dl_reloc.specs.Entries.{AreWholeSymbols, count, entry_size, symbol_size, symbol_values}
@@ -98,14 +98,14 @@ bytes_of_pieces r s f i bytes of within past is =
 -- ---- pieces of entries and symbols
 
 -- a piece has whole entries
-entries_of_piece : (class : Class) (form : Form) → (n : ℕ) × (24576 ≡ n * entry_size class form)
+entries_of_piece : (class : Class) (form : AddendPlace) → (n : ℕ) × (24576 ≡ n * entry_size class form)
 entries_of_piece Bits32 Rel = (3072, refl)
 entries_of_piece Bits32 Rela = (2048, refl)
 entries_of_piece Bits64 Rel = (1536, refl)
 entries_of_piece Bits64 Rela = (1024, refl)
 
 -- and so have several
-pub whole_pieces : (t : Target) (form : Form) (i : ℕ) (all : List ℕ) → i * 24576 ≤ length all
+pub whole_pieces : (t : Target) (form : AddendPlace) (i : ℕ) (all : List ℕ) → i * 24576 ≤ length all
     → AreWhole t form (take (i * 24576) all)
 whole_pieces t form i all within =
     let piece = entries_of_piece t.class form in

@@ -16,8 +16,8 @@ use Rattle.dl_elf.specs.Elf.{is_object, relocates}
 use Rattle.dl_elf.specs.Sections.{range_within, section_bytes, section_headers, section_in, section_range}
 use Rattle.dl_reloc.specs.declared.target.Class.{Class as TargetClass}
 use Rattle.dl_reloc.specs.declared.target.Class.TheVariants as class
-use Rattle.dl_reloc.specs.declared.target.Form.{Form}
-use Rattle.dl_reloc.specs.declared.target.Form.TheVariants.{Rela, Rel}
+use Rattle.dl_reloc.specs.declared.target.AddendPlace.{AddendPlace}
+use Rattle.dl_reloc.specs.declared.target.AddendPlace.TheVariants.{Rela, Rel}
 use Rattle.dl_reloc.specs.declared.target.Target.{Target}
 use Rattle.dl_reloc.specs.declared.apply.RelocationFault.{RelocationFault}
 use Rattle.dl_reloc.specs.declared.apply.RelocationFault.TheVariants.{UnknownType, PlaceOutside, SymbolOutside, Damaged}
@@ -35,7 +35,7 @@ abbrev pub target_of : Elf → Target
 target_of e = record { machine = e.header.machine; class = class_of e.header.class; order = e.header.order }
 
 -- SHT_RELA is 4; the other type is SHT_REL
-abbrev pub form_of : SectionHeader → Form
+abbrev pub form_of : SectionHeader → AddendPlace
 form_of s = if s.section_type == 4 then Rela else Rel
 
 -- the fault of a relocation of the section of this name
@@ -67,7 +67,7 @@ symbols_in e f number =
     else option_and_then (values_in (target_of e) f) (section_in e.header f number)
 
 -- what entries of this form make of b, with these symbols
-abbrev pub by_entries : Elf → SectionName → Form → (entries symbols : Option (List ℕ)) → List ℕ
+abbrev pub by_entries : Elf → SectionName → AddendPlace → (entries symbols : Option (List ℕ)) → List ℕ
     → Result (List ℕ) ElfFault
 by_entries e name form None symbols b = Err (fault.Damaged (part.Relocations name))
 by_entries e name form (Some entries) None b = Err (fault.Damaged (part.Symbols name))

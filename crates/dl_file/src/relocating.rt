@@ -18,7 +18,7 @@ use dl_elf::{
     lies_within, section_at, section_range,
 };
 use dl_memory::Memory;
-use dl_reloc::{Class, Form, RelocationFault, Target, relocate, relocate_compact};
+use dl_reloc::{AddendPlace, Class, RelocationFault, Target, relocate, relocate_compact};
 
 /// The type of a section of relocations with addends (SHT_RELA).
 const RELA: u64 = 4;
@@ -47,13 +47,13 @@ pub fn target_of(elf: &Elf) -> Target
 }
 
 /// The form of the entries of a section of relocations.
-pub fn form_of(section: &SectionHeader) -> Form
+pub fn form_of(section: &SectionHeader) -> AddendPlace
     ensures { result ≡ form_of section.now }
 {
     if section.section_type == RELA {
-        Form::Rela
+        AddendPlace::Rela
     } else {
-        Form::Rel
+        AddendPlace::Rel
     }
 }
 

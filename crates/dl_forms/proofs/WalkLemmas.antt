@@ -21,8 +21,8 @@ use Rattle.dl_rows.proofs.UnitKnown.{foreign_known, header_known}
 use Rattle.dl_head.specs.declared.fault.Fault.{Fault}
 use Rattle.dl_object.specs.Section.{NoneFollows}
 use Rattle.dl_object.proofs.HeadLemmas.{none_after_refused, none_more}
-use Rattle.dl_forms.specs.declared.state.State.{State}
-use Rattle.dl_forms.specs.declared.state.State.TheVariants as state
+use Rattle.dl_forms.specs.declared.state.WalkStage.{WalkStage}
+use Rattle.dl_forms.specs.declared.state.WalkStage.TheVariants as state
 use Rattle.dl_forms.specs.Names.{RefusesCellFrom, Names, named_in}
 use Rattle.dl_forms.specs.Standing.{Begins, IsHead, Onward, StandsAt}
 use Rattle.dl_forms.proofs.NamesLemmas.{Kind, named_here, none_named, past_head}
@@ -293,7 +293,7 @@ module _ (reader new : HeadReader) (b u piece : List ℕ) (used : ℕ) (step : H
           (kind_is reader.dialect u piece begins.goes used step took ends);
     }
 
-    pub stands_after : (after : State) → ((b z : List ℕ) → IsHead new z → Onward new.dialect b z
+    pub stands_after : (after : WalkStage) → ((b z : List ℕ) → IsHead new z → Onward new.dialect b z
         → StandsAt new.dialect after b) → StandsAt reader.dialect after taken
     stands_after after at =
         subst (λ (d : Dialect). StandsAt d after taken) same
@@ -344,20 +344,20 @@ wants_further dialect b piece at (before, front, byte, back, split, past, adds) 
 
 -- ---- what was named, by where the walk is
 
-named_at : (dialect : Dialect) (s : State) (b : List ℕ) → StandsAt dialect s b → s ≡ state.Named → (rest : List ℕ)
+named_at : (dialect : Dialect) (s : WalkStage) (b : List ℕ) → StandsAt dialect s b → s ≡ state.Named → (rest : List ℕ)
     → Names dialect (b ++ rest)
-named_at dialect s b stands e = subst (λ (z : State). StandsAt dialect z b) e stands
+named_at dialect s b stands e = subst (λ (z : WalkStage). StandsAt dialect z b) e stands
 
 without_rest : (dialect : Dialect) (b : List ℕ) → Names dialect (b ++ []) → Names dialect b
 without_rest dialect b named = subst (Names dialect) (append-nil b) named
 
-pub named_now : (dialect : Dialect) (s : State) (b : List ℕ) → StandsAt dialect s b → s ≡ state.Named → Names dialect b
+pub named_now : (dialect : Dialect) (s : WalkStage) (b : List ℕ) → StandsAt dialect s b → s ≡ state.Named → Names dialect b
 named_now dialect s b stands e = without_rest dialect b (named_at dialect s b stands e [])
 
 with_rest : (dialect : Dialect) (b : List ℕ) → Names dialect b → Names dialect (b ++ [])
 with_rest dialect b named = subst (Names dialect) (sym (append-nil b)) named
 
-pub unnamed_at : (dialect : Dialect) (s : State) (b : List ℕ) → StandsAt dialect s b → (s ≡ state.Named → ⊥)
+pub unnamed_at : (dialect : Dialect) (s : WalkStage) (b : List ℕ) → StandsAt dialect s b → (s ≡ state.Named → ⊥)
     → Names dialect b → ⊥
 unnamed_at dialect (state.Head reader) b (u, same, begins, onward) other named =
     open_names_none dialect u (subst (λ (d : Dialect). IsOpen d u) same begins.goes)
@@ -372,10 +372,10 @@ pub nil_onward : (dialect : Dialect) → Onward dialect [] []
 nil_onward dialect = record { before = []; split = refl; same = λ rest. (λ named. named, λ named. named) }
 
 -- a walk that is over settles it, whatever follows
-pub over_at : (dialect : Dialect) (s : State) (b : List ℕ) → StandsAt dialect s b → (s ≡ state.Named)
+pub over_at : (dialect : Dialect) (s : WalkStage) (b : List ℕ) → StandsAt dialect s b → (s ≡ state.Named)
     ⊎ (s ≡ state.Ended) → (rest : List ℕ) → Names dialect (b ++ rest) ↔ Names dialect b
 over_at dialect s b stands (inl e) rest =
     (λ named. named_now dialect s b stands e, λ named. named_at dialect s b stands e rest)
 over_at dialect s b stands (inr e) rest =
-    let none = subst (λ (z : State). StandsAt dialect z b) e stands in
+    let none = subst (λ (z : WalkStage). StandsAt dialect z b) e stands in
     (λ named. absurd (none rest named), λ named. absurd (none [] (with_rest dialect b named)))

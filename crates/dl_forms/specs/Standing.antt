@@ -8,8 +8,8 @@ use Rattle.dl_head.specs.Header.{IsHeader}
 use Rattle.dl_head.specs.Reading.{Answers}
 use Rattle.dl_head.specs.Standing.{StandsFor as HeadStandsFor}
 use Rattle.dl_object.specs.Section.{IsUnread}
-use Rattle.dl_forms.specs.declared.state.State.{State}
-use Rattle.dl_forms.specs.declared.state.State.TheVariants as state
+use Rattle.dl_forms.specs.declared.state.WalkStage.{WalkStage}
+use Rattle.dl_forms.specs.declared.state.WalkStage.TheVariants as state
 use Rattle.dl_forms.specs.declared.walk.StringWalk.{StringWalk}
 use Rattle.dl_forms.specs.Names.{Names}
 
@@ -29,7 +29,7 @@ pub record IsHead (reader : HeadReader) (w : List ℕ) : Type 0 where
   pub stands : HeadStandsFor reader w
   pub kind : ((h : HeaderData) × IsHeader reader.dialect h w) ⊎ IsUnread reader.dialect w
 
-abbrev pub StandsAt : Dialect → State → List ℕ → Type 0
+abbrev pub StandsAt : Dialect → WalkStage → List ℕ → Type 0
 StandsAt dialect (state.Head reader) b = (u : List ℕ) × (reader.dialect ≡ dialect) × Begins reader u
     × Onward dialect b u
 StandsAt dialect (state.Body left) b = (rest : List ℕ) → Names dialect (b ++ rest) ↔ Names dialect (drop left rest)

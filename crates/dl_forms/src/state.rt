@@ -2,7 +2,7 @@
 
 ghost use Rattle.std.specs.Prelude.{◌≡◌, ◌≤◌, ◌++◌, ℕ, List, length, take, IfOk, IfErr};
 ghost use Rattle.std.specs.Option.{option_copied};
-ghost use Rattle.dl_forms.specs.declared.state.State.TheVariants as state;
+ghost use Rattle.dl_forms.specs.declared.state.WalkStage.TheVariants as state;
 ghost use Rattle.dl_forms.specs.Names.{RefusesCellFrom, has_strp, is_strp, named_in};
 ghost use Rattle.dl_forms.specs.Standing.{Begins, IsHead, Onward, StandsAt};
 
@@ -12,7 +12,7 @@ use std::alloc::Global;
 
 /// Where a walk is.
 #[derive(Drop)]
-pub enum State {
+pub enum WalkStage {
     /// In the head of a unit.
     Head(HeadReader),
     /// After the head of a unit, so many bytes before its end.
@@ -49,21 +49,21 @@ fn is_named(header: Option<&Header>) -> bool
 }
 
 /// Where a walk is after the head of a unit, or after the byte that decides that it is damaged.
-fn after_head(reader: &HeadReader) -> State
+fn after_head(reader: &HeadReader) -> WalkStage
     ensures { (b w : List ℕ) → IsHead reader.now w → Onward reader.now.dialect b w
         → StandsAt reader.now.dialect result b }
 {
     if is_named(reader.header()) {
-        return State::Named;
+        return WalkStage::Named;
     }
     match reader.unit_len() {
-        Some(len) => State::Body(len.saturating_sub(reader.taken())),
-        None => State::Ended,
+        Some(len) => WalkStage::Body(len.saturating_sub(reader.taken())),
+        None => WalkStage::Ended,
     }
 }
 
 /// Takes bytes of the head of a unit: where the walk is after them, and how many they are.
-fn read_head(reader: HeadReader, piece: &[u8]) -> Result<(State, usize), NoMemory>
+fn read_head(reader: HeadReader, piece: &[u8]) -> Result<(WalkStage, usize), NoMemory>
     requires { 1 ≤ length piece.now }
     ensures within { IfOk result (λ r. r.1 ≤ length piece.now) }
     ensures stands { (b u : List ℕ) → Begins reader u → Onward reader.dialect b u
@@ -74,7 +74,7 @@ fn read_head(reader: HeadReader, piece: &[u8]) -> Result<(State, usize), NoMemor
     let mut reader = reader;
     let (used, step) = reader.offer(piece);
     match step {
-        HeadStep::More => Ok((State::Head(reader), used)),
+        HeadStep::More => Ok((WalkStage::Head(reader), used)),
         HeadStep::Done | HeadStep::Foreign(_) | HeadStep::Fault(_) => {
             Ok((after_head(&reader), used))
         }
@@ -86,9 +86,9 @@ fn read_head(reader: HeadReader, piece: &[u8]) -> Result<(State, usize), NoMemor
 pub fn advance(
     alloc: Global,
     dialect: Dialect,
-    state: State,
+    state: WalkStage,
     piece: &[u8],
-) -> Result<(State, usize), NoMemory>
+) -> Result<(WalkStage, usize), NoMemory>
     requires { 1 ≤ length piece.now }
     ensures within { IfOk result (λ r. r.1 ≤ length piece.now) }
     ensures stands { (b : List ℕ) → StandsAt dialect state b
@@ -97,10 +97,10 @@ pub fn advance(
         → IfErr result (λ error. RefusesCellFrom dialect (length b) (b ++ piece.now)) }
 {
     match state {
-        State::Head(reader) => read_head(reader, piece),
-        State::Body(left) => after_body(alloc, dialect, left, piece),
-        State::Named => Ok((State::Named, piece.len())),
-        State::Ended => Ok((State::Ended, piece.len())),
+        WalkStage::Head(reader) => read_head(reader, piece),
+        WalkStage::Body(left) => after_body(alloc, dialect, left, piece),
+        WalkStage::Named => Ok((WalkStage::Named, piece.len())),
+        WalkStage::Ended => Ok((WalkStage::Ended, piece.len())),
     }
 }
 
@@ -110,7 +110,7 @@ fn after_body(
     dialect: Dialect,
     left: u64,
     piece: &[u8],
-) -> Result<(State, usize), NoMemory>
+) -> Result<(WalkStage, usize), NoMemory>
     requires { 1 ≤ length piece.now }
     ensures within { IfOk result (λ r. r.1 ≤ length piece.now) }
     ensures stands { (b : List ℕ) → StandsAt dialect (state.Body left) b
@@ -119,7 +119,7 @@ fn after_body(
         → IfErr result (λ error. RefusesCellFrom dialect (length b) (b ++ piece.now)) }
 {
     if left >= piece.len() as u64 {
-        return Ok((State::Body(left - piece.len() as u64), piece.len()));
+        return Ok((WalkStage::Body(left - piece.len() as u64), piece.len()));
     }
     let left = left as usize;
     let Ok((state, used)) = read_head(HeadReader::new(alloc, dialect), &piece[left..]) else {

@@ -4,7 +4,7 @@ ghost use Rattle.std.specs.Prelude.{◌≡◌, ◌↔◌, ◌++◌, ℕ, List, [
 ghost use Rattle.dl_forms.specs.Names.{RefusesCellFrom, Names};
 ghost use Rattle.dl_forms.specs.Standing.{StandsFor};
 
-use crate::state::{State, advance};
+use crate::state::{WalkStage, advance};
 use dl_head::{Dialect, HeadReader};
 use dl_memory::NoMemory;
 use std::alloc::Global;
@@ -19,7 +19,7 @@ use std::alloc::Global;
 pub struct StringWalk {
     alloc: Global,
     dialect: Dialect,
-    state: State,
+    state: WalkStage,
 }
 
 impl StringWalk {
@@ -31,7 +31,7 @@ impl StringWalk {
         StringWalk {
             alloc,
             dialect,
-            state: State::Head(HeadReader::new(alloc, dialect)),
+            state: WalkStage::Head(HeadReader::new(alloc, dialect)),
         }
     }
 
@@ -69,7 +69,7 @@ impl StringWalk {
     pub fn names_str(&self) -> bool
         ensures { (b : List ℕ) → StandsFor self.now b → IsTrue result ↔ Names self.now.dialect b }
     {
-        matches!(self.state, State::Named)
+        matches!(self.state, WalkStage::Named)
     }
 
     /// Whether that is settled, whatever bytes follow.
@@ -78,6 +78,6 @@ impl StringWalk {
             → Names self.now.dialect (b ++ rest) ↔ Names self.now.dialect b }
         ensures named { (b : List ℕ) → StandsFor self.now b → Names self.now.dialect b → IsTrue result }
     {
-        matches!(self.state, State::Named | State::Ended)
+        matches!(self.state, WalkStage::Named | WalkStage::Ended)
     }
 }

@@ -9,7 +9,7 @@ use Rattle.std.proofs.lemmas.Bool.Decides.{nat_tests}
 use Rattle.dl_index.specs.Layout.{base_in, count_in, start_in}
 use Rattle.dl_index.specs.LookUp.{Rise, IsLastUpto}
 use Rattle.dl_index.specs.Shown.{told}
-use Rattle.dl_index.specs.declared.index.Found.{Found}
+use Rattle.dl_index.specs.declared.index.FoundLine.{FoundLine}
 use Rattle.dl_index.specs.Stretches.{Stretch}
 use Rattle.dl_index.specs.Telling.{stretch_in, told_in, find_in}
 
@@ -83,7 +83,7 @@ module _ (b : List ℕ) (a : ℕ) where
       (none_is (stretch_in b) a (count_in b) (λ j less. absurd (omega arith)))
 
 -- an answer is what a stretch tells
-pub found_one : (b : List ℕ) (k : ℕ) (result : Option Found) → k < count_in b → option_map told result ≡ told_in b k
+pub found_one : (b : List ℕ) (k : ℕ) (result : Option FoundLine) → k < count_in b → option_map told result ≡ told_in b k
     → IfSome result (λ found. (j : ℕ) × (j < count_in b) × (told_in b j ≡ Some (told found)))
 found_one b k None within is = tt
 found_one b k (Some found) within is = (k, within, sym is)

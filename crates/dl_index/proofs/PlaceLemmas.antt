@@ -9,7 +9,7 @@ use Rattle.std.specs.Prelude.{IfSome}
 use Rattle.dl_index.specs.Shown.{text_told}
 use Rattle.dl_index.specs.TextPlaces.{AreAt, StandsAt}
 use Rattle.dl_index.specs.TextsOf.{ArePlacesOf, AreTextsOf, IsPlaceOf}
-use Rattle.dl_index.specs.declared.index.Found.{Found}
+use Rattle.dl_index.specs.declared.index.FoundLine.{FoundLine}
 use Rattle.dl_index.specs.declared.index.PathTexts.{PathTexts}
 
 -- the number of a text that there is stands for one that lies inside
@@ -59,7 +59,7 @@ one_at : (b : List ℕ) (n place : ℕ) (text : Option (Bor (List ℕ))) → tex
 one_at b n place None told is = tt
 one_at b n place (Some t) told is = is t.now told
 
-pub texts_are_at : (b : List ℕ) (f : ℕ) (found : Found) (texts : PathTexts) → AreTextsOf b f texts
+pub texts_are_at : (b : List ℕ) (f : ℕ) (found : FoundLine) (texts : PathTexts) → AreTextsOf b f texts
     → ArePlacesOf b f found.places → found.texts ≡ texts → AreAt b found
 texts_are_at b f found texts are places same =
     let told = subst (AreTextsOf b f) (sym same) are in

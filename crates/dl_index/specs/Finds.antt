@@ -8,10 +8,10 @@ use Rattle.dl_index.specs.Shown.{told}
 use Rattle.dl_index.specs.TextPlaces.{AreAt}
 use Rattle.dl_index.specs.IsIndex.{IsIndex}
 use Rattle.dl_index.specs.declared.four.Four.{Four}
-use Rattle.dl_index.specs.declared.index.Found.{Found}
+use Rattle.dl_index.specs.declared.index.FoundLine.{FoundLine}
 
 -- of well-formed bytes, what they tell of the address; of others, what some stretch of them tells, or nothing
-pub record Finds (b : List ℕ) (a : ℕ) (found : Option Found) : Type 0 where
+pub record Finds (b : List ℕ) (a : ℕ) (found : Option FoundLine) : Type 0 where
   pub exact : IsIndex b → option_map told found ≡ find_in b a
   pub stands : IfSome found (λ f. (k : ℕ) × (k < count_in b) × (told_in b k ≡ Some (told f)))
   pub places : IfSome found (AreAt b)

@@ -2,7 +2,7 @@
 use Rattle.std.specs.Prelude.{ℕ, List, [], ◌∷◌, ◌++◌, Option, Some, None}
 use Rattle.std.specs.Borrow.{Bor}
 use Rattle.dl_index.specs.Stretches.{Told}
-use Rattle.dl_index.specs.declared.index.Found.{Found}
+use Rattle.dl_index.specs.declared.index.FoundLine.{FoundLine}
 use Rattle.dl_index.specs.declared.index.PathTexts.{PathTexts}
 use Rattle.dl_index.specs.declared.index.IndexRef.{IndexRef}
 
@@ -18,7 +18,7 @@ abbrev pub texts_told : PathTexts → List (List ℕ)
 texts_told texts = text_told texts.first ++ text_told texts.second ++ text_told texts.third
 
 -- what an answer tells
-abbrev pub told : Found → Told
+abbrev pub told : FoundLine → Told
 told found = record {
   unit = found.unit;
   parts = texts_told found.texts;

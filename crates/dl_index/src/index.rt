@@ -42,7 +42,7 @@ struct PlacedPath<'a> {
 
 /// What is told of an address.
 #[derive(Clone, Copy)]
-pub struct Found<'a> {
+pub struct FoundLine<'a> {
     /// The offset of the unit in the line section.
     pub unit: u64,
     /// The texts of the path.
@@ -65,7 +65,7 @@ pub struct Listed<'a> {
     /// The first address of the next one; None for the last one, up to the last address.
     pub end: Option<u64>,
     /// What is told; None in a gap.
-    pub found: Option<Found<'a>>,
+    pub found: Option<FoundLine<'a>>,
 }
 
 /// An index, over its bytes.
@@ -81,7 +81,7 @@ pub struct IndexRef<'a> {
 impl<'a> IndexRef<'a> {
     ghost use Rattle.std.specs.Prelude.{◌≡◌, ℕ, ◌+◌, ◌-◌, ◌*◌, ◌%◌, ◌<◌, ◌≤◌, ◌^◌, ◌==◌, ◌⊎◌, length};
     ghost use Rattle.std.specs.Prelude.{Option, Some, None, IfSome, IfNone, IsSome, slice_index, slice_index_or};
-    ghost use Rattle.dl_index.specs.declared.index.Found.{Found};
+    ghost use Rattle.dl_index.specs.declared.index.FoundLine.{FoundLine};
     ghost use Rattle.std.specs.Option.{option_map};
     ghost use Rattle.dl_index.specs.Layout.{flags_in, build_id_in, base_in, count_in, files_in, start_in};
     ghost use Rattle.dl_index.specs.Layout.{is_stmt_in};
@@ -133,7 +133,7 @@ impl<'a> IndexRef<'a> {
     /// What is told of an address: nothing in a gap, and before the first stretch. Where the bytes were not checked,
     /// nothing either where the number of a file or text, or the place of a text, lies outside.
     #[inline(always)]
-    pub fn find(&self, address: u64) -> Option<Found<'a>>
+    pub fn find(&self, address: u64) -> Option<FoundLine<'a>>
         ensures told { IsIndex (bytes_of self.now) → option_map told result ≡ find_in (bytes_of self.now) address }
         ensures stands { IfSome result (λ found. (k : ℕ) × (k < count_in (bytes_of self.now))
             × (told_in (bytes_of self.now) k ≡ Some (told found))) }
@@ -145,9 +145,9 @@ impl<'a> IndexRef<'a> {
 
     /// What is told of each address, as by [`IndexRef::find`], four of them side by side, each at its place in `found`,
     /// which is as long.
-    pub fn find_many(&self, addresses: &[u64], found: &mut [Option<Found<'a>>])
+    pub fn find_many(&self, addresses: &[u64], found: &mut [Option<FoundLine<'a>>])
         requires { length addresses.now ≡ length found.old }
-        ensures { (i : ℕ) → i < length addresses.now → (d : Option Found)
+        ensures { (i : ℕ) → i < length addresses.now → (d : Option FoundLine)
             → Finds (bytes_of self.now) (slice_index addresses.now i) (slice_index_or found.new i d) }
     {
         let mut i = 0;
@@ -171,7 +171,7 @@ impl<'a> IndexRef<'a> {
 
     /// What is told of four addresses, as by [`IndexRef::find`], side by side.
     #[inline(always)]
-    pub fn find_four(&self, addresses: Four<u64>) -> Four<Option<Found<'a>>>
+    pub fn find_four(&self, addresses: Four<u64>) -> Four<Option<FoundLine<'a>>>
         ensures first { Finds (bytes_of self.now) addresses.first result.first }
         ensures second { Finds (bytes_of self.now) addresses.second result.second }
         ensures third { Finds (bytes_of self.now) addresses.third result.third }
@@ -216,7 +216,7 @@ impl<'a> IndexRef<'a> {
 
     /// What is told of an address, where `k` is the last stretch that doesn't begin above it; nothing below the base.
     #[inline(always)]
-    pub fn found_from(&self, address: u64, k: usize) -> Option<Found<'a>>
+    pub fn found_from(&self, address: u64, k: usize) -> Option<FoundLine<'a>>
         requires { let b = bytes_of self.now in FindsLast (start_in b) (count_in b) (address - base_in b) k }
         ensures { Finds (bytes_of self.now) address result }
     {
@@ -270,7 +270,7 @@ impl<'a> IndexRef<'a> {
 
     /// What stretch `k` tells.
     #[inline(always)]
-    fn found(&self, k: usize) -> Option<Found<'a>>
+    fn found(&self, k: usize) -> Option<FoundLine<'a>>
         requires { k < count_in (bytes_of self.now) }
         ensures told { option_map told result ≡ told_in (bytes_of self.now) k }
         ensures places { IfSome result (AreAt (bytes_of self.now)) }
@@ -281,7 +281,7 @@ impl<'a> IndexRef<'a> {
         }
         let file = (file - 1) as usize;
         let path = self.path(file)?;
-        Some(Found {
+        Some(FoundLine {
             unit: long_at(self.parts.file_table, file * 24),
             texts: path.texts,
             places: path.places,

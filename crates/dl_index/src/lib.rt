@@ -22,7 +22,7 @@ mod width;
 pub use fault::{IndexFault, IndexPart};
 pub use four::Four;
 pub use header::{HEADER_LEN, Header, Widths};
-pub use index::{Found, IndexRef, Listed, PathTexts, TextPlaces};
+pub use index::{FoundLine, IndexRef, Listed, PathTexts, TextPlaces};
 pub use layout::Layout;
 pub use numbers::Numbers;
 pub use opening::{has_magic, header_of, length_told, open, open_unchecked, reopen};

@@ -4,8 +4,8 @@ use Rattle.std.proofs.Common.{take, drop, nat_lt, Result, Ok, Err, refl, sym, ap
 use Rattle.std.specs.Prelude.{◌==◌}
 use Rattle.std.proofs.lemmas.List.{nil_from_length}
 use Rattle.dl_num.specs.LebFront.{is_leb, leb_front, after_leb}
-use Rattle.dl_info.specs.declared.front.Stop.{Stop}
-use Rattle.dl_info.specs.declared.front.Stop.TheVariants.{Short, Damaged}
+use Rattle.dl_info.specs.declared.front.FieldFault.{FieldFault}
+use Rattle.dl_info.specs.declared.front.FieldFault.TheVariants.{Short, Damaged}
 use Rattle.dl_info.specs.declared.abbreviation.Attribute.{Attribute}
 use Rattle.dl_info.specs.Front.{◌>>=◌, bytes_at, leb_at, uleb_at}
 use Rattle.dl_info.specs.Abbreviations.{Abbreviation, attribute_at, attributes_at, declaration_at, declared_in, is_end}
@@ -13,27 +13,27 @@ use Rattle.dl_info.specs.Laws.{AbbreviationsAreBounded, AttributesAreBounded}
 use Rattle.dl_info.proofs.SpelledLemmas.{uleb_told}
 
 -- what is left, if anything is read, is shorter by k bytes at least
-abbrev pub Uses : {A : Type 0} → ℕ → List ℕ → Result (A × List ℕ) Stop → Type 0
+abbrev pub Uses : {A : Type 0} → ℕ → List ℕ → Result (A × List ℕ) FieldFault → Type 0
 Uses k b (Ok x) = k + length x.1 ≤ length b
 Uses k b (Err s) = Unit {0}
 
-used_before : {A : Type 0} (k m : ℕ) (b c : List ℕ) (r : Result (A × List ℕ) Stop) → k + length c ≤ length b
+used_before : {A : Type 0} (k m : ℕ) (b c : List ℕ) (r : Result (A × List ℕ) FieldFault) → k + length c ≤ length b
     → Uses m c r → Uses (k + m) b r
 used_before k m b c (Ok x) first h = omega (arith, first, h)
 used_before k m b c (Err s) first h = tt
 
-uses_then : {A B : Type 0} (k m : ℕ) (b : List ℕ) (r : Result (A × List ℕ) Stop)
-    (next : A × List ℕ → Result (B × List ℕ) Stop) → Uses k b r → ((x : A × List ℕ) → Uses m x.1 (next x))
+uses_then : {A B : Type 0} (k m : ℕ) (b : List ℕ) (r : Result (A × List ℕ) FieldFault)
+    (next : A × List ℕ → Result (B × List ℕ) FieldFault) → Uses k b r → ((x : A × List ℕ) → Uses m x.1 (next x))
     → Uses (k + m) b (r >>= next)
 uses_then k m b (Ok x) next first others = used_before k m b x.1 (next x) first (others x)
 uses_then k m b (Err s) next first others = tt
 
-uses_if : {A : Type 0} (k : ℕ) (b : List ℕ) (t : Bool) (f g : Result (A × List ℕ) Stop) → Uses k b f → Uses k b g
+uses_if : {A : Type 0} (k : ℕ) (b : List ℕ) (t : Bool) (f g : Result (A × List ℕ) FieldFault) → Uses k b f → Uses k b g
     → Uses k b (cond t f g)
 uses_if k b true f g uf ug = uf
 uses_if k b false f g uf ug = ug
 
-uses_less : {A : Type 0} (k : ℕ) (b : List ℕ) (r : Result (A × List ℕ) Stop) → Uses k b r → Uses 0 b r
+uses_less : {A : Type 0} (k : ℕ) (b : List ℕ) (r : Result (A × List ℕ) FieldFault) → Uses k b r → Uses 0 b r
 uses_less k b (Ok x) h = omega (arith, h)
 uses_less k b (Err s) h = tt
 
@@ -42,7 +42,7 @@ uses_none x b = omega arith
 
 -- ---- fields
 
-of_uleb : (b : List ℕ) (r : Result (ℕ × List ℕ) Stop) → uleb_at b ≡ r → Uses 1 b r
+of_uleb : (b : List ℕ) (r : Result (ℕ × List ℕ) FieldFault) → uleb_at b ≡ r → Uses 1 b r
 of_uleb b (Err s) is = tt
 of_uleb b (Ok x) is =
     let told = uleb_told x.0 b x.1 is in
@@ -91,10 +91,10 @@ attributes_of_none zero = refl
 attributes_of_none (suc n) = rw none_here refl
 
 abbrev Attributes : Type 0
-Attributes = Result (List Attribute × List ℕ) Stop
+Attributes = Result (List Attribute × List ℕ) FieldFault
 
 -- what follows an attribute, with either bound
-one_more : (m k : ℕ) (b : List ℕ) (r : Result (Attribute × List ℕ) Stop) → attribute_at b ≡ r → Uses 2 b r
+one_more : (m k : ℕ) (b : List ℕ) (r : Result (Attribute × List ℕ) FieldFault) → attribute_at b ≡ r → Uses 2 b r
     → length b ≤ suc m → length b ≤ suc k
     → ((c : List ℕ) → length c ≤ m → length c ≤ k → attributes_at m c ≡ attributes_at k c)
     → attributes_at (suc m) b ≡ attributes_at (suc k) b
@@ -139,14 +139,14 @@ unfolding declared_in
 declared_in_none zero code = refl
 declared_in_none (suc n) code = rw no_declaration refl
 
-one_declaration_more : (m k code : ℕ) (b : List ℕ) (r : Result (Abbreviation × List ℕ) Stop) → declaration_at b ≡ r
+one_declaration_more : (m k code : ℕ) (b : List ℕ) (r : Result (Abbreviation × List ℕ) FieldFault) → declaration_at b ≡ r
     → Uses 1 b r → length b ≤ suc m → length b ≤ suc k
     → ((c : List ℕ) → length c ≤ m → length c ≤ k → declared_in m code c ≡ declared_in k code c)
     → declared_in (suc m) code b ≡ declared_in (suc k) code b
 unfolding declared_in
 one_declaration_more m k code b (Err s) is uses lm lk ih = rw is refl
 one_declaration_more m k code b (Ok d) is uses lm lk ih =
-    let f : Result (List Attribute) Stop → Result (List Attribute) Stop =
+    let f : Result (List Attribute) FieldFault → Result (List Attribute) FieldFault =
     λ r. cond (d.0.code == code) (Ok d.0.attributes) r in
     rw is (ap f (ih d.1 (omega (arith, uses, lm)) (omega (arith, uses, lk))))
 

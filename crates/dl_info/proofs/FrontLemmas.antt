@@ -14,7 +14,7 @@ use Rattle.dl_num.proofs.LebFrontLemmas.{is_leb-continues, leb_front-continues}
 use Rattle.dl_num.proofs.LebLaws.{is_leb-of, leb_is_front}
 use Rattle.dl_table.specs.Text.{text_in}
 use Rattle.dl_table.proofs.TextLemmas.{text_in-position}
-use Rattle.dl_info.specs.declared.front.Stop.TheVariants.{Short, Damaged}
+use Rattle.dl_info.specs.declared.front.FieldFault.TheVariants.{Short, Damaged}
 use Rattle.dl_info.specs.Front.{leb_at, text_and_rest, text_at, uleb_at}
 
 -- ---- numbers in LEB128

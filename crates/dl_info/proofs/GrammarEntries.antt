@@ -2,8 +2,8 @@
 use Rattle.std.proofs.Common.{◌≡◌, ℕ, ◌-◌, Bool, true, false, cond, nat_le, List, [], ◌++◌, take, sym, length, drop, Result, Ok, Err, ap, ◌∙◌, arith}
 use Rattle.std.proofs.lemmas.List.{append-nil}
 use Rattle.dl_num.specs.declared.fixed.Order.{Order}
-use Rattle.dl_info.specs.declared.front.Stop.{Stop}
-use Rattle.dl_info.specs.declared.front.Stop.TheVariants.{Damaged, Short}
+use Rattle.dl_info.specs.declared.front.FieldFault.{FieldFault}
+use Rattle.dl_info.specs.declared.front.FieldFault.TheVariants.{Damaged, Short}
 use Rattle.dl_info.specs.declared.head.UnitLength.{UnitLength}
 use Rattle.dl_info.specs.declared.unit.Answer.{Answer}
 use Rattle.dl_info.specs.declared.unit.Answer.TheVariants.{Found, More, Unreadable}
@@ -21,7 +21,7 @@ use Rattle.dl_info.proofs.GrammarTables.{declared_given, declared_told, Is}
 use Rattle.dl_info.proofs.GrammarUnits.{reads_head, reads_length, reads_uleb, reads_values}
 use Rattle.dl_info.proofs.SpelledLemmas.{value_is}
 
-from_damaged : (r : Result (List Attribute) Stop) (attributes : List Attribute) → Is (or_none r) attributes
+from_damaged : (r : Result (List Attribute) FieldFault) (attributes : List Attribute) → Is (or_none r) attributes
     → Is r attributes
 from_damaged (Ok x) attributes is = is
 from_damaged (Err s) attributes is = absurd cc
@@ -84,7 +84,7 @@ found_or other (Found x) = x
 found_or other More = other
 found_or other Unreadable = other
 
-length_found : (r : Result (UnitLength × List ℕ) Stop) (l : UnitLength) → length_answer r ≡ Found l
+length_found : (r : Result (UnitLength × List ℕ) FieldFault) (l : UnitLength) → length_answer r ≡ Found l
     → (rest : List ℕ) × (r ≡ Ok (l, rest))
 length_found (Ok x) l is = (x.1, ap (λ y. Ok (y, x.1)) (ap (found_or x.0) is))
 length_found (Err (Short n)) l is = absurd cc
@@ -104,7 +104,7 @@ neither : (t : Bool) (e : EntryData) → cond {A = Answer EntryData} t More Unre
 neither true e is = absurd cc
 neither false e is = absurd cc
 
-entry_found : (beyond : ℕ) (r : Result (EntryData × List ℕ) Stop) (e : EntryData) → settled beyond r ≡ Found e
+entry_found : (beyond : ℕ) (r : Result (EntryData × List ℕ) FieldFault) (e : EntryData) → settled beyond r ≡ Found e
     → (rest : List ℕ) × (r ≡ Ok (e, rest))
 entry_found beyond (Ok x) e is = (x.1, ap (λ y. Ok (y, x.1)) (ap (found_or x.0) is))
 entry_found beyond (Err (Short n)) e is = absurd (neither (nat_le n beyond) e is)

@@ -2,27 +2,27 @@
 use Rattle.std.proofs.Common.{◌≡◌, ℕ, Bool, true, false, cond, List, [], ◌++◌}
 use Rattle.std.proofs.Common.{Option, Some, None, Result, Ok, Err, refl, sym, ap, subst, ◌∙◌}
 use Rattle.std.proofs.Common.{append_assoc}
-use Rattle.dl_info.specs.declared.front.Stop.{Stop}
-use Rattle.dl_info.specs.declared.front.Stop.TheVariants.{Damaged}
+use Rattle.dl_info.specs.declared.front.FieldFault.{FieldFault}
+use Rattle.dl_info.specs.declared.front.FieldFault.TheVariants.{Damaged}
 use Rattle.dl_info.specs.Front.{◌>>=◌, or_damaged}
 use Rattle.dl_info.specs.Grammar.{Done, Known, Never, Then, Which}
 use Rattle.dl_info.proofs.SteadyLemmas.{afterwards}
 use Rattle.dl_info.proofs.SpelledLemmas.{value_is}
 
 -- read gives exactly what S spells, and leaves the bytes after it
-pub record Reader {A : Type 0} (read : List ℕ → Result (A × List ℕ) Stop) (S : A → List ℕ → Type 0) : Type 0 where
-  pub told : (b rest : List ℕ) (x : A) → ◌≡◌ {A = Result (A × List ℕ) Stop} (read b) (Ok (x, rest))
+pub record Reader {A : Type 0} (read : List ℕ → Result (A × List ℕ) FieldFault) (S : A → List ℕ → Type 0) : Type 0 where
+  pub told : (b rest : List ℕ) (x : A) → ◌≡◌ {A = Result (A × List ℕ) FieldFault} (read b) (Ok (x, rest))
       → (w : List ℕ) × (b ≡ w ++ rest) × S x w
-  pub gives : (x : A) (w rest : List ℕ) → S x w → ◌≡◌ {A = Result (A × List ℕ) Stop} (read (w ++ rest)) (Ok (x, rest))
+  pub gives : (x : A) (w rest : List ℕ) → S x w → ◌≡◌ {A = Result (A × List ℕ) FieldFault} (read (w ++ rest)) (Ok (x, rest))
 
 -- the value of a reading that goes on
-pub bound : {A B : Type 0} (r : Result A Stop) (f : A → Result B Stop) (y : B) → (r >>= f) ≡ Ok y
+pub bound : {A B : Type 0} (r : Result A FieldFault) (f : A → Result B FieldFault) (y : B) → (r >>= f) ≡ Ok y
     → (x : A) × (r ≡ Ok x) × (f x ≡ Ok y)
 bound (Ok x) f y e = (x, refl, e)
 bound (Err s) f y e = absurd cc
 
-pub then_reads : {A B : Type 0} (read : List ℕ → Result (A × List ℕ) Stop)
-    (next : A → List ℕ → Result (B × List ℕ) Stop) (S : A → List ℕ → Type 0) (T : A → B → List ℕ → Type 0)
+pub then_reads : {A B : Type 0} (read : List ℕ → Result (A × List ℕ) FieldFault)
+    (next : A → List ℕ → Result (B × List ℕ) FieldFault) (S : A → List ℕ → Type 0) (T : A → B → List ℕ → Type 0)
     → Reader read S → ((x : A) → Reader (next x) (T x)) → Reader (λ b. afterwards next (read b)) (Then S T)
 then_reads read next S T first others =
     record {
@@ -49,26 +49,26 @@ done_reads x =
       gives = λ y w rest spelt. rw (spelt.0, spelt.1) refl;
     }
 
-pub never_reads : {A : Type 0} (s : Stop) → Reader {A = A} (λ b. Err s) Never
+pub never_reads : {A : Type 0} (s : FieldFault) → Reader {A = A} (λ b. Err s) Never
 never_reads s = record { told = λ b rest y is. absurd cc; gives = λ y w rest spelt. absurd spelt }
 
-pub which_reads : {A : Type 0} (t : Bool) (f g : List ℕ → Result (A × List ℕ) Stop) (S T : A → List ℕ → Type 0)
+pub which_reads : {A : Type 0} (t : Bool) (f g : List ℕ → Result (A × List ℕ) FieldFault) (S T : A → List ℕ → Type 0)
     → Reader f S → Reader g T → Reader (λ b. cond t (f b) (g b)) (Which t S T)
 which_reads true f g S T rf rg = rf
 which_reads false f g S T rf rg = rg
 
-pub known_reads : {A B : Type 0} (o : Option A) (next : A → List ℕ → Result (B × List ℕ) Stop)
+pub known_reads : {A B : Type 0} (o : Option A) (next : A → List ℕ → Result (B × List ℕ) FieldFault)
     (S : A → B → List ℕ → Type 0) → ((x : A) → Reader (next x) (S x))
     → Reader (λ b. or_damaged o >>= λ x. next x b) (Known o S)
 known_reads (Some x) next S others = others x
 known_reads None next S others = never_reads Damaged
 
-abbrev done_with : {A : Type 0} → A → Result A Stop → A
+abbrev done_with : {A : Type 0} → A → Result A FieldFault → A
 done_with other (Ok x) = x
 done_with other (Err s) = other
 
 -- what is known without bytes
-pub answered_reads : {A B : Type 0} (r : Result A Stop) (next : A → List ℕ → Result (B × List ℕ) Stop)
+pub answered_reads : {A B : Type 0} (r : Result A FieldFault) (next : A → List ℕ → Result (B × List ℕ) FieldFault)
     (S : A → B → List ℕ → Type 0) → ((x : A) → Reader (next x) (S x))
     → Reader (λ b. r >>= λ x. next x b) (λ y w. (x : A) × (r ≡ Ok x) × S x y w)
 answered_reads (Ok x) next S others =
@@ -82,7 +82,7 @@ answered_reads (Err s) next S others =
     record { told = λ b rest y is. absurd cc; gives = λ y w rest spelt. absurd (let e = spelt.1 in cc) }
 
 -- the same bytes in other words
-pub same_reads : {A : Type 0} (read : List ℕ → Result (A × List ℕ) Stop) (S T : A → List ℕ → Type 0) → Reader read S
+pub same_reads : {A : Type 0} (read : List ℕ → Result (A × List ℕ) FieldFault) (S T : A → List ℕ → Type 0) → Reader read S
     → ((x : A) (w : List ℕ) → S x w → T x w) → ((x : A) (w : List ℕ) → T x w → S x w) → Reader read T
 same_reads read S T reader there back =
     record {

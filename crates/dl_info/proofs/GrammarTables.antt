@@ -3,8 +3,8 @@ use Rattle.std.proofs.Common.{◌≡◌, ℕ, zero, suc, ◌+◌, ◌≤◌, con
 use Rattle.std.proofs.Common.{Result, Ok, Err, refl, sym, ap, subst, ◌∙◌, arith, inl, inr, append_assoc}
 use Rattle.std.specs.Prelude.{◌==◌}
 use Rattle.std.proofs.lemmas.Bool.{cases_Bool}
-use Rattle.dl_info.specs.declared.front.Stop.{Stop}
-use Rattle.dl_info.specs.declared.front.Stop.TheVariants.{Short, Damaged}
+use Rattle.dl_info.specs.declared.front.FieldFault.{FieldFault}
+use Rattle.dl_info.specs.declared.front.FieldFault.TheVariants.{Short, Damaged}
 use Rattle.dl_info.specs.declared.abbreviation.Attribute.{Attribute}
 use Rattle.dl_info.specs.Front.{◌>>=◌, bytes_at, leb_at, uleb_at}
 use Rattle.dl_info.specs.Abbreviations.{Abbreviation, attribute_at, attributes_at, declaration_at, declared_in, is_end}
@@ -24,7 +24,7 @@ reads_attribute =
 
 -- ---- attributes
 
-abbrev with_first : Attribute → Result (List Attribute × List ℕ) Stop → Result (List Attribute × List ℕ) Stop
+abbrev with_first : Attribute → Result (List Attribute × List ℕ) FieldFault → Result (List Attribute × List ℕ) FieldFault
 with_first a r = r >>= λ others. Ok (a ∷ others.0, others.1)
 
 -- b is the spelling of attributes, and the rest
@@ -57,7 +57,7 @@ attributes_told : (n : ℕ) (b rest : List ℕ) (attributes : List Attribute) �
 unfolding attributes_at
 attributes_told zero b rest attributes is = absurd (not_read (Short 1) attributes rest is)
 attributes_told (suc n) b rest attributes is =
-    let next : Attribute × List ℕ → Result (List Attribute × List ℕ) Stop =
+    let next : Attribute × List ℕ → Result (List Attribute × List ℕ) FieldFault =
     λ a. cond (is_end a.0) (Ok ([], a.1)) (with_first a.0 (attributes_at n a.1)) in
     let step = bound (attribute_at b) next (attributes, rest) is in
     let one = reads_attribute.told b step.0.1 step.0.0 step.1 in
@@ -65,7 +65,7 @@ attributes_told (suc n) b rest attributes is =
     (λ others end so. attributes_told n step.0.1 end others so)
 
 -- a part of the bytes that is used
-used : {A : Type 0} (k : ℕ) (b rest : List ℕ) (x : A) (r : Result (A × List ℕ) Stop) → Uses k b r → Reads r x rest
+used : {A : Type 0} (k : ℕ) (b rest : List ℕ) (x : A) (r : Result (A × List ℕ) FieldFault) → Uses k b r → Reads r x rest
     → k + length rest ≤ length b
 used k b rest x r uses is = subst (λ r. Uses k b r) is uses
 
@@ -114,10 +114,10 @@ reads_declaration =
 abbrev pub IsDeclared : (code : ℕ) → List Attribute → List ℕ → Type 0
 IsDeclared code attributes b = (before : List Abbreviation) × Declares before code attributes b
 
-abbrev pub Is : Result (List Attribute) Stop → List Attribute → Type 0
+abbrev pub Is : Result (List Attribute) FieldFault → List Attribute → Type 0
 Is r attributes = r ≡ Ok attributes
 
-abbrev found_in : List Attribute → Result (List Attribute) Stop → List Attribute
+abbrev found_in : List Attribute → Result (List Attribute) FieldFault → List Attribute
 found_in none (Ok x) = x
 found_in none (Err s) = none
 
@@ -140,7 +140,7 @@ pub declared_told : (n code : ℕ) (b : List ℕ) (attributes : List Attribute) 
 unfolding declared_in
 declared_told zero code b attributes is = absurd cc
 declared_told (suc n) code b attributes is =
-    let next : Abbreviation × List ℕ → Result (List Attribute) Stop =
+    let next : Abbreviation × List ℕ → Result (List Attribute) FieldFault =
     λ d. cond (d.0.code == code) (Ok d.0.attributes) (declared_in n code d.1) in
     let step = bound (declaration_at b) next attributes is in
     let one = reads_declaration.told b step.0.1 step.0.0 step.1 in

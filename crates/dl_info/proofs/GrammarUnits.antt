@@ -12,7 +12,7 @@ use Rattle.dl_num.proofs.LebLaws.{leb_is}
 use Rattle.dl_table.specs.declared.form.Format.{Format}
 use Rattle.dl_table.specs.declared.form.Format.TheVariants.{Dwarf32, Dwarf64}
 use Rattle.dl_table.specs.Value.{offset_size}
-use Rattle.dl_info.specs.declared.front.Stop.TheVariants.{Short, Damaged}
+use Rattle.dl_info.specs.declared.front.FieldFault.TheVariants.{Short, Damaged}
 use Rattle.dl_info.specs.declared.form.Encoding.{Encoding}
 use Rattle.dl_info.specs.declared.form.Shape.{Shape}
 use Rattle.dl_info.specs.declared.form.Shape.TheVariants as shape

@@ -7,8 +7,8 @@ use Rattle.std.specs.Option.{option_or}
 use Rattle.std.proofs.lemmas.Bool.{le-ltb, true≢false}
 use Rattle.std.proofs.lemmas.Bool.Decides.{Decides-eqb}
 use Rattle.dl_num.specs.declared.fixed.Order.{Order}
-use Rattle.dl_info.specs.declared.front.Stop.{Stop}
-use Rattle.dl_info.specs.declared.front.Stop.TheVariants.{Short}
+use Rattle.dl_info.specs.declared.front.FieldFault.{FieldFault}
+use Rattle.dl_info.specs.declared.front.FieldFault.TheVariants.{Short}
 use Rattle.dl_info.specs.declared.form.Encoding.{Encoding}
 use Rattle.dl_info.specs.declared.abbreviation.Attribute.{Attribute}
 use Rattle.dl_info.specs.declared.abbreviations.Attributes.{Attributes}
@@ -74,9 +74,9 @@ quiet form none = by (form == 0x19) (form == 0x21) refl refl none where
   by false false present constant none = absurd (true≢false (sym none))
 
 abbrev Values : Type 0
-Values = Result (EntryData × List ℕ) Stop
+Values = Result (EntryData × List ℕ) FieldFault
 
-same_then : (r : Result (Told × List ℕ) Stop) (f g : Told × List ℕ → Values) → ((v : Told × List ℕ) → f v ≡ g v)
+same_then : (r : Result (Told × List ℕ) FieldFault) (f g : Told × List ℕ → Values) → ((v : Told × List ℕ) → f v ≡ g v)
     → (r >>= f) ≡ (r >>= g)
 same_then (Ok v) f g same = same v
 same_then (Err s) f g same = refl
@@ -119,7 +119,7 @@ one_kept kept now a others whole has are so_far =
 -- ---- a table
 
 -- what is kept so far, where these are the attributes that come of all declarations and of those that are left
-abbrev Stands : Option (List Attribute) → (whole left : Result (List Attribute) Stop) → Type 0
+abbrev Stands : Option (List Attribute) → (whole left : Result (List Attribute) FieldFault) → Type 0
 Stands None whole left = whole ≡ left
 Stands (Some attributes) whole left = Some attributes ≡ kept_of whole
 
@@ -128,12 +128,12 @@ abbrev pub IsSoFar : Table → (b : List ℕ) → (left : ℕ) → (rest : List 
 IsSoFar t b left rest =
     (code : ℕ) → Stands (kept_in t code) (declared_in (length b) code b) (declared_in left code rest)
 
-ended : (kept : Option (List Attribute)) (whole left : Result (List Attribute) Stop) (s : Stop) → Err s ≡ left
+ended : (kept : Option (List Attribute)) (whole left : Result (List Attribute) FieldFault) (s : FieldFault) → Err s ≡ left
     → Stands kept whole left → kept ≡ kept_of whole
 ended None whole left s stops stands = sym (ap kept_of (stands ∙ sym stops))
 ended (Some attributes) whole left s stops stands = stands
 
-pub no_more : (t : Table) (b rest : List ℕ) (i : ℕ) (s : Stop) → i < length b → Err s ≡ declaration_at rest
+pub no_more : (t : Table) (b rest : List ℕ) (i : ℕ) (s : FieldFault) → i < length b → Err s ≡ declaration_at rest
     → IsSoFar t b (length b - i) rest → IsTable t b
 no_more t b rest i s less stops so_far code =
     ended (kept_in t code) (declared_in (length b) code b) (declared_in (length b - i) code rest) s
@@ -150,7 +150,7 @@ pub one_more : (old new : Table) (b rest after : List ℕ) (i : ℕ) (d : Abbrev
 one_more old new b rest after i d less told keeps so_far code =
     subst (λ o. Stands o whole (declared_in (length b - (i + 1)) code after)) (sym (keeps code))
     (by (kept_in old code) (d.code == code) refl (so_far code)) where
-      whole : Result (List Attribute) Stop
+      whole : Result (List Attribute) FieldFault
       whole = declared_in (length b) code b
 
       by : (o : Option (List Attribute)) (same : Bool) → (d.code == code) ≡ same
@@ -169,7 +169,7 @@ pub kept_stands : (list : Bor (List Attribute)) (offset code : ℕ) (section : L
     → StandsFor (Ok (attributes.Kept list)) (declared_from offset code section)
 kept_stands list offset code section kept is some =
     by (declared_in (length (drop offset section)) code (drop offset section)) (sym some ∙ is) where
-      by : (r : Result (List Attribute) Stop) → Some list.now ≡ kept_of r
+      by : (r : Result (List Attribute) FieldFault) → Some list.now ≡ kept_of r
           → StandsFor (Ok (attributes.Kept list)) (or_none r)
       by (Ok declared) is =
           let same : list.now ≡ with_bytes declared = cc is in
@@ -179,26 +179,26 @@ kept_stands list offset code section kept is some =
 -- ---- the first entry
 
 module _ (order : Order) (section unit : List ℕ) where
-  pub head_stops : (s : Stop) → Err s ≡ head_at order unit → Err s ≡ entry_at order section unit
+  pub head_stops : (s : FieldFault) → Err s ≡ head_at order unit → Err s ≡ entry_at order section unit
   unfolding entry_at
   head_stops s stops = rw (← stops) refl
 
   module _ (head : Head) (rest : List ℕ) (headed : Ok (head, rest) ≡ head_at order unit) where
-    pub code_stops : (s : Stop) → Err s ≡ uleb_at rest → Err s ≡ entry_at order section unit
+    pub code_stops : (s : FieldFault) → Err s ≡ uleb_at rest → Err s ≡ entry_at order section unit
     unfolding entry_at
     code_stops s stops = rw (← headed, ← stops) refl
 
     module _ (code : ℕ) (values : List ℕ) (coded : Ok (code, values) ≡ uleb_at rest) where
-      by_attributes : (r : Result (List Attribute) Stop) → declared_from head.abbreviations code section ≡ r
+      by_attributes : (r : Result (List Attribute) FieldFault) → declared_from head.abbreviations code section ≡ r
           → (r >>= λ list. values_at head.encoding list (without_values head.encoding.format) values)
           ≡ entry_at order section unit
       unfolding entry_at
       by_attributes r is = rw (← headed, ← coded, ← is) refl
 
-      pub attributes_stop : (s : Stop) → StandsFor (Err s) (declared_from head.abbreviations code section)
+      pub attributes_stop : (s : FieldFault) → StandsFor (Err s) (declared_from head.abbreviations code section)
           → Err s ≡ entry_at order section unit
       attributes_stop s stands = by (declared_from head.abbreviations code section) refl stands where
-        by : (r : Result (List Attribute) Stop) → declared_from head.abbreviations code section ≡ r
+        by : (r : Result (List Attribute) FieldFault) → declared_from head.abbreviations code section ≡ r
             → StandsFor (Err s) r → Err s ≡ entry_at order section unit
         by (Ok list) is stands = absurd stands
         by (Err t) is same = ap Err same ∙ by_attributes (Err t) is
@@ -207,7 +207,7 @@ module _ (order : Order) (section unit : List ℕ) where
           → values_at head.encoding (list_of found) (without_values head.encoding.format) values
           ≡ entry_at order section unit
       with_attributes found stands = by (declared_from head.abbreviations code section) refl stands where
-        by : (r : Result (List Attribute) Stop) → declared_from head.abbreviations code section ≡ r
+        by : (r : Result (List Attribute) FieldFault) → declared_from head.abbreviations code section ≡ r
             → StandsFor (Ok found) r
             → values_at head.encoding (list_of found) (without_values head.encoding.format) values
             ≡ entry_at order section unit

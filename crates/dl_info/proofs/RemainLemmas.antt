@@ -1,8 +1,8 @@
 -- The attributes that are left of an abbreviation, one after the other.
 use Rattle.std.proofs.Common.{◌≡◌, ℕ, suc, ◌+◌, ◌-◌, ◌<◌, ◌≤◌, true, false, List, [], ◌∷◌, length, Result, Ok, Err}
 use Rattle.std.proofs.Common.{refl, sym, ap, subst, ◌∙◌, arith}
-use Rattle.dl_info.specs.declared.front.Stop.{Stop}
-use Rattle.dl_info.specs.declared.front.Stop.TheVariants.{Short}
+use Rattle.dl_info.specs.declared.front.FieldFault.{FieldFault}
+use Rattle.dl_info.specs.declared.front.FieldFault.TheVariants.{Short}
 use Rattle.dl_info.specs.declared.abbreviation.Attribute.{Attribute}
 use Rattle.dl_info.specs.Front.{◌>>=◌}
 use Rattle.dl_info.specs.Abbreviations.{attribute_at, attributes_at, attributes_in, first_of, is_end, HasEnd}
@@ -25,7 +25,7 @@ at_first P attributes end holds =
       holds = subst P (ap first_of end.2) holds;
     }
 
-abbrev with_first : Attribute → Result (List Attribute × List ℕ) Stop → Result (List Attribute × List ℕ) Stop
+abbrev with_first : Attribute → Result (List Attribute × List ℕ) FieldFault → Result (List Attribute × List ℕ) FieldFault
 with_first a r = r >>= λ others. Ok (a ∷ others.0, others.1)
 
 ok_parts : (a : Attribute) (x : List Attribute × List ℕ) (attributes : List Attribute) (after : List ℕ)
@@ -33,11 +33,11 @@ ok_parts : (a : Attribute) (x : List Attribute × List ℕ) (attributes : List A
     → (x.1 ≡ after) × (attributes ≡ a ∷ x.0)
 ok_parts a x attributes after is =
     (ap rest_of is, sym (ap first_of is)) where
-      rest_of : Result (List Attribute × List ℕ) Stop → List ℕ
+      rest_of : Result (List Attribute × List ℕ) FieldFault → List ℕ
       rest_of (Ok y) = y.1
       rest_of (Err s) = []
 
-first_and_others : (a : Attribute) (r : Result (List Attribute × List ℕ) Stop) (attributes : List Attribute)
+first_and_others : (a : Attribute) (r : Result (List Attribute × List ℕ) FieldFault) (attributes : List Attribute)
     (after : List ℕ) → with_first a r ≡ Ok (attributes, after)
     → (others : List Attribute) × (r ≡ Ok (others, after)) × (attributes ≡ a ∷ others)
 first_and_others a (Ok x) attributes after is =
@@ -60,7 +60,7 @@ after_end n i left others a less told ends =
     let k : n - i ≡ suc (n - (i + 1)) = omega (arith, less) in
     rw (k, ← told, ends) refl
 
-after_stop : (n i : ℕ) (left : List ℕ) (s : Stop) → i < n → Err s ≡ attribute_at left
+after_stop : (n i : ℕ) (left : List ℕ) (s : FieldFault) → i < n → Err s ≡ attribute_at left
     → attributes_at (n - i) left ≡ Err s
 unfolding attributes_at
 after_stop n i left s less stops =
@@ -73,15 +73,15 @@ none_left n i left past =
     let k : n - i ≡ 0 = omega (arith, past) in
     rw k refl
 
-err_ok : {A : Type 0} (r : Result A Stop) (s : Stop) (x : A) → r ≡ Err s → r ≡ Ok x → ⊥
+err_ok : {A : Type 0} (r : Result A FieldFault) (s : FieldFault) (x : A) → r ≡ Err s → r ≡ Ok x → ⊥
 err_ok r s x e o = let both : Err s ≡ Ok x = sym e ∙ o in absurd cc
 
-first_part : (x y : List Attribute × List ℕ) → ◌≡◌ {A = Result (List Attribute × List ℕ) Stop} (Ok x) (Ok y) → x.0 ≡ y.0
+first_part : (x y : List Attribute × List ℕ) → ◌≡◌ {A = Result (List Attribute × List ℕ) FieldFault} (Ok x) (Ok y) → x.0 ≡ y.0
 first_part x y is = ap first_of is
 
 module _ (P : List Attribute → Type 0) (n i : ℕ) (left : List ℕ) (so_far : Remain (n - i) left P) where
   -- attributes that end aren't cut off
-  pub never_stops : (s : Stop) → i < n → Err s ≡ attribute_at left → ⊥
+  pub never_stops : (s : FieldFault) → i < n → Err s ≡ attribute_at left → ⊥
   never_stops s less stops =
       err_ok (attributes_at (n - i) left) s (so_far.attributes, so_far.after) (after_stop n i left s less stops) so_far.are
 

@@ -12,18 +12,18 @@ use Rattle.dl_num.specs.Leb.{groups, IsUleb}
 use Rattle.dl_num.specs.LebFront.{is_leb, leb_front, after_leb}
 use Rattle.dl_num.proofs.LebLaws.{leb_is}
 use Rattle.dl_table.specs.Text.{text_in}
-use Rattle.dl_info.specs.declared.front.Stop.{Stop}
-use Rattle.dl_info.specs.declared.front.Stop.TheVariants.{Short, Damaged}
+use Rattle.dl_info.specs.declared.front.FieldFault.{FieldFault}
+use Rattle.dl_info.specs.declared.front.FieldFault.TheVariants.{Short, Damaged}
 use Rattle.dl_info.specs.Front.{fixed_at, text_and_rest, text_at, uleb_at}
 use Rattle.dl_info.specs.Grammar.{HasNoZero}
 
 -- ---- what an answer is
 
 -- this is read, and then the rest
-abbrev pub Reads : {A : Type 0} → Result (A × List ℕ) Stop → A → List ℕ → Type 0
-Reads {A = A} read x rest = ◌≡◌ {A = Result (A × List ℕ) Stop} read (Ok (x, rest))
+abbrev pub Reads : {A : Type 0} → Result (A × List ℕ) FieldFault → A → List ℕ → Type 0
+Reads {A = A} read x rest = ◌≡◌ {A = Result (A × List ℕ) FieldFault} read (Ok (x, rest))
 
-abbrev told_or : {A : Type 0} → A × List ℕ → Result (A × List ℕ) Stop → A × List ℕ
+abbrev told_or : {A : Type 0} → A × List ℕ → Result (A × List ℕ) FieldFault → A × List ℕ
 told_or other (Ok p) = p
 told_or other (Err s) = other
 
@@ -31,11 +31,11 @@ pub value_is : {A : Type 0} (x y : A) (u v : List ℕ) → Reads (Ok (x, u)) y v
 value_is x y u v is =
     (ap (λ r. (told_or (x, u) r).0) is, ap (λ r. (told_or (x, u) r).1) is)
 
-pub not_read : {A : Type 0} (s : Stop) (y : A) (v : List ℕ) → Reads (Err s) y v → ⊥
+pub not_read : {A : Type 0} (s : FieldFault) (y : A) (v : List ℕ) → Reads (Err s) y v → ⊥
 not_read s y v is = absurd cc
 
 -- a test that has to hold
-held : {A : Type 0} (t : Bool) (s : Stop) (x y : A) (u v : List ℕ) → Reads (cond t (Ok (x, u)) (Err s)) y v
+held : {A : Type 0} (t : Bool) (s : FieldFault) (x y : A) (u v : List ℕ) → Reads (cond t (Ok (x, u)) (Err s)) y v
     → (t ≡ true) × (x ≡ y) × (u ≡ v)
 held true s x y u v is = let same = value_is x y u v is in (refl, same.0, same.1)
 held false s x y u v is = absurd (not_read s y v is)

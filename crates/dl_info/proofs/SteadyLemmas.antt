@@ -8,26 +8,26 @@ use Rattle.dl_num.specs.declared.fixed.Order.{Order}
 use Rattle.dl_num.specs.LebFront.{is_leb, leb_front, after_leb}
 use Rattle.dl_num.proofs.LebFrontLemmas.{leb_front-append, leb_front-le}
 use Rattle.dl_table.specs.Text.{text_in}
-use Rattle.dl_info.specs.declared.front.Stop.{Stop}
-use Rattle.dl_info.specs.declared.front.Stop.TheVariants.{Short, Damaged}
+use Rattle.dl_info.specs.declared.front.FieldFault.{FieldFault}
+use Rattle.dl_info.specs.declared.front.FieldFault.TheVariants.{Short, Damaged}
 use Rattle.dl_info.specs.Front.{◌>>=◌, bytes_at, fixed_at, leb_at, or_damaged, text_at, text_and_rest, uleb_at}
 
 -- what was read stays; where bytes are wanted, at least one is, and so many less with others behind that are fewer
-abbrev pub Continues : {A : Type 0} → Result (A × List ℕ) Stop → (c : List ℕ) → Result (A × List ℕ) Stop → Type 0
+abbrev pub Continues : {A : Type 0} → Result (A × List ℕ) FieldFault → (c : List ℕ) → Result (A × List ℕ) FieldFault → Type 0
 Continues (Ok x) c after = after ≡ Ok (x.0, x.1 ++ c)
 Continues (Err Damaged) c after = after ≡ Err Damaged
 Continues (Err (Short n)) c after = (1 ≤ n) × (length c < n → after ≡ Err (Short (n - length c)))
 
-pub record Steady {A : Type 0} (read : List ℕ → Result (A × List ℕ) Stop) : Type 0 where
+pub record Steady {A : Type 0} (read : List ℕ → Result (A × List ℕ) FieldFault) : Type 0 where
   pub continues : (b c : List ℕ) → Continues (read b) c (read (b ++ c))
 
 -- ---- one after the other
 
-abbrev pub afterwards : {A B : Type 0} → (A → List ℕ → Result (B × List ℕ) Stop) → Result (A × List ℕ) Stop
-    → Result (B × List ℕ) Stop
+abbrev pub afterwards : {A B : Type 0} → (A → List ℕ → Result (B × List ℕ) FieldFault) → Result (A × List ℕ) FieldFault
+    → Result (B × List ℕ) FieldFault
 afterwards next r = r >>= λ x. next x.0 x.1
 
-then_continues : {A B : Type 0} (next : A → List ℕ → Result (B × List ℕ) Stop) (now after : Result (A × List ℕ) Stop)
+then_continues : {A B : Type 0} (next : A → List ℕ → Result (B × List ℕ) FieldFault) (now after : Result (A × List ℕ) FieldFault)
     (c : List ℕ) → Continues now c after → ((x : A) → Steady (next x))
     → Continues (afterwards next now) c (afterwards next after)
 then_continues next (Ok x) after c same steady =
@@ -35,8 +35,8 @@ then_continues next (Ok x) after c same steady =
 then_continues next (Err Damaged) after c same steady = ap (afterwards next) same
 then_continues next (Err (Short n)) after c same steady = (same.0, λ few. ap (afterwards next) (same.1 few))
 
-pub steady_then : {A B : Type 0} (read : List ℕ → Result (A × List ℕ) Stop)
-    (next : A → List ℕ → Result (B × List ℕ) Stop) → Steady read → ((x : A) → Steady (next x))
+pub steady_then : {A B : Type 0} (read : List ℕ → Result (A × List ℕ) FieldFault)
+    (next : A → List ℕ → Result (B × List ℕ) FieldFault) → Steady read → ((x : A) → Steady (next x))
     → Steady (λ b. afterwards next (read b))
 steady_then read next first steady =
     record { continues = λ b c. then_continues next (read b) (read (b ++ c)) c (first.continues b c) steady }
@@ -47,12 +47,12 @@ steady_done x = record { continues = λ b c. refl }
 pub steady_damaged : {A : Type 0} → Steady {A = A} (λ b. Err Damaged)
 steady_damaged = record { continues = λ b c. refl }
 
-pub steady_if : {A : Type 0} (t : Bool) (f g : List ℕ → Result (A × List ℕ) Stop) → Steady f → Steady g
+pub steady_if : {A : Type 0} (t : Bool) (f g : List ℕ → Result (A × List ℕ) FieldFault) → Steady f → Steady g
     → Steady (λ b. cond t (f b) (g b))
 steady_if true f g sf sg = sf
 steady_if false f g sf sg = sg
 
-pub steady_or_damaged : {A B : Type 0} (o : Option A) (next : A → List ℕ → Result (B × List ℕ) Stop)
+pub steady_or_damaged : {A B : Type 0} (o : Option A) (next : A → List ℕ → Result (B × List ℕ) FieldFault)
     → ((x : A) → Steady (next x)) → Steady (λ b. or_damaged o >>= λ x. next x b)
 steady_or_damaged (Some x) next steady = steady x
 steady_or_damaged None next steady = steady_damaged
@@ -86,20 +86,20 @@ unfolding fixed_at
 steady_fixed order n = steady_then (bytes_at n) _ (steady_bytes n) (λ w. steady_done _)
 
 -- fewer than one are none
-more_than_none : {A : Type 0} (read : List ℕ → Result (A × List ℕ) Stop) (b c : List ℕ) → read b ≡ Err (Short 1)
+more_than_none : {A : Type 0} (read : List ℕ → Result (A × List ℕ) FieldFault) (b c : List ℕ) → read b ≡ Err (Short 1)
     → length c < 1 → read (b ++ c) ≡ Err (Short (1 - length c))
 more_than_none read b c short few =
     let none : c ≡ [] = nil_from_length c (omega (arith, few)) in
     rw none (ap read (append-nil b) ∙ short)
 
 -- a reading that ends inside a field wants one byte at least
-one_wanted : {A : Type 0} (read : List ℕ → Result (A × List ℕ) Stop) (b c : List ℕ) → read b ≡ Err (Short 1)
+one_wanted : {A : Type 0} (read : List ℕ → Result (A × List ℕ) FieldFault) (b c : List ℕ) → read b ≡ Err (Short 1)
     → Continues (read b) c (read (b ++ c))
 one_wanted read b c short =
     subst (λ r. Continues r c (read (b ++ c))) (sym short)
     (omega arith, λ few. more_than_none read b c short few)
 
-told_again : {A : Type 0} (read : List ℕ → Result (A × List ℕ) Stop) (b c : List ℕ) (x : A) (rest : List ℕ)
+told_again : {A : Type 0} (read : List ℕ → Result (A × List ℕ) FieldFault) (b c : List ℕ) (x : A) (rest : List ℕ)
     → read b ≡ Ok (x, rest) → read (b ++ c) ≡ Ok (x, rest ++ c) → Continues (read b) c (read (b ++ c))
 told_again read b c x rest now after = subst (λ r. Continues r c (read (b ++ c))) (sym now) after
 

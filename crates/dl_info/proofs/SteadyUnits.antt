@@ -12,8 +12,8 @@ use Rattle.dl_num.specs.Fixed.{fixed}
 use Rattle.dl_table.specs.declared.form.Format.{Format}
 use Rattle.dl_table.specs.declared.form.Format.TheVariants.{Dwarf32, Dwarf64}
 use Rattle.dl_table.specs.Value.{offset_size}
-use Rattle.dl_info.specs.declared.front.Stop.{Stop}
-use Rattle.dl_info.specs.declared.front.Stop.TheVariants.{Short, Damaged}
+use Rattle.dl_info.specs.declared.front.FieldFault.{FieldFault}
+use Rattle.dl_info.specs.declared.front.FieldFault.TheVariants.{Short, Damaged}
 use Rattle.dl_info.specs.declared.form.Encoding.{Encoding}
 use Rattle.dl_info.specs.declared.form.Shape.{Shape}
 use Rattle.dl_info.specs.declared.form.Shape.TheVariants as shape
@@ -106,7 +106,7 @@ steady_head order =
 
 -- ---- entries
 
-steady_or_none : {A B : Type 0} (r : Result A Stop) (next : A → List ℕ → Result (B × List ℕ) Stop)
+steady_or_none : {A B : Type 0} (r : Result A FieldFault) (next : A → List ℕ → Result (B × List ℕ) FieldFault)
     → ((x : A) → Steady (next x)) → Steady (λ b. or_none r >>= λ x. next x b)
 steady_or_none (Ok x) next steady = steady x
 steady_or_none (Err s) next steady = steady_damaged
@@ -121,7 +121,7 @@ steady_entry order abbreviations =
 
 -- ---- lengths
 
-length_again : (now after : Result (UnitLength × List ℕ) Stop) (c : List ℕ) → Continues now c after
+length_again : (now after : Result (UnitLength × List ℕ) FieldFault) (c : List ℕ) → Continues now c after
     → IsTold (length_answer now) → length_answer after ≡ length_answer now
 length_again (Ok x) after c same told = ap length_answer same
 length_again (Err Damaged) after c same told = ap length_answer same
@@ -134,7 +134,7 @@ lengths_stay order b c told =
 -- ---- first entries
 
 -- with others behind that are no more than the unit has
-settled_again : (beyond : ℕ) (now after : Result (EntryData × List ℕ) Stop) (c : List ℕ) → Continues now c after
+settled_again : (beyond : ℕ) (now after : Result (EntryData × List ℕ) FieldFault) (c : List ℕ) → Continues now c after
     → length c ≤ beyond → IsTold (settled beyond now) → settled (beyond - length c) after ≡ settled beyond now
 settled_again beyond (Ok x) after c same few told = ap (settled (beyond - length c)) same
 settled_again beyond (Err Damaged) after c same few told = ap (settled (beyond - length c)) same
@@ -147,7 +147,7 @@ settled_again beyond (Err (Short n)) after c same few told = elim (cases_lt beyo
 ]
 
 -- of a unit of which all bytes are known
-settled_whole : (now : Result (EntryData × List ℕ) Stop) → Continues now [] now → IsTold (settled 0 now)
+settled_whole : (now : Result (EntryData × List ℕ) FieldFault) → Continues now [] now → IsTold (settled 0 now)
 settled_whole (Ok x) same more = absurd cc
 settled_whole (Err Damaged) same more = absurd cc
 settled_whole (Err (Short n)) same more =
@@ -215,7 +215,7 @@ fixed_whole : (order : Order) (n : ℕ) (b : List ℕ) → n ≤ length b
 unfolding fixed_at
 fixed_whole order n b enough = rw (le-ltb (length b) n enough) refl
 
-told_if : (t : Bool) (f g : Result (UnitLength × List ℕ) Stop) → IsTold (length_answer f) → IsTold (length_answer g)
+told_if : (t : Bool) (f g : Result (UnitLength × List ℕ) FieldFault) → IsTold (length_answer f) → IsTold (length_answer g)
     → IsTold (length_answer (cond t f g))
 told_if true f g tf tg = tf
 told_if false f g tf tg = tg

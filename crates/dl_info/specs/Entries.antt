@@ -6,10 +6,10 @@ use Rattle.std.specs.Option.{option_or}
 use Rattle.dl_num.specs.declared.fixed.Order.{Order}
 use Rattle.dl_num.specs.Fixed.{fixed}
 use Rattle.dl_table.specs.declared.form.Format.{Format}
-use Rattle.dl_info.specs.declared.front.Stop.{Stop}
+use Rattle.dl_info.specs.declared.front.FieldFault.{FieldFault}
 use Rattle.dl_info.specs.declared.form.Encoding.{Encoding}
 use Rattle.dl_info.specs.declared.abbreviation.Attribute.{Attribute}
-use Rattle.dl_info.specs.declared.entry.Entry.{Entry}
+use Rattle.dl_info.specs.declared.entry.FirstEntry.{FirstEntry}
 use Rattle.dl_info.specs.declared.entry.Text.{Text}
 use Rattle.dl_info.specs.declared.entry.Text.TheVariants as of
 use Rattle.dl_info.specs.Front.{◌>>=◌, uleb_at}
@@ -40,7 +40,7 @@ text (of.Str offset) = str offset
 text (of.LineStr offset) = line_str offset
 text (of.Index n) = index n
 
-abbrev pub entry : Entry → EntryData
+abbrev pub entry : FirstEntry → EntryData
 entry e = record {
   format = e.format;
   stmt_list = e.stmt_list;
@@ -61,7 +61,7 @@ number_in order w = if (length w == 0) || nat_lt 8 (length w) then None else Som
 abbrev pub offset_in : Order → Told → Option ℕ
 offset_in order v = if is_among (0x06 ∷ 0x07 ∷ 0x17 ∷ []) v.form then number_in order v.bytes else None
 
-abbrev pub value_of : Result (ℕ × List ℕ) Stop → Option ℕ
+abbrev pub value_of : Result (ℕ × List ℕ) FieldFault → Option ℕ
 value_of (Ok x) = Some x.0
 value_of (Err s) = None
 
@@ -82,7 +82,7 @@ with_value order name v e =
     if name == 0x72 then record e { str_offsets_base = option_or e.str_offsets_base (offset_in order v) } else e
 
 -- an entry that has said e so far, and then has values of these attributes
-abbrev pub values_at : Encoding → List Attribute → EntryData → List ℕ → Result (EntryData × List ℕ) Stop
+abbrev pub values_at : Encoding → List Attribute → EntryData → List ℕ → Result (EntryData × List ℕ) FieldFault
 values_at encoding [] e b = Ok (e, b)
 values_at encoding (a ∷ attributes) e b =
     value_at encoding a.form b >>= λ v. values_at encoding attributes (with_value encoding.order a.name v.0 e) v.1
@@ -90,7 +90,7 @@ values_at encoding (a ∷ attributes) e b =
 -- ---- the entry
 
 -- the first entry of a unit, and what follows it
-unfoldable pub entry_at : Order → (abbreviations : List ℕ) → List ℕ → Result (EntryData × List ℕ) Stop
+unfoldable pub entry_at : Order → (abbreviations : List ℕ) → List ℕ → Result (EntryData × List ℕ) FieldFault
 entry_at order abbreviations b = do
   head ← head_at order b
   code ← uleb_at head.1

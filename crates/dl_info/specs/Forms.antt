@@ -4,8 +4,8 @@ use Rattle.std.specs.Prelude.{ℕ, Bool, false, ◌||◌, ◌==◌, if◌then◌
 use Rattle.std.specs.Prelude.{Result, Ok, Err}
 use Rattle.dl_num.specs.declared.fixed.Order.{Order}
 use Rattle.dl_table.specs.Value.{offset_size}
-use Rattle.dl_info.specs.declared.front.Stop.{Stop}
-use Rattle.dl_info.specs.declared.front.Stop.TheVariants.{Damaged}
+use Rattle.dl_info.specs.declared.front.FieldFault.{FieldFault}
+use Rattle.dl_info.specs.declared.front.FieldFault.TheVariants.{Damaged}
 use Rattle.dl_info.specs.declared.form.Encoding.{Encoding}
 use Rattle.dl_info.specs.declared.form.Shape.{Shape}
 use Rattle.dl_info.specs.declared.form.Value.{Value}
@@ -77,19 +77,19 @@ shape_of e form =
     if is_leb form then Some shape.Leb else option_map shape.Bytes (fixed_size e form)
 
 -- a length of n bytes, and then as many bytes as it says
-unfoldable pub sized_at : Order → ℕ → List ℕ → Result (List ℕ × List ℕ) Stop
+unfoldable pub sized_at : Order → ℕ → List ℕ → Result (List ℕ × List ℕ) FieldFault
 sized_at order n b = do
   size ← fixed_at order n b
   bytes_at size.0 size.1
 
 -- the same with a length in LEB128
-unfoldable pub leb_sized_at : List ℕ → Result (List ℕ × List ℕ) Stop
+unfoldable pub leb_sized_at : List ℕ → Result (List ℕ × List ℕ) FieldFault
 leb_sized_at b = do
   size ← uleb_at b
   bytes_at size.0 size.1
 
 -- the bytes of a value, without its length or zero byte
-abbrev pub shaped_at : Order → Shape → List ℕ → Result (List ℕ × List ℕ) Stop
+abbrev pub shaped_at : Order → Shape → List ℕ → Result (List ℕ × List ℕ) FieldFault
 shaped_at order (shape.Bytes n) b = bytes_at n b
 shaped_at order shape.Leb b = leb_at b
 shaped_at order shape.Text b = text_at b
@@ -108,18 +108,18 @@ abbrev pub told : Value → Told
 told v = record { form = v.form; bytes = v.bytes.now }
 
 -- a value of a form that is known and isn't indirect
-unfoldable pub direct_at : Encoding → ℕ → List ℕ → Result (Told × List ℕ) Stop
+unfoldable pub direct_at : Encoding → ℕ → List ℕ → Result (Told × List ℕ) FieldFault
 direct_at e form b = do
   s ← or_damaged (shape_of e form)
   w ← shaped_at e.order s b
   Ok (record { form = form; bytes = w.0 }, w.1)
 
 -- the number of a form, which is neither indirect nor implicit_const, and a value of it
-unfoldable pub indirect_at : Encoding → List ℕ → Result (Told × List ℕ) Stop
+unfoldable pub indirect_at : Encoding → List ℕ → Result (Told × List ℕ) FieldFault
 indirect_at e b = do
   form ← uleb_at b
   if form.0 == 0x21 then Err Damaged else direct_at e form.0 form.1
 
 -- a value of a form; 0x16 is indirect
-abbrev pub value_at : Encoding → ℕ → List ℕ → Result (Told × List ℕ) Stop
+abbrev pub value_at : Encoding → ℕ → List ℕ → Result (Told × List ℕ) FieldFault
 value_at e form b = if form == 0x16 then indirect_at e b else direct_at e form b

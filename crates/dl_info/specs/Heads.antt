@@ -5,20 +5,20 @@ use Rattle.dl_num.specs.declared.fixed.Order.{Order}
 use Rattle.dl_table.specs.declared.form.Format.{Format}
 use Rattle.dl_table.specs.declared.form.Format.TheVariants.{Dwarf32, Dwarf64}
 use Rattle.dl_table.specs.Value.{offset_size}
-use Rattle.dl_info.specs.declared.front.Stop.{Stop}
-use Rattle.dl_info.specs.declared.front.Stop.TheVariants.{Damaged}
+use Rattle.dl_info.specs.declared.front.FieldFault.{FieldFault}
+use Rattle.dl_info.specs.declared.front.FieldFault.TheVariants.{Damaged}
 use Rattle.dl_info.specs.declared.head.Head.{Head}
 use Rattle.dl_info.specs.declared.head.UnitLength.{UnitLength}
 use Rattle.dl_info.specs.Front.{◌>>=◌, bytes_at, fixed_at, or_damaged}
 
 -- unit_length of the 64-bit format; the whole unit has less than 2^64 bytes
-unfoldable pub long_length_at : Order → List ℕ → Result (UnitLength × List ℕ) Stop
+unfoldable pub long_length_at : Order → List ℕ → Result (UnitLength × List ℕ) FieldFault
 long_length_at order b = do
   n ← fixed_at order 8 b
   if nat_lt (n.0 + 12) (2 ^ 64) then Ok (record { format = Dwarf64; size = n.0 + 12 }, n.1) else Err Damaged
 
 -- unit_length: four bytes below 0xfffffff0; or 0xffffffff, and eight bytes
-unfoldable pub length_at : Order → List ℕ → Result (UnitLength × List ℕ) Stop
+unfoldable pub length_at : Order → List ℕ → Result (UnitLength × List ℕ) FieldFault
 length_at order b = do
   n ← fixed_at order 4 b
   if nat_lt n.0 0xfffffff0 then Ok (record { format = Dwarf32; size = n.0 + 4 }, n.1) else (
@@ -34,7 +34,7 @@ kind_size format kind =
     if (kind == 2) || (kind == 6) then Some (8 + offset_size format) else None
 
 -- version 2, 3 or 4: debug_abbrev_offset, address_size
-unfoldable pub older_head_at : Order → Format → ℕ → List ℕ → Result (Head × List ℕ) Stop
+unfoldable pub older_head_at : Order → Format → ℕ → List ℕ → Result (Head × List ℕ) FieldFault
 older_head_at order format version b = do
   abbreviations ← fixed_at order (offset_size format) b
   address ← fixed_at order 1 abbreviations.1
@@ -47,7 +47,7 @@ older_head_at order format version b = do
   )
 
 -- version 5: unit_type, address_size, debug_abbrev_offset, and what else a unit of this type has
-unfoldable pub newer_head_at : Order → Format → List ℕ → Result (Head × List ℕ) Stop
+unfoldable pub newer_head_at : Order → Format → List ℕ → Result (Head × List ℕ) FieldFault
 newer_head_at order format b = do
   kind ← fixed_at order 1 b
   more ← or_damaged (kind_size format kind.0)
@@ -63,7 +63,7 @@ newer_head_at order format b = do
   )
 
 -- the head of a unit: its length, its version, and what a unit of this version has
-unfoldable pub head_at : Order → List ℕ → Result (Head × List ℕ) Stop
+unfoldable pub head_at : Order → List ℕ → Result (Head × List ℕ) FieldFault
 head_at order b = do
   length ← length_at order b
   version ← fixed_at order 2 length.1

@@ -4,7 +4,7 @@ use Rattle.std.specs.Prelude.{Result, Ok, Err}
 use Rattle.std.specs.BTreeMap.{get}
 use Rattle.std.specs.List.{filter}
 use Rattle.std.specs.Ordering.{nat_cmp}
-use Rattle.dl_info.specs.declared.front.Stop.{Stop}
+use Rattle.dl_info.specs.declared.front.FieldFault.{FieldFault}
 use Rattle.dl_info.specs.declared.form.Encoding.{Encoding}
 use Rattle.dl_info.specs.declared.abbreviation.Attribute.{Attribute}
 use Rattle.dl_info.specs.declared.abbreviations.Attributes.{Attributes}
@@ -35,7 +35,7 @@ kept_more (Some attributes) d code = Some attributes
 kept_more None d code = if d.code == code then Some (with_bytes d.attributes) else None
 
 -- what is to be kept of attributes, if there are any
-abbrev pub kept_of : Result (List Attribute) Stop → Option (List Attribute)
+abbrev pub kept_of : Result (List Attribute) FieldFault → Option (List Attribute)
 kept_of (Ok declared) = Some (with_bytes declared)
 kept_of (Err s) = None
 
@@ -68,7 +68,7 @@ abbrev pub AreAlike : List Attribute → List Attribute → Type 0
 AreAlike these those = (encoding : Encoding) (e : EntryData) (b : List ℕ)
     → values_at encoding these e b ≡ values_at encoding those e b
 
-abbrev pub StandsFor : Result Attributes Stop → Result (List Attribute) Stop → Type 0
+abbrev pub StandsFor : Result Attributes FieldFault → Result (List Attribute) FieldFault → Type 0
 StandsFor (Ok found) (Ok declared) = AreAlike (list_of found) declared
 StandsFor (Err s) (Err t) = s ≡ t
 StandsFor (Ok found) (Err t) = ⊥

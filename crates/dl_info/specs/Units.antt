@@ -5,8 +5,8 @@ use Rattle.std.specs.Prelude.{Some, None, Result, Ok, Err}
 use Rattle.dl_num.specs.declared.fixed.Order.{Order}
 use Rattle.dl_table.specs.declared.form.Format.{Format}
 use Rattle.dl_table.specs.Value.{offset_size}
-use Rattle.dl_info.specs.declared.front.Stop.{Stop}
-use Rattle.dl_info.specs.declared.front.Stop.TheVariants.{Short, Damaged}
+use Rattle.dl_info.specs.declared.front.FieldFault.{FieldFault}
+use Rattle.dl_info.specs.declared.front.FieldFault.TheVariants.{Short, Damaged}
 use Rattle.dl_info.specs.declared.head.UnitLength.{UnitLength}
 use Rattle.dl_info.specs.declared.unit.Answer.{Answer}
 use Rattle.dl_info.specs.declared.unit.Answer.TheVariants.{Found, More, Unreadable}
@@ -21,7 +21,7 @@ answer_map f Unreadable = Unreadable
 
 -- ---- the length
 
-abbrev pub length_answer : Result (UnitLength × List ℕ) Stop → Answer UnitLength
+abbrev pub length_answer : Result (UnitLength × List ℕ) FieldFault → Answer UnitLength
 length_answer (Ok x) = Found x.0
 length_answer (Err (Short n)) = More
 length_answer (Err Damaged) = Unreadable
@@ -33,7 +33,7 @@ unit_length order b = length_answer (length_at order b)
 
 -- what was read of a unit that has so many bytes beyond those that are known: more help only where it has as many as are
 -- wanted
-abbrev pub settled : (beyond : ℕ) → Result (EntryData × List ℕ) Stop → Answer EntryData
+abbrev pub settled : (beyond : ℕ) → Result (EntryData × List ℕ) FieldFault → Answer EntryData
 settled beyond (Ok x) = Found x.0
 settled beyond (Err (Short n)) = if nat_le n beyond then More else Unreadable
 settled beyond (Err Damaged) = Unreadable

@@ -5,7 +5,7 @@ ghost use Rattle.dl_info.specs.Abbreviations.{attribute_at, attributes_at, attri
 ghost use Rattle.dl_info.specs.Abbreviations.{declared_from, declared_in, is_end, HasEnd};
 
 use crate::form::IMPLICIT_CONST;
-use crate::front::{Stop, bytes_at, bytes_from, leb_at, uleb_at};
+use crate::front::{FieldFault, bytes_at, bytes_from, leb_at, uleb_at};
 
 /// What an abbreviation says of an attribute.
 #[derive(Clone, Copy)]
@@ -36,7 +36,7 @@ pub(crate) struct Declaration<'a> {
 
 /// The next attribute of an abbreviation, and what follows it.
 #[tactic(auto, unfolding(crate::specs::Abbreviations::attribute_at))]
-pub(crate) fn attribute_at(bytes: &[u8]) -> Result<(Attribute, &[u8]), Stop>
+pub(crate) fn attribute_at(bytes: &[u8]) -> Result<(Attribute, &[u8]), FieldFault>
     ensures { seen (λ x. (x.0, x.1.now)) result ≡ attribute_at bytes.entry.now }
 {
     let (name, rest) = uleb_at(bytes)?;
@@ -49,7 +49,7 @@ pub(crate) fn attribute_at(bytes: &[u8]) -> Result<(Attribute, &[u8]), Stop>
 }
 
 /// What follows the attributes of an abbreviation and the pair that ends them.
-fn after_attributes(bytes: &[u8]) -> Result<&[u8], Stop>
+fn after_attributes(bytes: &[u8]) -> Result<&[u8], FieldFault>
     ensures { seen (λ rest. rest.now) result
         ≡ seen (λ x. x.1) (attributes_at (length bytes.entry.now) bytes.entry.now) }
 {
@@ -62,18 +62,18 @@ fn after_attributes(bytes: &[u8]) -> Result<&[u8], Stop>
         }
         rest = after;
     }
-    Err(Stop::Short(1))
+    Err(FieldFault::Short(1))
 }
 
 /// The next abbreviation, which isn't the end of them, and what follows it.
 #[tactic(auto, unfolding(crate::specs::Abbreviations::declaration_at))]
-pub(crate) fn declaration_at(bytes: &[u8]) -> Result<(Declaration<'_>, &[u8]), Stop>
+pub(crate) fn declaration_at(bytes: &[u8]) -> Result<(Declaration<'_>, &[u8]), FieldFault>
     ensures declaration { seen (λ x. (declaration x.0, x.1.now)) result ≡ declaration_at bytes.entry.now }
     ensures whole { IfOk result (λ x. HasEnd x.0.attributes.now) }
 {
     let (code, rest) = uleb_at(bytes)?;
     if code == 0 {
-        return Err(Stop::Damaged);
+        return Err(FieldFault::Damaged);
     }
     let (_, rest) = uleb_at(rest)?;
     let (_, attributes) = bytes_at(1, rest)?;
@@ -82,7 +82,7 @@ pub(crate) fn declaration_at(bytes: &[u8]) -> Result<(Declaration<'_>, &[u8]), S
 }
 
 /// The bytes of the attributes of the first abbreviation with a code; fails where there is none.
-fn declared_in(code: u64, table: &[u8]) -> Result<&[u8], Stop>
+fn declared_in(code: u64, table: &[u8]) -> Result<&[u8], FieldFault>
     ensures attributes { seen (λ bytes. attributes_in bytes.now) result
         ≡ declared_in (length table.entry.now) code table.entry.now }
     ensures whole { IfOk result (λ bytes. HasEnd bytes.now) }
@@ -96,16 +96,16 @@ fn declared_in(code: u64, table: &[u8]) -> Result<&[u8], Stop>
         }
         rest = after;
     }
-    Err(Stop::Short(1))
+    Err(FieldFault::Short(1))
 }
 
 /// The bytes of the attributes of the first abbreviation with a code, of those from an offset of the section on.
-pub(crate) fn declared_from(offset: u64, code: u64, section: &[u8]) -> Result<&[u8], Stop>
+pub(crate) fn declared_from(offset: u64, code: u64, section: &[u8]) -> Result<&[u8], FieldFault>
     ensures attributes { seen (λ bytes. attributes_in bytes.now) result ≡ declared_from offset code section.entry.now }
     ensures whole { IfOk result (λ bytes. HasEnd bytes.now) }
 {
     match declared_in(code, bytes_from(offset, section)) {
         Ok(attributes) => Ok(attributes),
-        Err(_) => Err(Stop::Damaged),
+        Err(_) => Err(FieldFault::Damaged),
     }
 }

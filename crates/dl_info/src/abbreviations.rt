@@ -5,7 +5,7 @@ ghost use Rattle.dl_info.specs.Abbreviations.{attributes_in, declaration, declar
 ghost use Rattle.dl_info.specs.Kept.{Ends, IsRight, IsTable, has_bytes, kept_in, kept_more, StandsFor, with_bytes};
 
 use crate::abbreviation::{Attribute, Declaration, attribute_at, declaration_at, declared_from};
-use crate::front::{Stop, bytes_from};
+use crate::front::{FieldFault, bytes_from};
 use dl_memory::NoMemory;
 use std::alloc::Global;
 use std::collections::BTreeMap;
@@ -118,14 +118,14 @@ impl Table {
     }
 
     /// The attributes that are kept for a code; fails where there are none.
-    fn find(&self, offset: u64, code: u64, section: &[u8]) -> Result<Attributes<'_>, Stop>
+    fn find(&self, offset: u64, code: u64, section: &[u8]) -> Result<Attributes<'_>, FieldFault>
         requires { IsTable self.now (drop offset section.now) }
         ensures attributes { StandsFor result (declared_from offset code section.now) }
         ensures whole { IfOk result Ends }
     {
         match self.attributes.get(&code) {
             Some(attributes) => Ok(Attributes::Kept(attributes.as_slice())),
-            None => Err(Stop::Damaged),
+            None => Err(FieldFault::Damaged),
         }
     }
 }
@@ -172,7 +172,7 @@ impl<'a> Abbreviations<'a> {
     }
 
     /// The attributes of the first abbreviation with a code, of the table at an offset.
-    pub(crate) fn find(&self, offset: u64, code: u64) -> Result<Attributes<'_>, Stop>
+    pub(crate) fn find(&self, offset: u64, code: u64) -> Result<Attributes<'_>, FieldFault>
         ensures attributes { StandsFor result (declared_from offset code (section_of self.now)) }
         ensures whole { IfOk result Ends }
     {

@@ -11,7 +11,7 @@ ghost use Rattle.dl_info.specs.Section.{section_of};
 use crate::abbreviation::{Attribute, attribute_at};
 use crate::abbreviations::{Abbreviations, Attributes};
 use crate::form::{Encoding, Value};
-use crate::front::{Stop, number_of, uleb_at};
+use crate::front::{FieldFault, number_of, uleb_at};
 use crate::head::head_at;
 use dl_num::Order;
 use dl_table::Format;
@@ -40,7 +40,7 @@ pub enum Text<'a> {
 
 /// What the first entry of a unit says.
 #[derive(Clone, Copy)]
-pub struct Entry<'a> {
+pub struct FirstEntry<'a> {
     /// The format of the unit, by which `.debug_str_offsets` is read.
     pub format: Format,
     /// Where the unit's line table begins in `.debug_line` (DW_AT_stmt_list).
@@ -85,14 +85,14 @@ fn text_in(order: Order, value: Value<'_>) -> Option<Text<'_>>
     }
 }
 
-impl<'a> Entry<'a> {
+impl<'a> FirstEntry<'a> {
     ghost use Rattle.dl_info.specs.Entries.{entry, with_value, without_values};
 
     /// No attribute yet.
-    fn new(format: Format) -> Entry<'a>
+    fn new(format: Format) -> FirstEntry<'a>
         ensures { entry result ≡ without_values format }
     {
-        Entry {
+        FirstEntry {
             format,
             stmt_list: None,
             comp_dir: None,
@@ -101,19 +101,19 @@ impl<'a> Entry<'a> {
     }
 
     /// The same with one attribute more; of several of a name the first one counts.
-    fn with_value(self, order: Order, name: u64, value: Value<'a>) -> Entry<'a>
+    fn with_value(self, order: Order, name: u64, value: Value<'a>) -> FirstEntry<'a>
         ensures { entry result ≡ with_value order name (told value.entry) (entry self.entry) }
     {
         match name {
-            STMT_LIST => Entry {
+            STMT_LIST => FirstEntry {
                 stmt_list: self.stmt_list.or(offset_in(order, value)),
                 ..self
             },
-            COMP_DIR => Entry {
+            COMP_DIR => FirstEntry {
                 comp_dir: self.comp_dir.or(text_in(order, value)),
                 ..self
             },
-            STR_OFFSETS_BASE => Entry {
+            STR_OFFSETS_BASE => FirstEntry {
                 str_offsets_base: self.str_offsets_base.or(offset_in(order, value)),
                 ..self
             },
@@ -127,12 +127,12 @@ fn declared_values_at<'a>(
     encoding: Encoding,
     attributes: &[u8],
     bytes: &'a [u8],
-) -> Result<(Entry<'a>, &'a [u8]), Stop>
+) -> Result<(FirstEntry<'a>, &'a [u8]), FieldFault>
     requires { HasEnd attributes.now }
     ensures { seen (λ x. (entry x.0, x.1.now)) result ≡ values_at encoding (attributes_in attributes.now)
         (without_values encoding.format) bytes.entry.now }
 {
-    let mut entry = Entry::new(encoding.format);
+    let mut entry = FirstEntry::new(encoding.format);
     let mut left = attributes;
     let mut rest = bytes;
     // Each attribute has a byte at least.
@@ -146,7 +146,7 @@ fn declared_values_at<'a>(
         left = others;
         rest = after;
     }
-    Err(Stop::Damaged)
+    Err(FieldFault::Damaged)
 }
 
 /// The entry whose values are these bytes, with these attributes.
@@ -154,11 +154,11 @@ fn kept_values_at<'a>(
     encoding: Encoding,
     attributes: &[Attribute],
     bytes: &'a [u8],
-) -> Result<(Entry<'a>, &'a [u8]), Stop>
+) -> Result<(FirstEntry<'a>, &'a [u8]), FieldFault>
     ensures { seen (λ x. (entry x.0, x.1.now)) result ≡ values_at encoding attributes.now
         (without_values encoding.format) bytes.entry.now }
 {
-    let mut entry = Entry::new(encoding.format);
+    let mut entry = FirstEntry::new(encoding.format);
     let mut rest = bytes;
     for i in 0..attributes.len() {
         let attribute = attributes[i];
@@ -174,7 +174,7 @@ fn values_at<'a>(
     encoding: Encoding,
     attributes: Attributes<'_>,
     bytes: &'a [u8],
-) -> Result<(Entry<'a>, &'a [u8]), Stop>
+) -> Result<(FirstEntry<'a>, &'a [u8]), FieldFault>
     requires { Ends attributes }
     ensures { seen (λ x. (entry x.0, x.1.now)) result ≡ values_at encoding (list_of attributes.entry)
         (without_values encoding.format) bytes.entry.now }
@@ -190,7 +190,7 @@ pub(crate) fn entry_at<'a>(
     order: Order,
     unit: &'a [u8],
     abbreviations: &mut Abbreviations<'_>,
-) -> Result<(Entry<'a>, &'a [u8]), Stop>
+) -> Result<(FirstEntry<'a>, &'a [u8]), FieldFault>
     ensures entry { seen (λ x. (entry x.0, x.1.now)) result
         ≡ entry_at order (section_of abbreviations.old) unit.entry.now }
     ensures section { section_of abbreviations.new ≡ section_of abbreviations.old }

@@ -6,7 +6,7 @@ ghost use Rattle.dl_info.specs.Front.{seen};
 ghost use Rattle.dl_info.specs.Forms.{direct_at, fixed_size, indirect_at, is_leb, is_offset, leb_sized_at};
 ghost use Rattle.dl_info.specs.Forms.{reference_size, shape_of, shaped_at, sized_at, told, value_at};
 
-use crate::front::{Stop, bytes_at, fixed_at, leb_at, text_at, uleb_at};
+use crate::front::{FieldFault, bytes_at, fixed_at, leb_at, text_at, uleb_at};
 use dl_num::Order;
 use dl_table::Format;
 
@@ -76,7 +76,7 @@ fn is_offset(form: u64) -> bool
 
 /// As many bytes as a number in LEB128 says that comes first, and what follows them.
 #[tactic(auto, unfolding(crate::specs::Forms::leb_sized_at))]
-fn leb_sized_at(bytes: &[u8]) -> Result<(&[u8], &[u8]), Stop>
+fn leb_sized_at(bytes: &[u8]) -> Result<(&[u8], &[u8]), FieldFault>
     ensures { seen (λ x. (x.0.now, x.1.now)) result ≡ leb_sized_at bytes.entry.now }
 {
     let (length, rest) = uleb_at(bytes)?;
@@ -138,7 +138,7 @@ impl Encoding {
 
     /// As many bytes as a number of this size says that comes first, and what follows them.
     #[tactic(auto, unfolding(crate::specs::Forms::sized_at))]
-    fn sized_at(self, size: u64, bytes: &[u8]) -> Result<(&[u8], &[u8]), Stop>
+    fn sized_at(self, size: u64, bytes: &[u8]) -> Result<(&[u8], &[u8]), FieldFault>
         requires some { 1 ≤ size }
         requires most { size ≤ 8 }
         ensures { seen (λ x. (x.0.now, x.1.now)) result ≡ sized_at self.order size bytes.entry.now }
@@ -148,7 +148,7 @@ impl Encoding {
     }
 
     /// The bytes of a value, without its length or zero byte, and what follows it.
-    fn shaped_at(self, shape: Shape, bytes: &[u8]) -> Result<(&[u8], &[u8]), Stop>
+    fn shaped_at(self, shape: Shape, bytes: &[u8]) -> Result<(&[u8], &[u8]), FieldFault>
         ensures { seen (λ x. (x.0.now, x.1.now)) result ≡ shaped_at self.order shape bytes.entry.now }
     {
         match shape {
@@ -164,28 +164,28 @@ impl Encoding {
 
     /// A value of a form that isn't DW_FORM_indirect, and what follows it.
     #[tactic(auto, unfolding(crate::specs::Forms::direct_at))]
-    fn direct_at(self, form: u64, bytes: &[u8]) -> Result<(Value<'_>, &[u8]), Stop>
+    fn direct_at(self, form: u64, bytes: &[u8]) -> Result<(Value<'_>, &[u8]), FieldFault>
         ensures { seen (λ x. (told x.0, x.1.now)) result ≡ direct_at self form bytes.entry.now }
     {
-        let shape = self.shape_of(form).ok_or(Stop::Damaged)?;
+        let shape = self.shape_of(form).ok_or(FieldFault::Damaged)?;
         let (bytes, rest) = self.shaped_at(shape, bytes)?;
         Ok((Value { form, bytes }, rest))
     }
 
     /// A value that the number of its form comes first of, and what follows it.
     #[tactic(auto, unfolding(crate::specs::Forms::indirect_at))]
-    fn indirect_at(self, bytes: &[u8]) -> Result<(Value<'_>, &[u8]), Stop>
+    fn indirect_at(self, bytes: &[u8]) -> Result<(Value<'_>, &[u8]), FieldFault>
         ensures { seen (λ x. (told x.0, x.1.now)) result ≡ indirect_at self bytes.entry.now }
     {
         let (form, rest) = uleb_at(bytes)?;
         if form == IMPLICIT_CONST {
-            return Err(Stop::Damaged);
+            return Err(FieldFault::Damaged);
         }
         self.direct_at(form, rest)
     }
 
     /// A value of a form, and what follows it.
-    pub(crate) fn value_at(self, form: u64, bytes: &[u8]) -> Result<(Value<'_>, &[u8]), Stop>
+    pub(crate) fn value_at(self, form: u64, bytes: &[u8]) -> Result<(Value<'_>, &[u8]), FieldFault>
         ensures { seen (λ x. (told x.0, x.1.now)) result ≡ value_at self form bytes.entry.now }
     {
         if form == INDIRECT {

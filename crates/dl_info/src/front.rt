@@ -9,7 +9,7 @@ use dl_table::text::first_zero;
 
 /// Why a field can't be read.
 #[derive(Clone, Copy)]
-pub(crate) enum Stop {
+pub(crate) enum FieldFault {
     /// The bytes end before the field does: it has at least so many bytes more.
     Short(u64),
     /// No bytes after these make it a field.
@@ -37,19 +37,19 @@ pub(crate) fn bytes_from(offset: u64, section: &[u8]) -> &[u8]
 }
 
 /// So many bytes, and what follows them.
-pub(crate) fn bytes_at(size: u64, bytes: &[u8]) -> Result<(&[u8], &[u8]), Stop>
+pub(crate) fn bytes_at(size: u64, bytes: &[u8]) -> Result<(&[u8], &[u8]), FieldFault>
     ensures { seen (λ x. (x.0.now, x.1.now)) result ≡ bytes_at size bytes.entry.now }
 {
     let len = bytes.len() as u64;
     if len < size {
-        return Err(Stop::Short(size - len));
+        return Err(FieldFault::Short(size - len));
     }
     Ok(bytes.split_at(size as usize))
 }
 
 /// A number of so many bytes, and what follows it.
 #[tactic(auto, unfolding(crate::specs::Front::fixed_at))]
-pub(crate) fn fixed_at(order: Order, size: u64, bytes: &[u8]) -> Result<(u64, &[u8]), Stop>
+pub(crate) fn fixed_at(order: Order, size: u64, bytes: &[u8]) -> Result<(u64, &[u8]), FieldFault>
     requires some { 1 ≤ size }
     requires most { size ≤ 8 }
     ensures { seen (λ x. (x.0, x.1.now)) result ≡ fixed_at order size bytes.entry.now }
@@ -59,34 +59,34 @@ pub(crate) fn fixed_at(order: Order, size: u64, bytes: &[u8]) -> Result<(u64, &[
 }
 
 /// The bytes of a number in LEB128, and what follows it.
-pub(crate) fn leb_at(bytes: &[u8]) -> Result<(&[u8], &[u8]), Stop>
+pub(crate) fn leb_at(bytes: &[u8]) -> Result<(&[u8], &[u8]), FieldFault>
     ensures { seen (λ x. (x.0.now, x.1.now)) result ≡ leb_at bytes.entry.now }
 {
     let Some((_, rest)) = uleb_at_front(bytes) else {
-        return Err(Stop::Short(1));
+        return Err(FieldFault::Short(1));
     };
     Ok((&bytes[..bytes.len() - rest.len()], rest))
 }
 
 /// An unsigned number in LEB128, and what follows it.
-pub(crate) fn uleb_at(bytes: &[u8]) -> Result<(u64, &[u8]), Stop>
+pub(crate) fn uleb_at(bytes: &[u8]) -> Result<(u64, &[u8]), FieldFault>
     ensures { seen (λ x. (x.0, x.1.now)) result ≡ uleb_at bytes.entry.now }
 {
     let Some((number, rest)) = uleb_at_front(bytes) else {
-        return Err(Stop::Short(1));
+        return Err(FieldFault::Short(1));
     };
     match number {
         Ok(number) => Ok((number, rest)),
-        Err(LebRange) => Err(Stop::Damaged),
+        Err(LebRange) => Err(FieldFault::Damaged),
     }
 }
 
 /// A text without its zero byte, and what follows that.
-pub(crate) fn text_at(bytes: &[u8]) -> Result<(&[u8], &[u8]), Stop>
+pub(crate) fn text_at(bytes: &[u8]) -> Result<(&[u8], &[u8]), FieldFault>
     ensures { seen (λ x. (x.0.now, x.1.now)) result ≡ text_at bytes.entry.now }
 {
     let Some(len) = first_zero(bytes) else {
-        return Err(Stop::Short(1));
+        return Err(FieldFault::Short(1));
     };
     Ok((&bytes[..len], &bytes[len + 1..]))
 }

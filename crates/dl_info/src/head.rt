@@ -4,7 +4,7 @@ ghost use Rattle.dl_info.specs.Front.{seen};
 ghost use Rattle.dl_info.specs.Heads.{head_at, kind_size, length_at, long_length_at, newer_head_at, older_head_at};
 
 use crate::form::Encoding;
-use crate::front::{Stop, bytes_at, fixed_at};
+use crate::front::{FieldFault, bytes_at, fixed_at};
 use dl_num::Order;
 use dl_table::Format;
 
@@ -34,20 +34,20 @@ pub(crate) struct Head {
 
 /// The length of the 64-bit format, after its first four bytes, and what follows it.
 #[tactic(auto, unfolding(crate::specs::Heads::long_length_at))]
-fn long_length_at(order: Order, bytes: &[u8]) -> Result<(UnitLength, &[u8]), Stop>
+fn long_length_at(order: Order, bytes: &[u8]) -> Result<(UnitLength, &[u8]), FieldFault>
     ensures { seen (λ x. (x.0, x.1.now)) result ≡ long_length_at order bytes.entry.now }
 {
     let (length, rest) = fixed_at(order, 8, bytes)?;
     let format = Format::Dwarf64;
     match length.checked_add(12) {
         Some(size) => Ok((UnitLength { format, size }, rest)),
-        None => Err(Stop::Damaged),
+        None => Err(FieldFault::Damaged),
     }
 }
 
 /// The length that a unit begins with, and what follows it.
 #[tactic(auto, unfolding(crate::specs::Heads::length_at))]
-pub(crate) fn length_at(order: Order, bytes: &[u8]) -> Result<(UnitLength, &[u8]), Stop>
+pub(crate) fn length_at(order: Order, bytes: &[u8]) -> Result<(UnitLength, &[u8]), FieldFault>
     ensures { seen (λ x. (x.0, x.1.now)) result ≡ length_at order bytes.entry.now }
 {
     let (length, rest) = fixed_at(order, 4, bytes)?;
@@ -59,7 +59,7 @@ pub(crate) fn length_at(order: Order, bytes: &[u8]) -> Result<(UnitLength, &[u8]
     if length == ESCAPE {
         return long_length_at(order, rest);
     }
-    Err(Stop::Damaged)
+    Err(FieldFault::Damaged)
 }
 
 /// How many bytes the head of a unit of this type has after the offset of its abbreviations; None where no such type
@@ -82,7 +82,7 @@ fn older_head_at(
     format: Format,
     version: u64,
     bytes: &[u8],
-) -> Result<(Head, &[u8]), Stop>
+) -> Result<(Head, &[u8]), FieldFault>
     ensures { seen (λ x. (x.0, x.1.now)) result ≡ older_head_at order format version bytes.entry.now }
 {
     let (abbreviations, rest) = fixed_at(order, format.offset_size() as u64, bytes)?;
@@ -104,11 +104,11 @@ fn older_head_at(
 
 /// The head of a unit of version 5 after its version, and what follows it.
 #[tactic(auto, unfolding(crate::specs::Heads::newer_head_at))]
-fn newer_head_at(order: Order, format: Format, bytes: &[u8]) -> Result<(Head, &[u8]), Stop>
+fn newer_head_at(order: Order, format: Format, bytes: &[u8]) -> Result<(Head, &[u8]), FieldFault>
     ensures { seen (λ x. (x.0, x.1.now)) result ≡ newer_head_at order format bytes.entry.now }
 {
     let (kind, rest) = fixed_at(order, 1, bytes)?;
-    let more = kind_size(format, kind).ok_or(Stop::Damaged)?;
+    let more = kind_size(format, kind).ok_or(FieldFault::Damaged)?;
     let (address_size, rest) = fixed_at(order, 1, rest)?;
     let (abbreviations, rest) = fixed_at(order, format.offset_size() as u64, rest)?;
     let (_, rest) = bytes_at(more, rest)?;
@@ -129,7 +129,7 @@ fn newer_head_at(order: Order, format: Format, bytes: &[u8]) -> Result<(Head, &[
 
 /// The head of a unit, and what follows it.
 #[tactic(auto, unfolding(crate::specs::Heads::head_at))]
-pub(crate) fn head_at(order: Order, unit: &[u8]) -> Result<(Head, &[u8]), Stop>
+pub(crate) fn head_at(order: Order, unit: &[u8]) -> Result<(Head, &[u8]), FieldFault>
     ensures { seen (λ x. (x.0, x.1.now)) result ≡ head_at order unit.entry.now }
 {
     let (length, rest) = length_at(order, unit)?;
@@ -137,6 +137,6 @@ pub(crate) fn head_at(order: Order, unit: &[u8]) -> Result<(Head, &[u8]), Stop>
     match version {
         2 | 3 | 4 => older_head_at(order, length.format, version, rest),
         5 => newer_head_at(order, length.format, rest),
-        _ => Err(Stop::Damaged),
+        _ => Err(FieldFault::Damaged),
     }
 }

@@ -14,6 +14,6 @@ pub mod laws;
 mod unit;
 
 pub use abbreviations::Abbreviations;
-pub use entry::{Entry, Text};
+pub use entry::{FirstEntry, Text};
 pub use head::UnitLength;
 pub use unit::{Answer, first_entry, string_offset, string_place, unit_length};

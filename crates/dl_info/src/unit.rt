@@ -6,8 +6,8 @@ ghost use Rattle.dl_info.specs.Units.{answer_map, first_entry, length_answer, se
 ghost use Rattle.dl_info.specs.Units.{unit_length};
 
 use crate::abbreviations::Abbreviations;
-use crate::entry::{Entry, entry_at};
-use crate::front::{Stop, bytes_from, fixed_at};
+use crate::entry::{FirstEntry, entry_at};
+use crate::front::{FieldFault, bytes_from, fixed_at};
 use crate::head::{UnitLength, length_at};
 use dl_num::Order;
 use dl_table::Format;
@@ -30,8 +30,8 @@ pub fn unit_length(order: Order, bytes: &[u8]) -> Answer<UnitLength>
 {
     match length_at(order, bytes) {
         Ok((length, _)) => Answer::Found(length),
-        Err(Stop::Short(_)) => Answer::More,
-        Err(Stop::Damaged) => Answer::Unreadable,
+        Err(FieldFault::Short(_)) => Answer::More,
+        Err(FieldFault::Damaged) => Answer::Unreadable,
     }
 }
 
@@ -41,20 +41,20 @@ pub fn first_entry<'a>(
     order: Order,
     bytes: &'a [u8],
     abbreviations: &mut Abbreviations<'_>,
-) -> Answer<Entry<'a>>
+) -> Answer<FirstEntry<'a>>
     ensures entry { answer_map entry result ≡ first_entry order (section_of abbreviations.old) bytes.entry.now }
     ensures section { section_of abbreviations.new ≡ section_of abbreviations.old }
 {
     let size = match length_at(order, bytes) {
         Ok((length, _)) => length.size,
-        Err(Stop::Short(_)) => return Answer::More,
-        Err(Stop::Damaged) => return Answer::Unreadable,
+        Err(FieldFault::Short(_)) => return Answer::More,
+        Err(FieldFault::Damaged) => return Answer::Unreadable,
     };
     let known = size.min(bytes.len() as u64);
     let unit = &bytes[..known as usize];
     match entry_at(order, unit, abbreviations) {
         Ok((entry, _)) => Answer::Found(entry),
-        Err(Stop::Short(wanted)) if wanted <= size - known => Answer::More,
+        Err(FieldFault::Short(wanted)) if wanted <= size - known => Answer::More,
         Err(_) => Answer::Unreadable,
     }
 }

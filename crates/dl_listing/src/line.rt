@@ -9,7 +9,7 @@ ghost use Rattle.dl_listing.specs.Lines.{has_texts};
 ghost use Rattle.dl_listing.specs.Listing.{address_text, addresses_text, column_text, location_text};
 ghost use Rattle.dl_listing.specs.Listing.{path_text, place_text, stretch_line};
 
-use dl_index::{Found, Listed, PathTexts};
+use dl_index::{FoundLine, Listed, PathTexts};
 use dl_output::Destination;
 use dl_path::print_shown;
 use dl_print::{Printer, WriteFault};
@@ -67,7 +67,7 @@ fn print_end<W: Destination>(
 fn print_location<W: Destination>(
     printer: &mut Printer,
     output: &mut W,
-    found: Option<Found<'_>>,
+    found: Option<FoundLine<'_>>,
 ) -> Result<(), WriteFault>
     ensures printed { Prints (W.contents output.old) (W.contents output.new) printer.old printer.new
         (location_text (option_map told found.entry)) result }
@@ -83,7 +83,7 @@ fn print_location<W: Destination>(
 fn print_place<W: Destination>(
     printer: &mut Printer,
     output: &mut W,
-    found: Found<'_>,
+    found: FoundLine<'_>,
 ) -> Result<(), WriteFault>
     ensures printed { Prints (W.contents output.old) (W.contents output.new) printer.old printer.new
         (place_text (told found.entry)) result }

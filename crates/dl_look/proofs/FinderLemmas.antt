@@ -6,8 +6,8 @@ use Rattle.std.proofs.Math.Bool.{and_assoc}
 use Rattle.dl_rows.specs.declared.row.Row.{Row}
 use Rattle.dl_look.specs.declared.place.Place.{Place}
 use Rattle.dl_look.specs.declared.finder.Finder.{Finder}
-use Rattle.dl_look.specs.declared.finder.State.{State}
-use Rattle.dl_look.specs.declared.finder.State.TheVariants.{Start, Passed, Open, Answered}
+use Rattle.dl_look.specs.declared.finder.AnswerStage.{AnswerStage}
+use Rattle.dl_look.specs.declared.finder.AnswerStage.TheVariants.{Start, Passed, Open, Answered}
 use Rattle.dl_look.specs.Answer.{place_of, is_below, is_at_most, is_rising, first_place, last_place, last_upto}
 use Rattle.dl_look.specs.FinderRows.{unended, rises_from, answer_kept, Keeps, StandsFor}
 use Rattle.dl_look.proofs.LastUpto.{last_upto-push}
@@ -52,13 +52,13 @@ module _ (old new : Finder) (x : Place) (rows : List Row) (r : Row) (p : Place) 
   abbrev next : List Row
   next = unended rows ++ r ∷ []
 
-  kept_of : (state : State) → old.state ≡ state → Keeps state x (unended rows)
+  kept_of : (state : AnswerStage) → old.state ≡ state → Keeps state x (unended rows)
   kept_of state was = subst (λ k. Keeps k x (unended rows)) was stands.kept
 
   upto : (b : Bool) → is_at_most p old.place ≡ b → is_at_most p x ≡ b
   upto b e = ap (is_at_most p) (sym stands.place) ∙ e
 
-  goes_on : (state : State) → r.end_sequence ≡ false → new.state ≡ state → answer_kept state ≡ answer_kept old.state
+  goes_on : (state : AnswerStage) → r.end_sequence ≡ false → new.state ≡ state → answer_kept state ≡ answer_kept old.state
       → Keeps state x next → StandsFor new x (rows ++ r ∷ [])
   goes_on state more is same keeps =
       record {
@@ -115,7 +115,7 @@ module _ (old new : Finder) (x : Place) (rows : List Row) (r : Row) (p : Place) 
         finds,
       )
 
-  ends : (state : State) → r.end_sequence ≡ true → new.state ≡ state → Keeps state x []
+  ends : (state : AnswerStage) → r.end_sequence ≡ true → new.state ≡ state → Keeps state x []
       → answer_kept state ≡ (if is_none (answer_kept old.state) && answers_for x next then last_upto x next
       else answer_kept old.state) → StandsFor new x (rows ++ r ∷ [])
   ends state end is keeps answered =

@@ -9,7 +9,7 @@ use Rattle.dl_rows.specs.declared.row.Row.{Row}
 use Rattle.dl_look.specs.declared.place.Place.{Place}
 use Rattle.dl_look.specs.declared.slots.Slot.{Slot}
 use Rattle.dl_look.specs.declared.trail.Stretch.{Stretch}
-use Rattle.dl_look.specs.declared.finders.State.{State}
+use Rattle.dl_look.specs.declared.finders.SequenceStage.{SequenceStage}
 use Rattle.dl_look.specs.Answer.{place_of, is_below, is_at_most, is_rising, first_place, last_place, covers, last_upto}
 use Rattle.dl_look.specs.Answer.{answer}
 use Rattle.dl_look.specs.FinderRows.{unended}
@@ -166,7 +166,7 @@ pub stays : (s : List Row) (r : Row) → is_rising s ≡ false → is_rising (s 
 stays [] r h = cc
 stays (q ∷ s) r h = is_rising-push q s r ∙ ap (λ b. b && is_at_most (last_place (q ∷ s)) (place_of r)) h
 
-pub kept_in : (slots : List Slot) (trail : List Stretch) (s : List Row) (state now : State) → state ≡ now
+pub kept_in : (slots : List Slot) (trail : List Stretch) (s : List Row) (state now : SequenceStage) → state ≡ now
     → Keeps slots trail state s → Keeps slots trail now s
 kept_in slots trail s state now is keeps = subst (λ k. Keeps slots trail k s) is keeps
 

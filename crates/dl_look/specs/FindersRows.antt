@@ -7,8 +7,8 @@ use Rattle.dl_look.specs.declared.place.Place.{Place}
 use Rattle.dl_look.specs.declared.slots.Slot.{Slot}
 use Rattle.dl_look.specs.declared.trail.Stretch.{Stretch}
 use Rattle.dl_look.specs.declared.finders.Finders.{Finders}
-use Rattle.dl_look.specs.declared.finders.State.{State}
-use Rattle.dl_look.specs.declared.finders.State.TheVariants.{Start, Passed, Open}
+use Rattle.dl_look.specs.declared.finders.SequenceStage.{SequenceStage}
+use Rattle.dl_look.specs.declared.finders.SequenceStage.TheVariants.{Start, Passed, Open}
 use Rattle.dl_look.specs.Answer.{place_of, is_below, is_at_most, is_rising, first_place, last_place, covers, last_upto}
 use Rattle.dl_look.specs.Answer.{answer}
 use Rattle.dl_look.specs.FinderRows.{unended}
@@ -37,7 +37,7 @@ AnswerNone slots s = (is_rising s ≡ false)
     ⊎ ((0 < length s) × ((j : ℕ) → j < length slots → is_at_most (first_place s) (slot_place slots j) ≡ false))
 
 -- what is kept of the rows since the last end row
-abbrev pub Keeps : List Slot → List Stretch → State → List Row → Type 0
+abbrev pub Keeps : List Slot → List Stretch → SequenceStage → List Row → Type 0
 Keeps slots trail Start s = s ≡ []
 Keeps slots trail Passed s = AnswerNone slots s
 Keeps slots trail (Open last end) s = IsTrail slots trail last end s

@@ -9,12 +9,12 @@ use dl_rows::Row;
 #[derive(Clone, Copy)]
 pub struct Finder {
     place: Place,
-    state: State,
+    state: AnswerStage,
 }
 
 /// What is kept of the rows that came.
 #[derive(Clone, Copy)]
-enum State {
+enum AnswerStage {
     /// The next row is the first of a sequence.
     Start,
     /// The current sequence doesn't answer: it isn't rising, or its first row is above the place.
@@ -43,7 +43,7 @@ impl Finder {
     {
         Finder {
             place,
-            state: State::Start,
+            state: AnswerStage::Start,
         }
     }
 
@@ -69,22 +69,22 @@ impl Finder {
     {
         let place = Place::of(row);
         match &mut self.state {
-            State::Start if place.is_at_most(self.place) => {
-                self.state = State::Open {
+            AnswerStage::Start if place.is_at_most(self.place) => {
+                self.state = AnswerStage::Open {
                     last: place,
                     found: kept(row),
                 };
             }
-            State::Open { last, found } if last.is_at_most(place) => {
+            AnswerStage::Open { last, found } if last.is_at_most(place) => {
                 *last = place;
                 if place.is_at_most(self.place) {
                     *found = kept(row);
                 }
             }
-            State::Start => self.state = State::Passed,
-            State::Open { .. } => self.state = State::Passed,
-            State::Passed => {}
-            State::Answered(_) => {}
+            AnswerStage::Start => self.state = AnswerStage::Passed,
+            AnswerStage::Open { .. } => self.state = AnswerStage::Passed,
+            AnswerStage::Passed => {}
+            AnswerStage::Answered(_) => {}
         }
     }
 
@@ -97,13 +97,14 @@ impl Finder {
     {
         let end = Place::of(row);
         match self.state {
-            State::Open { last, found } if last.is_at_most(end) && self.place.is_below(end) => {
-                self.state = State::Answered(found);
-            }
-            State::Open { .. } => self.state = State::Start,
-            State::Passed => self.state = State::Start,
-            State::Start => {}
-            State::Answered(_) => {}
+            AnswerStage::Open { last, found } if last.is_at_most(end) && self.place.is_below(end) =>
+                {
+                    self.state = AnswerStage::Answered(found);
+                }
+            AnswerStage::Open { .. } => self.state = AnswerStage::Start,
+            AnswerStage::Passed => self.state = AnswerStage::Start,
+            AnswerStage::Start => {}
+            AnswerStage::Answered(_) => {}
         }
     }
 
@@ -114,8 +115,8 @@ impl Finder {
         ensures { (x : Place) (rows : List Row) → StandsFor self.now x rows → result ≡ answer rows x }
     {
         match self.state {
-            State::Answered(row) => Some(row),
-            State::Start | State::Passed | State::Open { .. } => None,
+            AnswerStage::Answered(row) => Some(row),
+            AnswerStage::Start | AnswerStage::Passed | AnswerStage::Open { .. } => None,
         }
     }
 }

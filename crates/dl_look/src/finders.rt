@@ -34,7 +34,7 @@ pub struct Finders {
     ledger: Ledger,
     /// The rows of the current sequence for the slots that it has passed over.
     trail: Vec<Stretch>,
-    state: State,
+    state: SequenceStage,
     /// How many answers there were before the last unit that ended.
     before: usize,
     /// How many answers are of units that have ended.
@@ -54,7 +54,7 @@ pub struct Finders {
 
 /// What is kept of the current sequence.
 #[derive(Clone, Copy)]
-enum State {
+enum SequenceStage {
     /// The next row is the first of a sequence.
     Start,
     /// The current sequence answers none: it isn't rising, or its first row is above all places.
@@ -96,7 +96,7 @@ impl Finders {
             slots,
             ledger,
             trail: memory.with_capacity(places.len())?,
-            state: State::Start,
+            state: SequenceStage::Start,
             before: 0,
             whole: 0,
         })
@@ -128,24 +128,24 @@ impl Finders {
     {
         let place = Place::of(row);
         match &mut self.state {
-            State::Start => {
+            SequenceStage::Start => {
                 let end = first_not_below(self.slots.as_slice(), place);
                 self.trail.clear();
                 if end == self.slots.len() {
-                    self.state = State::Passed;
+                    self.state = SequenceStage::Passed;
                 } else {
-                    self.state = State::Open {
+                    self.state = SequenceStage::Open {
                         last: kept(row),
                         end,
                     };
                 }
             }
-            State::Open { last, end } if Place::of(last).is_at_most(place) => {
+            SequenceStage::Open { last, end } if Place::of(last).is_at_most(place) => {
                 *end = pass(&mut self.trail, self.slots.as_slice(), last, *end, place);
                 *last = kept(row);
             }
-            State::Open { .. } => self.state = State::Passed,
-            State::Passed => {}
+            SequenceStage::Open { .. } => self.state = SequenceStage::Passed,
+            SequenceStage::Passed => {}
         }
     }
 
@@ -159,17 +159,17 @@ impl Finders {
     {
         let place = Place::of(row);
         let state = self.state;
-        self.state = State::Start;
+        self.state = SequenceStage::Start;
         match state {
-            State::Open { last, end } => {
+            SequenceStage::Open { last, end } => {
                 if Place::of(&last).is_at_most(place) {
                     let slots = self.slots.as_slice();
                     let end = pass(&mut self.trail, slots, &last, end, place);
                     settle(self.trail.as_slice(), end, slots, &mut self.ledger);
                 }
             }
-            State::Passed => {}
-            State::Start => {}
+            SequenceStage::Passed => {}
+            SequenceStage::Start => {}
         }
     }
 
@@ -183,7 +183,7 @@ impl Finders {
         self.ledger.seal(self.whole);
         self.before = self.whole;
         self.whole = self.ledger.log().len();
-        self.state = State::Start;
+        self.state = SequenceStage::Start;
     }
 
     /// The current unit turns out to be damaged: its rows don't count, and the next row is the first one of
@@ -195,7 +195,7 @@ impl Finders {
         ensures count { answered_count self.new ≡ answered_count self.old }
     {
         self.ledger.forget(self.whole);
-        self.state = State::Start;
+        self.state = SequenceStage::Start;
     }
 
     /// The places that the last unit that ended is the first to answer, each once.

@@ -3,14 +3,14 @@ use Rattle.std.proofs.Common.{◌≡◌, None, [], List, ℕ, Option, Result, Ok
 use Rattle.std.specs.Prelude.{OnOk}
 use Rattle.std.proofs.KnownBytes.{Appends-nil}
 use Rattle.std.specs.Global.{Vec}
-use Rattle.dl_run.specs.declared.fault.RunFault.{RunFault}
-use Rattle.dl_run.specs.declared.fault.RunFault.TheVariants as fault
-use Rattle.dl_run.specs.Blaming.{BlamesWriter, NeverBlames}
-use Rattle.dl_run.specs.Ending.{WhereWhole}
+use Rattle.dl_sections.specs.declared.fault.RunFault.{RunFault}
+use Rattle.dl_sections.specs.declared.fault.RunFault.TheVariants as fault
+use Rattle.dl_sections.specs.Blaming.{BlamesWriter, NeverBlames}
+use Rattle.dl_sections.specs.Ending.{WhereWhole}
 use Rattle.dl_head.specs.declared.dialect.Dialect.{Dialect}
 use Rattle.dl_print.specs.declared.summary.Summary.{Summary}
 use Rattle.dl_print.specs.ValueText.{Strings}
-use Rattle.dl_run.specs.declared.around.Survey.{Survey}
+use Rattle.dl_sections.specs.declared.around.Survey.{Survey}
 use Rattle.dl_making.specs.declared.making.Table.{Table}
 use Rattle.dl_making.specs.Until.{MakesUntil, MakesUntilAround}
 use Rattle.dl_memory.specs.declared.memory.NoMemory.{NoMemory}

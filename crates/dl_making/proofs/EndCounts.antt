@@ -4,11 +4,11 @@ use Rattle.std.proofs.Common.{Option, Result, Ok, Err, arith, ap, sym, subst, â—
 use Rattle.std.specs.List.{concat}
 use Rattle.dl_head.specs.declared.dialect.Dialect.{Dialect}
 use Rattle.dl_print.specs.declared.summary.Summary.{Summary}
-use Rattle.dl_run.specs.declared.around.Survey.{Survey}
-use Rattle.dl_run.specs.declared.fault.RunFault.{RunFault}
-use Rattle.dl_run.specs.declared.fault.RunFault.TheVariants as fault
-use Rattle.dl_run.specs.Around.{Block, EndsAround, IsCut, IsCutTo, Rest, bytes_of, rest_bytes, visits_around}
-use Rattle.dl_run.specs.Section.{EndsAs, HasUnits, Visit, section_visits}
+use Rattle.dl_sections.specs.declared.around.Survey.{Survey}
+use Rattle.dl_sections.specs.declared.fault.RunFault.{RunFault}
+use Rattle.dl_sections.specs.declared.fault.RunFault.TheVariants as fault
+use Rattle.dl_sections.specs.Around.{Block, EndsAround, IsCut, IsCutTo, Rest, bytes_of, rest_bytes, visits_around}
+use Rattle.dl_sections.specs.Section.{EndsAs, HasUnits, Visit, section_visits}
 use Rattle.dl_making.specs.Few.{AreFew}
 use Rattle.dl_making.proofs.VisitCounts.{few_around, few_front, few_in_section, few_more}
 

@@ -3,7 +3,7 @@ use Rattle.std.proofs.Common.{◌≡◌, ℕ, ◌+◌, ◌*◌, ◌≤◌, List,
 use Rattle.std.proofs.lemmas.List.{length-map}
 use Rattle.dl_memory.specs.Refusals.{IsRefused}
 use Rattle.dl_print.specs.ValueText.{strings_of}
-use Rattle.dl_run.specs.Section.{Visit}
+use Rattle.dl_sections.specs.Section.{Visit}
 use Rattle.dl_stretch.specs.declared.stretch.Stretch.{Stretch}
 use Rattle.dl_stretch.specs.Kept.{kept_count}
 use Rattle.dl_stretch.proofs.StretchCounts.{begun_within}

@@ -8,10 +8,10 @@ use Rattle.dl_print.specs.ValueText.{strings_of}
 use Rattle.dl_path.specs.Paths.{beside_table, has_directory_0}
 use Rattle.dl_path.specs.TextRoom.{text_room}
 use Rattle.dl_dirs.specs.Compilation.{directory_by}
-use Rattle.dl_run.specs.Copying.{row_count}
-use Rattle.dl_run.specs.Section.{Visit, of_end}
-use Rattle.dl_run.specs.Visiting.{header_told}
-use Rattle.dl_run.proofs.RowCounts.{row_count-append}
+use Rattle.dl_sections.specs.Copying.{row_count}
+use Rattle.dl_sections.specs.Section.{Visit, of_end}
+use Rattle.dl_sections.specs.Visiting.{header_told}
+use Rattle.dl_sections.proofs.RowCounts.{row_count-append}
 use Rattle.dl_stretch.specs.Kept.{kept_count, whole_count}
 use Rattle.dl_stretch.proofs.StretchCounts.{begun_within}
 use Rattle.dl_pack.specs.declared.names.Names.{Names}

@@ -16,15 +16,15 @@ use Rattle.dl_look.proofs.LiveLemmas.{of_live_rows}
 use Rattle.dl_print.specs.ValueText.{strings_of}
 use Rattle.dl_path.specs.Paths.{beside_table, has_directory_0}
 use Rattle.dl_dirs.specs.Compilation.{directory_by}
-use Rattle.dl_run.specs.declared.fault.RunFault.TheVariants as fault
-use Rattle.dl_run.specs.Copying.{offset_after, row_count}
-use Rattle.dl_run.specs.RowsTold.{rows_after}
-use Rattle.dl_run.specs.Section.{Visit, of_end, of_damage}
-use Rattle.dl_run.specs.declared.around.Damage.{Damage}
-use Rattle.dl_run.specs.GoingOn.{IsTold}
-use Rattle.dl_run.specs.Visiting.{GoesOn, StopsIn, header_told}
-use Rattle.dl_run.proofs.VisitLemmas.{rows_after-append}
-use Rattle.dl_run.proofs.Fronts.{or_none}
+use Rattle.dl_sections.specs.declared.fault.RunFault.TheVariants as fault
+use Rattle.dl_sections.specs.Copying.{offset_after, row_count}
+use Rattle.dl_sections.specs.RowsTold.{rows_after}
+use Rattle.dl_sections.specs.Section.{Visit, of_end, of_damage}
+use Rattle.dl_sections.specs.declared.around.Damage.{Damage}
+use Rattle.dl_sections.specs.GoingOn.{IsTold}
+use Rattle.dl_sections.specs.Visiting.{GoesOn, StopsIn, header_told}
+use Rattle.dl_sections.proofs.VisitLemmas.{rows_after-append}
+use Rattle.dl_sections.proofs.Fronts.{or_none}
 use Rattle.dl_addr.specs.Locating.{located_after, located_under}
 use Rattle.dl_addr.specs.Locations.{Located}
 use Rattle.dl_addr.proofs.LocatedLemmas.{located_after-append, offset_after-append}

@@ -7,12 +7,12 @@ use Rattle.dl_head.specs.declared.dialect.Dialect.{Dialect}
 use Rattle.dl_print.specs.ValueText.{Strings, strings_of}
 use Rattle.dl_dirs.specs.Compilation.{directory_by}
 use Rattle.dl_print.specs.declared.summary.Summary.{Summary}
-use Rattle.dl_run.specs.declared.around.Survey.{Survey}
-use Rattle.dl_run.specs.declared.fault.RunFault.{RunFault}
-use Rattle.dl_run.specs.declared.fault.RunFault.TheVariants as fault
-use Rattle.dl_run.specs.Around.{RanAround, visits_around}
-use Rattle.dl_run.specs.Section.{Visit, section_visits}
-use Rattle.dl_run.specs.Visiting.{Ran}
+use Rattle.dl_sections.specs.declared.around.Survey.{Survey}
+use Rattle.dl_sections.specs.declared.fault.RunFault.{RunFault}
+use Rattle.dl_sections.specs.declared.fault.RunFault.TheVariants as fault
+use Rattle.dl_sections.specs.Around.{RanAround, visits_around}
+use Rattle.dl_sections.specs.Section.{Visit, section_visits}
+use Rattle.dl_sections.specs.Visiting.{Ran}
 use Rattle.dl_addr.specs.Code.{is_code}
 use Rattle.dl_addr.specs.Locating.{located_after}
 use Rattle.dl_addr.specs.Locations.{Located}

@@ -8,12 +8,12 @@ use Rattle.dl_head.specs.declared.dialect.Dialect.{Dialect}
 use Rattle.dl_memory.specs.declared.memory.NoMemory.{NoMemory}
 use Rattle.dl_print.specs.ValueText.{Strings}
 use Rattle.dl_print.specs.declared.summary.Summary.{Summary}
-use Rattle.dl_run.specs.declared.around.Survey.{Survey}
-use Rattle.dl_run.specs.declared.fault.RunFault.{RunFault}
-use Rattle.dl_run.specs.declared.fault.RunFault.TheVariants as fault
-use Rattle.dl_run.specs.Around.{Block, EndsAround, Rest, RanAround, visits_around}
-use Rattle.dl_run.specs.Section.{EndsAs, Visit, section_visits}
-use Rattle.dl_run.specs.Visiting.{Ran}
+use Rattle.dl_sections.specs.declared.around.Survey.{Survey}
+use Rattle.dl_sections.specs.declared.fault.RunFault.{RunFault}
+use Rattle.dl_sections.specs.declared.fault.RunFault.TheVariants as fault
+use Rattle.dl_sections.specs.Around.{Block, EndsAround, Rest, RanAround, visits_around}
+use Rattle.dl_sections.specs.Section.{EndsAs, Visit, section_visits}
+use Rattle.dl_sections.specs.Visiting.{Ran}
 use Rattle.dl_stretch.specs.Runs.{place_at}
 use Rattle.dl_addr.specs.AroundCommands.{located_around}
 use Rattle.dl_addr.specs.Locations.{located}

@@ -10,15 +10,15 @@ use Rattle.dl_head.proofs.HeaderCells.{header_holds_its_cells}
 use Rattle.dl_head.proofs.HeaderLaws.{found_is_header}
 use Rattle.dl_rows.specs.declared.row.Row.{Row}
 use Rattle.dl_rows.specs.LineUnit.{ends_open, unit_rows}
-use Rattle.dl_run.specs.Around.{Block, whole, damaged, block_bytes, bytes_of, block_visits, blocks_visits}
-use Rattle.dl_run.specs.Around.{Rest, begun, cut_off, broken, rest_bytes, rest_visits, visits_around}
-use Rattle.dl_run.specs.Copying.{row_count}
-use Rattle.dl_run.specs.Section.{Visit, of_header, of_row, of_open, of_end, of_damage, end_visits, header_of, open_visit}
-use Rattle.dl_run.specs.Section.{section_visits, unit_visits, units_visits, visits}
-use Rattle.dl_run.specs.Visiting.{header_told}
-use Rattle.dl_run.proofs.CopyingVisits.{Foreign, Own, Neither, one_of, foreign_visits, own_visits, no_visits}
-use Rattle.dl_run.proofs.RowCounts.{row_count-append}
-use Rattle.dl_run.proofs.SectionLemmas.{few_rows}
+use Rattle.dl_sections.specs.Around.{Block, whole, damaged, block_bytes, bytes_of, block_visits, blocks_visits}
+use Rattle.dl_sections.specs.Around.{Rest, begun, cut_off, broken, rest_bytes, rest_visits, visits_around}
+use Rattle.dl_sections.specs.Copying.{row_count}
+use Rattle.dl_sections.specs.Section.{Visit, of_header, of_row, of_open, of_end, of_damage, end_visits, header_of, open_visit}
+use Rattle.dl_sections.specs.Section.{section_visits, unit_visits, units_visits, visits}
+use Rattle.dl_sections.specs.Visiting.{header_told}
+use Rattle.dl_sections.proofs.CopyingVisits.{Foreign, Own, Neither, one_of, foreign_visits, own_visits, no_visits}
+use Rattle.dl_sections.proofs.RowCounts.{row_count-append}
+use Rattle.dl_sections.proofs.SectionLemmas.{few_rows}
 use Rattle.dl_making.specs.Few.{AreFew, cells_told}
 
 cells_told-append : (a b : List Visit) → cells_told (a ++ b) ≡ cells_told a + cells_told b

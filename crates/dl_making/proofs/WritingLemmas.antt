@@ -8,9 +8,9 @@ use Rattle.dl_print.specs.declared.output.Printer.{Printer}
 use Rattle.dl_print.specs.Output.{HasPrinted, TellsOut}
 use Rattle.dl_print.specs.ValueText.{Strings}
 use Rattle.dl_print.proofs.Outs.{HasPrinted-out}
-use Rattle.dl_run.specs.declared.fault.RunFault.{RunFault}
-use Rattle.dl_run.specs.declared.fault.RunFault.TheVariants as fault
-use Rattle.dl_run.specs.Blaming.{IsBlamed}
+use Rattle.dl_sections.specs.declared.fault.RunFault.{RunFault}
+use Rattle.dl_sections.specs.declared.fault.RunFault.TheVariants as fault
+use Rattle.dl_sections.specs.Blaming.{IsBlamed}
 use Rattle.dl_making.specs.declared.making.Made.{Made}
 use Rattle.dl_making.specs.declared.making.MadeAround.{MadeAround}
 use Rattle.dl_making.specs.declared.making.Table.{Table}

@@ -5,8 +5,8 @@ use Rattle.std.specs.Option.{option_copied, option_map_or}
 use Rattle.dl_field.specs.HeaderData.{HeaderData, header_cells}
 use Rattle.dl_print.specs.ValueText.{strings_of}
 use Rattle.dl_path.specs.TextRoom.{text_room}
-use Rattle.dl_run.specs.Copying.{row_count}
-use Rattle.dl_run.specs.Section.{Visit, of_header}
+use Rattle.dl_sections.specs.Copying.{row_count}
+use Rattle.dl_sections.specs.Section.{Visit, of_header}
 use Rattle.dl_pack.specs.declared.names.Names.{Names}
 use Rattle.dl_pack.specs.Shown.{named_files, texts_of}
 use Rattle.dl_making.specs.declared.files.UnitFiles.{UnitFiles}

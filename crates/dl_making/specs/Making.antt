@@ -9,12 +9,12 @@ use Rattle.dl_print.specs.ValueText.{strings_of}
 use Rattle.dl_path.specs.Paths.{beside_table, has_directory_0}
 use Rattle.dl_path.specs.TextRoom.{text_room}
 use Rattle.dl_dirs.specs.Compilation.{directory_by}
-use Rattle.dl_run.specs.declared.fault.RunFault.{RunFault}
-use Rattle.dl_run.specs.declared.fault.RunFault.TheVariants.{NoMemory}
-use Rattle.dl_run.specs.Copying.{offset_after, row_count}
-use Rattle.dl_run.specs.RowsTold.{rows_after}
-use Rattle.dl_run.specs.Section.{Visit}
-use Rattle.dl_run.specs.Visiting.{Story}
+use Rattle.dl_sections.specs.declared.fault.RunFault.{RunFault}
+use Rattle.dl_sections.specs.declared.fault.RunFault.TheVariants.{NoMemory}
+use Rattle.dl_sections.specs.Copying.{offset_after, row_count}
+use Rattle.dl_sections.specs.RowsTold.{rows_after}
+use Rattle.dl_sections.specs.Section.{Visit}
+use Rattle.dl_sections.specs.Visiting.{Story}
 use Rattle.dl_addr.specs.Code.{is_code}
 use Rattle.dl_addr.specs.Locating.{located_after}
 use Rattle.dl_index.specs.Stretches.{Told}

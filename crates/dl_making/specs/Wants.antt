@@ -2,8 +2,8 @@
 use Rattle.std.specs.Prelude.{◌≡◌, ◌≢◌, ◌⊎◌, ℕ, List, [], length, take, Option}
 use Rattle.dl_head.specs.declared.dialect.Dialect.{Dialect}
 use Rattle.dl_print.specs.ValueText.{Strings}
-use Rattle.dl_run.specs.Around.{Block, Rest, begun, IsCutTo, visits_around}
-use Rattle.dl_run.specs.Section.{RefusesCell, HasBegun, section_visits}
+use Rattle.dl_sections.specs.Around.{Block, Rest, begun, IsCutTo, visits_around}
+use Rattle.dl_sections.specs.Section.{RefusesCell, HasBegun, section_visits}
 use Rattle.dl_index.specs.Stretches.{Told}
 use Rattle.dl_making.specs.declared.making.Table.{Table}
 use Rattle.dl_making.specs.Room.{RefusesRoom}

@@ -15,7 +15,7 @@ use dl_pack::{Names, SetMemory};
 use dl_path::{beside_table, has_directory_0};
 use dl_print::StringSections;
 use dl_rows::{Flow, Row};
-use dl_run::{AroundDamage, Damage, RunFault, Visitor};
+use dl_sections::{AroundDamage, Damage, RunFault, Visitor};
 use dl_stretch::Runs;
 
 /// Keeps what the rows of live sequences tell of addresses, unit by unit, and the files that they name.

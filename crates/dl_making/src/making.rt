@@ -3,8 +3,8 @@
 ghost use Rattle.std.specs.Prelude.{◌≡◌, ◌≤◌, ℕ, List, None, Option, IfOk, OnErr, OnOk, take};
 ghost use Rattle.std.specs.Io.KnownBytes.{Consumes};
 ghost use Rattle.dl_input.specs.Failing.{Blames};
-ghost use Rattle.dl_run.specs.Commands.{strings_in};
-ghost use Rattle.dl_run.specs.Section.{Visit};
+ghost use Rattle.dl_sections.specs.Commands.{strings_in};
+ghost use Rattle.dl_sections.specs.Section.{Visit};
 ghost use Rattle.dl_making.specs.declared.maker.Maker as makers;
 ghost use Rattle.dl_making.specs.IsIndexOf.{IsIndexOf};
 ghost use Rattle.dl_making.specs.Makes.{Makes, MakesAround, id_kept};
@@ -17,7 +17,7 @@ use dl_look::CodeRanges;
 use dl_memory::NoMemory;
 use dl_pack::{PackFault, SetMemory, index_bytes};
 use dl_print::{StringSections, Summary};
-use dl_run::{Options, RunFault, SECTION_LIMIT, Survey, read_units, read_units_around};
+use dl_sections::{Options, RunFault, SECTION_LIMIT, Survey, read_units, read_units_around};
 use std::io;
 
 /// What an index is made with, beside the section.

@@ -3,10 +3,10 @@
 ghost use Rattle.std.specs.Prelude.{◌≡◌, ◌≤◌, ℕ, List, Option, Some, IfOk, OnErr, OnOk, is_err, true, false};
 ghost use Rattle.std.specs.Io.KnownBytes.{Consumes};
 ghost use Rattle.dl_input.specs.Failing.{Blames};
-ghost use Rattle.dl_run.specs.declared.fault.RunFault.TheVariants as faults;
-ghost use Rattle.dl_run.specs.Commands.{strings_in};
-ghost use Rattle.dl_run.specs.Ending.{WhereWhole};
-ghost use Rattle.dl_run.specs.Section.{Visit};
+ghost use Rattle.dl_sections.specs.declared.fault.RunFault.TheVariants as faults;
+ghost use Rattle.dl_sections.specs.Commands.{strings_in};
+ghost use Rattle.dl_sections.specs.Ending.{WhereWhole};
+ghost use Rattle.dl_sections.specs.Section.{Visit};
 ghost use Rattle.dl_making.specs.declared.maker.Maker as makers;
 ghost use Rattle.dl_making.specs.IsIndexOf.{IsIndexOf};
 ghost use Rattle.dl_making.specs.Makes.{id_kept};
@@ -19,7 +19,7 @@ use dl_input::Source;
 use dl_memory::NoMemory;
 use dl_pack::SetMemory;
 use dl_print::{StringSections, Summary};
-use dl_run::{Options, RunFault, SECTION_LIMIT, Survey, read_units, read_units_around};
+use dl_sections::{Options, RunFault, SECTION_LIMIT, Survey, read_units, read_units_around};
 use std::io;
 
 /// The index of the units before the end of a section, or before the fault at which its reading ended.

@@ -4,9 +4,9 @@ ghost use Rattle.std.specs.Prelude.{◌≡◌, ◌≤◌, ℕ, List, MatchResult
 ghost use Rattle.std.specs.Io.KnownBytes.{Appends, Consumes};
 ghost use Rattle.dl_input.specs.Failing.{Blames};
 ghost use Rattle.dl_print.specs.Output.{BlamesWriter as PrintBlames, TellsOut};
-ghost use Rattle.dl_run.specs.Blaming.{BlamesWriter};
-ghost use Rattle.dl_run.specs.Commands.{strings_in};
-ghost use Rattle.dl_run.specs.Ending.{WhereWhole};
+ghost use Rattle.dl_sections.specs.Blaming.{BlamesWriter};
+ghost use Rattle.dl_sections.specs.Commands.{strings_in};
+ghost use Rattle.dl_sections.specs.Ending.{WhereWhole};
 ghost use Rattle.dl_making.specs.Writes.{Writes, WritesAround};
 
 use crate::making::{Table, make_index, make_index_around};
@@ -14,7 +14,7 @@ use dl_input::Source;
 use dl_output::Destination;
 use dl_pack::SetMemory;
 use dl_print::{Printer, Summary, WriteFault};
-use dl_run::{Options, RunFault, SECTION_LIMIT, Survey};
+use dl_sections::{Options, RunFault, SECTION_LIMIT, Survey};
 
 /// Makes the index of a section as `make_index` does, and writes it. Where none can be made, nothing is written.
 ///

@@ -3,9 +3,9 @@
 ghost use Rattle.std.specs.Prelude.{◌≡◌, ◌≤◌, ℕ, List, OnOk};
 ghost use Rattle.std.specs.Io.KnownBytes.{Consumes};
 ghost use Rattle.dl_input.specs.Failing.{Blames};
-ghost use Rattle.dl_run.specs.Blaming.{BlamesWriter};
-ghost use Rattle.dl_run.specs.Commands.{strings_in};
-ghost use Rattle.dl_run.specs.Ending.{WhereWhole};
+ghost use Rattle.dl_sections.specs.Blaming.{BlamesWriter};
+ghost use Rattle.dl_sections.specs.Commands.{strings_in};
+ghost use Rattle.dl_sections.specs.Ending.{WhereWhole};
 ghost use Rattle.dl_making.specs.WritesUntil.{WritesMade, WritesUntil, WritesUntilAround};
 
 use crate::making::Table;
@@ -16,7 +16,7 @@ use dl_memory::NoMemory;
 use dl_output::Destination;
 use dl_pack::SetMemory;
 use dl_print::Summary;
-use dl_run::{Options, RunFault, SECTION_LIMIT, Survey};
+use dl_sections::{Options, RunFault, SECTION_LIMIT, Survey};
 
 /// Makes the index of a section as `make_index_until` does, and writes it: also where the reading ended with a fault, which
 /// is then answered. Where memory was refused nothing is written, and `NoMemory` answered.

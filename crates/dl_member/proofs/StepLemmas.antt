@@ -2,8 +2,8 @@
 use Rattle.std.proofs.Common.{◌≡◌, ℕ, List, Option, subst}
 use Rattle.std.specs.declared.io.Error.{Error}
 use Rattle.dl_cmd.specs.Job.{Request, Text}
-use Rattle.dl_run.specs.declared.around.Damage.{Damage}
-use Rattle.dl_work.specs.declared.stop.Stop.{Stop}
+use Rattle.dl_sections.specs.declared.around.Damage.{Damage}
+use Rattle.dl_program.specs.declared.stop.Stop.{Stop}
 use Rattle.dl_member.specs.Walking.{IsStep}
 use Rattle.dl_member.specs.declared.step.Step.{Step}
 

@@ -7,8 +7,8 @@ use Rattle.dl_archive.specs.Archive.{MemberData}
 use Rattle.dl_archive.specs.declared.fault.ArchiveFault.{ArchiveFault}
 use Rattle.dl_cmd.specs.Job.{Request, Text}
 use Rattle.dl_print.specs.declared.fault.WriteFault.{WriteFault}
-use Rattle.dl_run.specs.declared.around.Damage.{Damage}
-use Rattle.dl_work.specs.declared.stop.Stop.{Stop}
+use Rattle.dl_sections.specs.declared.around.Damage.{Damage}
+use Rattle.dl_program.specs.declared.stop.Stop.{Stop}
 use Rattle.dl_member.specs.Onward.{Adds, HasGone, NextStep}
 use Rattle.dl_member.specs.Walking.{AreCounted, AtMember, Ends, IsWritten, Steps, passed_over, worst}
 use Rattle.dl_member.specs.declared.counts.Counts.{Counts}

@@ -5,8 +5,8 @@ use Rattle.dl_archive.specs.Archive.{MemberData}
 use Rattle.dl_archive.specs.declared.fault.ArchiveFault.{ArchiveFault}
 use Rattle.dl_archive.specs.declared.fault.ArchiveFault.TheVariants.{Damaged, Read}
 use Rattle.dl_cmd.specs.Job.{Request, Text}
-use Rattle.dl_run.specs.declared.around.Damage.{Damage}
-use Rattle.dl_work.specs.declared.stop.Stop.{Stop}
+use Rattle.dl_sections.specs.declared.around.Damage.{Damage}
+use Rattle.dl_program.specs.declared.stop.Stop.{Stop}
 use Rattle.dl_member.specs.Walking.{AtMember, Steps, passed_over, worst}
 use Rattle.dl_member.specs.declared.counts.Counts.{Counts}
 use Rattle.dl_member.specs.declared.step.Step.{Step}

@@ -2,10 +2,10 @@
 use Rattle.std.specs.Prelude.{◌≡◌, ℕ, false, List, Option, IfSome, flat_map}
 use Rattle.std.specs.Io.KnownBytes.{Appends}
 use Rattle.dl_open.specs.Stops.{stop_line}
-use Rattle.dl_run.specs.declared.around.Damage.{Damage}
-use Rattle.dl_work.specs.Damages.{damage_line}
-use Rattle.dl_work.specs.Stops.{stop_text}
-use Rattle.dl_work.specs.declared.stop.Stop.{Stop}
+use Rattle.dl_sections.specs.declared.around.Damage.{Damage}
+use Rattle.dl_program.specs.Damages.{damage_line}
+use Rattle.dl_program.specs.Stops.{stop_text}
+use Rattle.dl_program.specs.declared.stop.Stop.{Stop}
 use Rattle.dl_member.specs.declared.sink.MemberLines.{MemberLines}
 
 -- unless a write failed, exactly the lines of these were written, in order

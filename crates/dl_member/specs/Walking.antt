@@ -19,13 +19,13 @@ use Rattle.dl_open.specs.declared.fault.FileFault.TheVariants.{Open}
 use Rattle.dl_path.specs.Shown.{shown}
 use Rattle.dl_print.specs.Output.{TellsOut}
 use Rattle.dl_print.specs.declared.fault.WriteFault.{WriteFault}
-use Rattle.dl_run.specs.declared.around.Damage.{Damage}
-use Rattle.dl_run.specs.declared.around.Survey.{Survey}
-use Rattle.dl_work.specs.Blaming.{BlamesWriter}
-use Rattle.dl_work.specs.Stops.{stop_status}
-use Rattle.dl_work.specs.Work.{Works}
-use Rattle.dl_work.specs.declared.stop.Stop.{Stop}
-use Rattle.dl_work.specs.declared.stop.Stop.TheVariants.{File}
+use Rattle.dl_sections.specs.declared.around.Damage.{Damage}
+use Rattle.dl_sections.specs.declared.around.Survey.{Survey}
+use Rattle.dl_program.specs.Blaming.{BlamesWriter}
+use Rattle.dl_program.specs.Stops.{stop_status}
+use Rattle.dl_program.specs.Work.{Works}
+use Rattle.dl_program.specs.declared.stop.Stop.{Stop}
+use Rattle.dl_program.specs.declared.stop.Stop.TheVariants.{File}
 use Rattle.dl_member.specs.Faults.{walk_fault_status}
 use Rattle.dl_member.specs.Files.{CannotOpen, member_bytes, member_fails}
 use Rattle.dl_member.specs.NoTable.{HasNoTable}

@@ -1,14 +1,14 @@
 //! What hears why the work over members stops.
-ghost use Rattle.dl_work.specs.declared.stop.Stop.{Stop};
+ghost use Rattle.dl_program.specs.declared.stop.Stop.{Stop};
 ghost use Rattle.dl_member.specs.Sinks.{StopWritten};
 
-use dl_run::{Damage, DamageSink, RunFault};
-use dl_work::Stop;
+use dl_program::Stop;
+use dl_sections::{Damage, DamageSink, RunFault};
 use std::io::Write;
 
 /// What hears of the damaged units of members after which a command goes on, and why the work over a member stops.
 pub trait MemberSink: DamageSink {
-    ghost use Rattle.dl_work.specs.declared.stop.Stop as stops;
+    ghost use Rattle.dl_program.specs.declared.stop.Stop as stops;
 
     /// What it may become where it is told of a stop.
     ghost tells: { Self → Self → stops.Stop → Type 0 };

@@ -4,7 +4,7 @@ use crate::whole::read_whole;
 use dl_elf::ReadAt;
 use dl_memory::Memory;
 use dl_open::FileSource;
-use dl_run::RunFault;
+use dl_sections::RunFault;
 use std::io;
 
 /// Files, of which the one at a path is this one.

@@ -7,7 +7,7 @@ ghost use Rattle.dl_cmd.specs.Job.{request_made};
 ghost use Rattle.dl_elf.specs.Source.{ForBytes};
 ghost use Rattle.dl_member.specs.Files.{bytes_of_file, fails_of_file};
 ghost use Rattle.dl_open.specs.declared.fault.FileFault.TheVariants.{Open};
-ghost use Rattle.dl_work.specs.declared.stop.Stop.TheVariants.{File};
+ghost use Rattle.dl_program.specs.declared.stop.Stop.TheVariants.{File};
 ghost use Rattle.dl_member.specs.declared.step.Step.TheVariants.{Done};
 ghost use Rattle.dl_member.specs.Walking.{AtMember, AtNamed, IsStep, IsTold, answer_status, member_line};
 
@@ -25,8 +25,8 @@ use dl_open::{FileFault, FileSource};
 use dl_output::Destination;
 use dl_path::print_shown;
 use dl_print::{Printer, WriteFault};
-use dl_run::Survey;
-use dl_work::{Stop, work};
+use dl_program::{Stop, work};
+use dl_sections::Survey;
 use std::io;
 use std::io::ErrorKind;
 

@@ -6,7 +6,7 @@ ghost use Rattle.dl_open.specs.Files.{FileHolds, FileStops, MayFail};
 
 use dl_elf::ReadAt;
 use dl_memory::Memory;
-use dl_run::RunFault;
+use dl_sections::RunFault;
 use std::io;
 use std::io::ErrorKind;
 

@@ -3,9 +3,9 @@ use Rattle.std.proofs.Common.{ℕ, List, Option, subst, sym}
 use Rattle.dl_elf.specs.declared.name.SectionName.{SectionName}
 use Rattle.dl_file.specs.declared.read_fault.ReadFault.{ReadFault}
 use Rattle.dl_head.specs.declared.dialect.Dialect.{Dialect}
-use Rattle.dl_run.specs.Strings.{StopsReading}
-use Rattle.dl_run.specs.declared.fault.RunFault.{RunFault}
-use Rattle.dl_run.specs.declared.fault.RunFault.TheVariants as fault
+use Rattle.dl_sections.specs.Strings.{StopsReading}
+use Rattle.dl_sections.specs.declared.fault.RunFault.{RunFault}
+use Rattle.dl_sections.specs.declared.fault.RunFault.TheVariants as fault
 use Rattle.dl_open.specs.Blaming.{IsOfFile}
 use Rattle.dl_open.specs.Stops.{StopsAs}
 use Rattle.dl_open.specs.Tables.{StopsNaming}

@@ -18,7 +18,7 @@ use Rattle.dl_file.specs.LineTable.{Content, Gives, GivesLine, GivesOption, Infl
 use Rattle.dl_file.specs.declared.line_reader.LineReader.{LineReader}
 use Rattle.dl_file.specs.declared.content_reader.ContentReader.{ContentReader}
 use Rattle.dl_file.specs.declared.info_file.InfoFile.{InfoFile}
-use Rattle.dl_run.specs.declared.options.TheConstants.{SECTION_LIMIT}
+use Rattle.dl_sections.specs.declared.options.TheConstants.{SECTION_LIMIT}
 use Rattle.dl_open.specs.declared.section.Unread.{Unread}
 use Rattle.dl_open.specs.declared.section.Unread.TheVariants.{Read, NoMemory}
 use Rattle.dl_open.specs.Pieces.{IsReadError, IsUnread}

@@ -1,9 +1,9 @@
 -- Files of which nothing is known.
 use Rattle.std.proofs.Common.{◌≡◌, ◌≤◌, ℕ, List, length, None, Result, Ok, Err, Vec, Global, subst, sym}
 use Rattle.std.specs.Prelude.{MatchResult, pos}
-use Rattle.dl_run.specs.Strings.{StopsReading}
-use Rattle.dl_run.specs.declared.fault.RunFault.{RunFault}
-use Rattle.dl_run.specs.declared.fault.RunFault.TheVariants as fault
+use Rattle.dl_sections.specs.Strings.{StopsReading}
+use Rattle.dl_sections.specs.declared.fault.RunFault.{RunFault}
+use Rattle.dl_sections.specs.declared.fault.RunFault.TheVariants as fault
 use Rattle.dl_open.specs.Files.{FileHolds, FileStops, MayFail}
 
 -- some error

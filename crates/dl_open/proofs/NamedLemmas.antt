@@ -17,7 +17,7 @@ use Rattle.dl_open.specs.declared.named.Sections.TheVariants.{LinesAndTexts}
 use Rattle.dl_open.specs.declared.stop.FileStop.{FileStop}
 use Rattle.dl_open.specs.Tables.{HasTable, IsNamed, NamedStops, NamingStops, OpeningStops, TableStops, file_dialect}
 use Rattle.dl_open.specs.Tables.{HasNoDamage, bytes_of, stream_of, with_strings}
-use Rattle.dl_run.specs.declared.fault.RunFault.{RunFault}
+use Rattle.dl_sections.specs.declared.fault.RunFault.{RunFault}
 use Rattle.dl_elf.specs.declared.fault.ElfFault.TheVariants.{DamagedStream, Read}
 use Rattle.dl_elf.specs.declared.name.SectionName.{SectionName}
 use Rattle.dl_file.specs.declared.read_fault.ReadFault.{ReadFault}
@@ -27,7 +27,7 @@ use Rattle.dl_open.proofs.ReaderLemmas.{IsToldOf}
 use Rattle.dl_open.proofs.WiderLemmas.{stops_at_wider}
 use Rattle.std.specs.Io.KnownBytes.{Consumes, IsAtEnd}
 use Rattle.dl_head.specs.declared.dialect.Dialect.{Dialect}
-use Rattle.dl_run.specs.declared.options.TheConstants.{SECTION_LIMIT}
+use Rattle.dl_sections.specs.declared.options.TheConstants.{SECTION_LIMIT}
 use Rattle.dl_forms.specs.Names.{RefusesCellFrom, Names}
 
 -- it is told of all bytes, where those that were read settle it

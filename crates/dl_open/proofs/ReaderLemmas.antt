@@ -26,9 +26,9 @@ use Rattle.dl_memory.specs.Refusals.{IsRefused}
 use Rattle.dl_object.specs.Kept.{Rises}
 use Rattle.dl_object.specs.Section.{Keeps, WantsCell}
 use Rattle.dl_reloc.specs.declared.placed.Placed.{Placed}
-use Rattle.dl_run.specs.Strings.{StopsReading}
-use Rattle.dl_run.specs.declared.fault.RunFault.{RunFault}
-use Rattle.dl_run.specs.declared.fault.RunFault.TheVariants as fault
+use Rattle.dl_sections.specs.Strings.{StopsReading}
+use Rattle.dl_sections.specs.declared.fault.RunFault.{RunFault}
+use Rattle.dl_sections.specs.declared.fault.RunFault.TheVariants as fault
 use Rattle.dl_open.specs.declared.fault.FileFault.TheVariants.{NoMemory as Refused}
 use Rattle.dl_open.specs.declared.object_part.Part.{Part}
 use Rattle.dl_open.specs.declared.stop.FileStop.{FileStop}

@@ -7,7 +7,7 @@ use Rattle.dl_dirs.specs.Units.{directory}
 use Rattle.dl_dirs.proofs.ShortLemmas.{directory_short}
 use Rattle.dl_file.specs.InfoTable.{InfoTable}
 use Rattle.dl_file.specs.LineTable.{Content, Inflated, Plain}
-use Rattle.dl_run.specs.declared.options.TheConstants.{SECTION_LIMIT}
+use Rattle.dl_sections.specs.declared.options.TheConstants.{SECTION_LIMIT}
 use Rattle.dl_open.specs.declared.strings.TheConstants.{STRINGS_LIMIT}
 use Rattle.dl_open.specs.Directories.{bytes_had, info_size, said_in, section_size, texts_had, within}
 use Rattle.dl_open.specs.Tables.{bytes_of}

@@ -5,8 +5,8 @@ use Rattle.dl_elf.specs.declared.fault.ElfFault.{ElfFault}
 use Rattle.dl_elf.specs.declared.fault.ElfFault.TheVariants.{Read, NoMemory, DamagedStream}
 use Rattle.dl_file.specs.LineTable.{Content, Inflated, LineTable, Plain}
 use Rattle.dl_head.specs.declared.dialect.Dialect.{Dialect}
-use Rattle.dl_run.specs.declared.fault.RunFault.{RunFault}
-use Rattle.dl_run.specs.declared.fault.RunFault.TheVariants as fault
+use Rattle.dl_sections.specs.declared.fault.RunFault.{RunFault}
+use Rattle.dl_sections.specs.declared.fault.RunFault.TheVariants as fault
 use Rattle.dl_open.specs.Stops.{IsReadFault, StopsAt, Stream}
 use Rattle.dl_open.specs.declared.object_part.Part.{Part}
 use Rattle.dl_file.specs.declared.line_file.Wanted.{Wanted}

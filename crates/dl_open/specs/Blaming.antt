@@ -1,6 +1,6 @@
 -- What stops the work over a file before its line table is read.
 use Rattle.std.specs.Prelude.{⊤, Result, IfErr}
-use Rattle.dl_run.specs.declared.fault.RunFault.TheVariants as fault
+use Rattle.dl_sections.specs.declared.fault.RunFault.TheVariants as fault
 use Rattle.dl_open.specs.declared.stop.FileStop.{FileStop}
 use Rattle.dl_open.specs.declared.stop.FileStop.TheVariants.{Run}
 

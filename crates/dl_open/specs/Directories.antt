@@ -10,7 +10,7 @@ use Rattle.dl_dirs.specs.Texts.{TextsData}
 use Rattle.dl_dirs.specs.Units.{directory}
 use Rattle.dl_file.specs.InfoTable.{HasInfo, InfoTable, InfoTooLong, TakesInfoMemory}
 use Rattle.dl_file.specs.LineTable.{Content, Inflated, Plain}
-use Rattle.dl_run.specs.declared.options.TheConstants.{SECTION_LIMIT}
+use Rattle.dl_sections.specs.declared.options.TheConstants.{SECTION_LIMIT}
 use Rattle.dl_open.specs.declared.strings.TheConstants.{STRINGS_LIMIT}
 use Rattle.dl_open.specs.Tables.{bytes_of}
 

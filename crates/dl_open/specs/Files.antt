@@ -4,8 +4,8 @@ use Rattle.std.specs.Prelude.{◌≡◌, ◌⊎◌, ◌<◌, ◌≤◌, ℕ, min
 use Rattle.std.specs.declared.io.Error.{Error}
 use Rattle.dl_memory.specs.Refusals.{IsRefused}
 use Rattle.dl_open.specs.declared.strings.TheConstants.{STRINGS_LIMIT}
-use Rattle.dl_run.specs.declared.fault.RunFault.{RunFault}
-use Rattle.dl_run.specs.declared.fault.RunFault.TheVariants as fault
+use Rattle.dl_sections.specs.declared.fault.RunFault.{RunFault}
+use Rattle.dl_sections.specs.declared.fault.RunFault.TheVariants as fault
 use Rattle.dl_print.specs.ValueText.{Strings}
 
 -- these are all bytes of a file, and not more than the limit

@@ -5,10 +5,10 @@ use Rattle.std.specs.Io.KnownBytes.{Consumes}
 use Rattle.std.specs.declared.io.Error.{Error}
 use Rattle.dl_file.specs.declared.line_file.Wanted.TheVariants.{LineSection}
 use Rattle.dl_file.specs.LineTable.{HasLineTable, LineTable}
-use Rattle.dl_run.specs.declared.fault.RunFault.{RunFault}
-use Rattle.dl_run.specs.declared.options.TheConstants.{SECTION_LIMIT}
-use Rattle.dl_run.specs.declared.passing_over.PassedOver.{PassedOver}
-use Rattle.dl_run.specs.PassedOver.{PassesOver}
+use Rattle.dl_sections.specs.declared.fault.RunFault.{RunFault}
+use Rattle.dl_sections.specs.declared.options.TheConstants.{SECTION_LIMIT}
+use Rattle.dl_sections.specs.declared.passing_over.PassedOver.{PassedOver}
+use Rattle.dl_sections.specs.PassedOver.{PassesOver}
 use Rattle.dl_open.specs.declared.dialect.FileUnits.{FileUnits}
 use Rattle.dl_open.specs.declared.not_read.UnitsNotRead.{UnitsNotRead}
 use Rattle.dl_open.specs.declared.fault.FileFault.{FileFault}

@@ -7,8 +7,8 @@ use Rattle.dl_elf.specs.declared.fault.ElfFault.TheVariants.{Read, DamagedStream
 use Rattle.dl_file.specs.declared.read_fault.ReadFault.{ReadFault}
 use Rattle.dl_file.specs.declared.read_fault.ReadFault.TheVariants.{Read as ReadOf, DamagedStream as DamageOf}
 use Rattle.std.specs.declared.io.Error.{Error}
-use Rattle.dl_run.specs.declared.fault.RunFault.{RunFault}
-use Rattle.dl_run.specs.declared.fault.RunFault.TheVariants as fault
+use Rattle.dl_sections.specs.declared.fault.RunFault.{RunFault}
+use Rattle.dl_sections.specs.declared.fault.RunFault.TheVariants as fault
 use Rattle.dl_open.specs.declared.fault.FileFault.{FileFault}
 use Rattle.dl_open.specs.declared.fault.FileFault.TheVariants.{Open, Elf, ObjectCopy, NotRelative, NoMemory}
 use Rattle.dl_open.specs.declared.stop.FileStop.{FileStop}

@@ -20,9 +20,9 @@ use Rattle.dl_forms.specs.Names.{RefusesCellFrom, Names}
 use Rattle.dl_memory.specs.Refusals.{IsRefused}
 use Rattle.dl_object.specs.Kept.{Rises}
 use Rattle.dl_object.specs.Section.{Keeps, WantsCell}
-use Rattle.dl_run.specs.declared.options.TheConstants.{SECTION_LIMIT}
-use Rattle.dl_run.specs.declared.fault.RunFault.{RunFault}
-use Rattle.dl_run.specs.declared.fault.RunFault.TheVariants as fault
+use Rattle.dl_sections.specs.declared.options.TheConstants.{SECTION_LIMIT}
+use Rattle.dl_sections.specs.declared.fault.RunFault.{RunFault}
+use Rattle.dl_sections.specs.declared.fault.RunFault.TheVariants as fault
 use Rattle.dl_print.specs.ValueText.{Strings}
 use Rattle.dl_open.specs.declared.dialect.FileUnits.{FileUnits}
 use Rattle.dl_open.specs.declared.dialect.FileUnits.TheVariants as units

@@ -10,7 +10,7 @@ use Rattle.dl_dirs.specs.Texts.{TextsData}
 use Rattle.dl_dirs.specs.Units.{entries, has_index, has_line_str, has_str, Stands}
 use Rattle.dl_file.specs.LineTable.{Content}
 use Rattle.dl_file.specs.InfoTable.{InfoTable}
-use Rattle.dl_run.specs.declared.options.TheConstants.{SECTION_LIMIT}
+use Rattle.dl_sections.specs.declared.options.TheConstants.{SECTION_LIMIT}
 use Rattle.dl_open.specs.declared.strings.TheConstants.{STRINGS_LIMIT}
 use Rattle.dl_open.specs.Directories.{bytes_had}
 

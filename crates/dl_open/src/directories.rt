@@ -19,7 +19,7 @@ use dl_elf::{ElfFault, ReadAt};
 use dl_file::{ContentReader, InfoFile, LineReader, open_info};
 use dl_memory::{Memory, NoMemory};
 use dl_num::Order;
-use dl_run::SECTION_LIMIT;
+use dl_sections::SECTION_LIMIT;
 
 /// All bytes of a section that the file may lack; None of one that isn't wanted, which isn't read.
 fn whole_where<M: Memory, S: ReadAt>(

@@ -7,7 +7,7 @@ ghost use Rattle.dl_open.specs.declared.fault.FileFault.TheVariants.{Open};
 use crate::fault::FileFault;
 use dl_elf::ReadAt;
 use dl_memory::Memory;
-use dl_run::RunFault;
+use dl_sections::RunFault;
 use std::io;
 
 /// Files, by their paths.

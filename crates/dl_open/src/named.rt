@@ -19,7 +19,7 @@ use dl_forms::StringWalk;
 use dl_head::Dialect;
 use dl_input::Source;
 use dl_memory::Memory;
-use dl_run::{Input, RunFault, SECTION_LIMIT};
+use dl_sections::{Input, RunFault, SECTION_LIMIT};
 use std::alloc::Global;
 
 /// What is looked into of a line table.

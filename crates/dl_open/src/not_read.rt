@@ -12,7 +12,7 @@ use crate::shown::Shown;
 use dl_elf::ReadAt;
 use dl_file::{LineFile, Wanted, open_line_file};
 use dl_memory::Memory;
-use dl_run::{Options, PassedOver, RunFault, SECTION_LIMIT, passed_over};
+use dl_sections::{Options, PassedOver, RunFault, SECTION_LIMIT, passed_over};
 use std::alloc::Global;
 use std::io::Write;
 use std::{fmt, io};

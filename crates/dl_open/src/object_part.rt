@@ -14,7 +14,7 @@ use dl_head::Dialect;
 use dl_memory::Memory;
 use dl_object::keep_section;
 use dl_reloc::Placed;
-use dl_run::{SECTION_LIMIT, read_strings};
+use dl_sections::{SECTION_LIMIT, read_strings};
 
 /// The sequences of one section of an object file, in which addresses are relative to sections.
 #[derive(Drop)]

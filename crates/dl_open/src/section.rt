@@ -12,7 +12,7 @@ use crate::strings::STRINGS_LIMIT;
 use dl_elf::ReadAt;
 use dl_file::{LineReader, ReadFault};
 use dl_memory::Memory;
-use dl_run::INTERRUPTIONS;
+use dl_sections::INTERRUPTIONS;
 use std::io;
 use std::io::{ErrorKind, Read};
 

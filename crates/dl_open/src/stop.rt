@@ -4,7 +4,7 @@ ghost use Rattle.dl_open.specs.Stops.{StopsAs};
 use crate::fault::{FileFault, read_fault};
 use dl_elf::SectionName;
 use dl_file::ReadFault;
-use dl_run::RunFault;
+use dl_sections::RunFault;
 
 /// Why the work over an ELF file stops.
 #[derive(Drop)]

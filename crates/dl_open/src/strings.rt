@@ -1,7 +1,7 @@
 //! The string sections that a command looks into.
 ghost use Rattle.std.specs.Prelude.{◌≡◌, ◌≤◌, ℕ, List, Option, IfErr, IfOk, IfSome, MatchResult, length, option_map};
 ghost use Rattle.std.specs.Option.{option_copied};
-ghost use Rattle.dl_run.specs.Commands.{strings_in};
+ghost use Rattle.dl_sections.specs.Commands.{strings_in};
 ghost use Rattle.dl_file.specs.LineTable.{Content, GivesOption};
 ghost use Rattle.dl_open.specs.Blaming.{BlamesFile};
 ghost use Rattle.dl_open.specs.Files.{FilesStop, IsSectionOf, SectionFileStops, StringsAre};
@@ -14,7 +14,7 @@ use dl_elf::ReadAt;
 use dl_file::ContentReader;
 use dl_head::Dialect;
 use dl_memory::Memory;
-use dl_run::{Options, RunFault, SECTION_LIMIT, read_strings};
+use dl_sections::{Options, RunFault, SECTION_LIMIT, read_strings};
 
 /// How many bytes a string section may have: 2^32.
 pub const STRINGS_LIMIT: u64 = 1 << 32;

@@ -5,9 +5,9 @@ use Rattle.std.proofs.Common.{true, eqb}
 use Rattle.std.proofs.lemmas.Bool.{cases_lt, eqb-true, le-leb, lt-leb, ne_eqb}
 use Rattle.std.specs.Option.{option_eq}
 use borrow.Rule.Slice.PartMut.{put_mid}
-use Rattle.dl_reloc.specs.declared.target.Form.{Form}
+use Rattle.dl_reloc.specs.declared.target.AddendPlace.{AddendPlace}
 use Rattle.dl_reloc.specs.declared.target.Target.{Target}
-use Rattle.dl_reloc.specs.declared.entry.Entry.{Entry}
+use Rattle.dl_reloc.specs.declared.entry.Relocation.{Relocation}
 use Rattle.dl_reloc.specs.declared.change.Change.{Change}
 use Rattle.dl_reloc.specs.declared.apply.RelocationFault.{RelocationFault}
 use Rattle.dl_reloc.specs.declared.apply.RelocationFault.TheVariants.{PlaceOutside, SymbolOutside}
@@ -21,7 +21,7 @@ use Rattle.dl_reloc.specs.Relocated.{place_changed, by_symbol, by_change, applie
 use Rattle.dl_reloc.specs.Relocated.{relocated}
 
 -- an entry that is applied
-pub entry_applied : (t : Target) (symbols : List ℕ) (e : Entry) (b : List ℕ) (change : Change) (value at k : ℕ)
+pub entry_applied : (t : Target) (symbols : List ℕ) (e : Relocation) (b : List ℕ) (change : Change) (value at k : ℕ)
     (new : List ℕ) → (change_size change ≡ 0 → ⊥)
     → e.offset + change_size change ≤ length b → symbol_value symbols e.symbol ≡ Some value
     → at ≡ e.offset → k ≡ change_size change
@@ -41,7 +41,7 @@ long_is t (Some m) n same is =
     subst P (eqb-true m n (sym same)) is
 
 -- one whose type does this
-pub applied_by : (t : Target) (symbols : List ℕ) (e : Entry) (b : List ℕ) (change : Change)
+pub applied_by : (t : Target) (symbols : List ℕ) (e : Relocation) (b : List ℕ) (change : Change)
     (result : Result (Unit {0}) RelocationFault) (new : List ℕ) → change_of t e.number ≡ Some change
     → MatchResult result (λ _. by_change t symbols e b (Some change) ≡ Ok new)
     (λ fault. by_change t symbols e b (Some change) ≡ Err fault)
@@ -52,14 +52,14 @@ applied_by t symbols e b change result new is told =
     subst P (sym is) told
 
 -- one whose place doesn't lie in the section
-pub entry_outside : (t : Target) (symbols : List ℕ) (e : Entry) (b : List ℕ) (change : Change)
+pub entry_outside : (t : Target) (symbols : List ℕ) (e : Relocation) (b : List ℕ) (change : Change)
     → (change_size change ≡ 0 → ⊥) → length b < e.offset + change_size change
     → by_change t symbols e b (Some change) ≡ Err PlaceOutside
 entry_outside t symbols e b change some outside =
     rw (ne_eqb (change_size change) 0 some, lt-leb (e.offset + change_size change) (length b) outside) refl
 
 -- one whose symbol isn't there
-pub entry_without_symbol : (t : Target) (symbols : List ℕ) (e : Entry) (b : List ℕ) (change : Change)
+pub entry_without_symbol : (t : Target) (symbols : List ℕ) (e : Relocation) (b : List ℕ) (change : Change)
     → (change_size change ≡ 0 → ⊥) → e.offset + change_size change ≤ length b
     → ◌≡◌ {A = Option ℕ} (symbol_value symbols e.symbol) None
     → by_change t symbols e b (Some change) ≡ Err SymbolOutside
@@ -68,14 +68,14 @@ entry_without_symbol t symbols e b change some within none =
     (ap (by_symbol t.order change e b) none)
 
 -- the entry that was read
-pub entry_is : (t : Target) (form : Form) (entries : List ℕ) (n size : ℕ) (bytes : List ℕ) (e : Entry)
+pub entry_is : (t : Target) (form : AddendPlace) (entries : List ℕ) (n size : ℕ) (bytes : List ℕ) (e : Relocation)
     → size ≡ entry_size t.class form → bytes ≡ item size n entries → e ≡ entry_in t form bytes
     → e ≡ entry_at t form entries n
 entry_is t form entries n size bytes e sized told read =
     read ∙ (ap (entry_in t form) told ∙ ap (λ s. entry_in t form (item s n entries)) sized)
 
 -- entry n, after those before it
-pub next_applied : (t : Target) (form : Form) (entries symbols : List ℕ) (n : ℕ) (b before after : List ℕ) (e : Entry)
+pub next_applied : (t : Target) (form : AddendPlace) (entries symbols : List ℕ) (n : ℕ) (b before after : List ℕ) (e : Relocation)
     → applied_upto t form entries symbols n b ≡ Ok before → e ≡ entry_at t form entries n
     → applied t symbols e before ≡ Ok after → applied_upto t form entries symbols (n + 1) b ≡ Ok after
 next_applied t form entries symbols n b before after e so_far is next =
@@ -85,7 +85,7 @@ next_applied t form entries symbols n b before after e so_far is next =
     ∙ (ap (λ z. applied t symbols z before) (sym is) ∙ next))
 
 -- a fault decides, whatever follows
-pub fault_stays : (t : Target) (form : Form) (entries symbols : List ℕ) (end n : ℕ) (b : List ℕ)
+pub fault_stays : (t : Target) (form : AddendPlace) (entries symbols : List ℕ) (end n : ℕ) (b : List ℕ)
     (fault : RelocationFault) → n ≤ end → applied_upto t form entries symbols n b ≡ Err fault
     → applied_upto t form entries symbols end b ≡ Err fault
 fault_stays t form entries symbols zero n b fault le is =
@@ -99,8 +99,8 @@ fault_stays t form entries symbols (suc end) n b fault le is = elim (cases_lt n 
 ]
 
 -- entry n of all has a fault, and those before it have none
-pub relocated_to_fault : (t : Target) (form : Form) (entries symbols : List ℕ) (n end : ℕ) (b before : List ℕ)
-    (e : Entry) (fault : RelocationFault) → n < end → end ≡ count (entry_size t.class form) entries
+pub relocated_to_fault : (t : Target) (form : AddendPlace) (entries symbols : List ℕ) (n end : ℕ) (b before : List ℕ)
+    (e : Relocation) (fault : RelocationFault) → n < end → end ≡ count (entry_size t.class form) entries
     → applied_upto t form entries symbols n b ≡ Ok before
     → e ≡ entry_at t form entries n → applied t symbols e before ≡ Err fault
     → relocated t form entries symbols b ≡ Err fault

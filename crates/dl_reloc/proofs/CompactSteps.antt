@@ -3,7 +3,7 @@ use Rattle.std.proofs.Common.{◌≡◌, ℕ, suc, ◌+◌, ◌-◌, ◌^◌, �
 use Rattle.std.proofs.Common.{arith, ap, ◌∙◌}
 use Rattle.dl_reloc.specs.declared.target.Class.{Class}
 use Rattle.dl_reloc.specs.declared.target.Target.{Target}
-use Rattle.dl_reloc.specs.declared.entry.Entry.{Entry}
+use Rattle.dl_reloc.specs.declared.entry.Relocation.{Relocation}
 use Rattle.dl_reloc.specs.declared.compact.CompactHeader.{CompactHeader}
 use Rattle.dl_reloc.specs.declared.apply.RelocationFault.{RelocationFault}
 use Rattle.dl_reloc.specs.declared.apply.RelocationFault.TheVariants.{Damaged}
@@ -20,14 +20,14 @@ by class h n next = elim next [
 ]
 
 -- one of n - i entries
-pub one_of : (class : Class) (h : CompactHeader) (e : Entry) (b : List ℕ) (n i : ℕ) → i < n
+pub one_of : (class : Class) (h : CompactHeader) (e : Relocation) (b : List ℕ) (n i : ℕ) → i < n
     → compact_after class h e (n - i) b ≡ by class h (n - (i + 1)) (next_entry class h e b)
 one_of class h e b n i less =
     let one : n - i ≡ suc (n - (i + 1)) = omega (arith, less) in
     ap (λ k. compact_after class h e k b) one
 
 -- before the first entry
-pub begun : (t : Target) (section symbols b : List ℕ) (h : CompactHeader) (e : Entry) (rest : List ℕ) (n : ℕ)
+pub begun : (t : Target) (section symbols b : List ℕ) (h : CompactHeader) (e : Relocation) (rest : List ℕ) (n : ℕ)
     → unsigned_front (2 ^ 64) section ≡ Some n → h ≡ header_of n → e ≡ before_all h → rest ≡ after_leb section
     → relocated_compact t section symbols b
     ≡ made_by t symbols (compact_after t.class h e (h.count - 0) rest) b
@@ -36,7 +36,7 @@ begun t section symbols b h e rest n told header entry follows =
     rw (whole, entry, header, follows) (ap (λ o. made_by t symbols (compact_with t.class section o) b) told)
 
 -- an entry that is applied
-pub next_made : (t : Target) (symbols : List ℕ) (h : CompactHeader) (e next : Entry) (b rest before after : List ℕ)
+pub next_made : (t : Target) (symbols : List ℕ) (h : CompactHeader) (e next : Relocation) (b rest before after : List ℕ)
     (n i : ℕ) → i < n → next_entry t.class h e b ≡ Some (record { entry = next; rest = rest })
     → applied t symbols next before ≡ Ok after
     → made_by t symbols (compact_after t.class h e (n - i) b) before
@@ -48,7 +48,7 @@ next_made t symbols h e next b rest before after n i less found is =
     ∙ ap (λ r. and_then (if_whole c.whole) (and_then (applied_all t symbols c.entries) r)) is
 
 -- one that has a fault
-pub next_refused : (t : Target) (symbols : List ℕ) (h : CompactHeader) (e next : Entry) (b rest before : List ℕ)
+pub next_refused : (t : Target) (symbols : List ℕ) (h : CompactHeader) (e next : Relocation) (b rest before : List ℕ)
     (n i : ℕ) (fault : RelocationFault) → i < n
     → next_entry t.class h e b ≡ Some (record { entry = next; rest = rest })
     → applied t symbols next before ≡ Err fault
@@ -60,7 +60,7 @@ next_refused t symbols h e next b rest before n i fault less found is =
     ∙ ap (λ r. and_then (if_whole c.whole) (and_then (applied_all t symbols c.entries) r)) is
 
 -- one that isn't there
-pub next_damaged : (t : Target) (symbols : List ℕ) (h : CompactHeader) (e : Entry) (b before : List ℕ) (n i : ℕ)
+pub next_damaged : (t : Target) (symbols : List ℕ) (h : CompactHeader) (e : Relocation) (b before : List ℕ) (n i : ℕ)
     → i < n → next_entry t.class h e b ≡ None
     → made_by t symbols (compact_after t.class h e (n - i) b) before ≡ Err Damaged
 next_damaged t symbols h e b before n i less none =

@@ -5,9 +5,9 @@ use Rattle.std.specs.Prelude.{◌==◌, if◌then◌else◌, IfSome, option_map,
 use Rattle.dl_num.specs.declared.fixed.Order.{Order}
 use Rattle.dl_num.specs.LebFront.{leb_front, after_leb}
 use Rattle.dl_reloc.specs.declared.target.Class.{Class}
-use Rattle.dl_reloc.specs.declared.target.Form.{Form}
+use Rattle.dl_reloc.specs.declared.target.AddendPlace.{AddendPlace}
 use Rattle.dl_reloc.specs.declared.target.Target.{Target}
-use Rattle.dl_reloc.specs.declared.entry.Entry.{Entry}
+use Rattle.dl_reloc.specs.declared.entry.Relocation.{Relocation}
 use Rattle.dl_reloc.specs.declared.change.Change.{Change}
 use Rattle.dl_reloc.specs.declared.placed.Placed.{Placed}
 use Rattle.dl_reloc.specs.declared.compact.CompactHeader.{CompactHeader}
@@ -37,7 +37,7 @@ values_so_far class order table n first values are =
 
 -- ---- places
 
-one_most : (t : Target) (e : Entry) (table wide : List ℕ) (change : Option Change)
+one_most : (t : Target) (e : Relocation) (table wide : List ℕ) (change : Option Change)
     → length (places_by t e table wide change) ≤ 1
 one_most t e table wide None = omega arith
 one_most t e table wide (Some change) = by (change_size change == 0) _ where
@@ -45,7 +45,7 @@ one_most t e table wide (Some change) = by (change_size change == 0) _ where
   by true place = omega arith
   by false place = omega arith
 
-places_counted : (t : Target) (form : Form) (entries table wide : List ℕ) (n : ℕ)
+places_counted : (t : Target) (form : AddendPlace) (entries table wide : List ℕ) (n : ℕ)
     → length (placed_upto t form entries table wide n) ≤ n
 places_counted t form entries table wide zero = omega arith
 places_counted t form entries table wide (suc n) =
@@ -59,7 +59,7 @@ places_counted t form entries table wide (suc n) =
     )
 
 -- one place at most for each entry so far
-pub places_so_far : (t : Target) (form : Form) (entries table wide : List ℕ) (n : ℕ) (first places : List Placed)
+pub places_so_far : (t : Target) (form : AddendPlace) (entries table wide : List ℕ) (n : ℕ) (first places : List Placed)
     → places ≡ first ++ placed_upto t form entries table wide n → length places ≤ length first + n
 places_so_far t form entries table wide n first places are =
     omega (
@@ -70,7 +70,7 @@ places_so_far t form entries table wide n first places are =
     )
 
 -- and for one entry more
-pub one_place : (t : Target) (e : Entry) (table wide : List ℕ) (before after : List Placed)
+pub one_place : (t : Target) (e : Relocation) (table wide : List ℕ) (before after : List Placed)
     → after ≡ before ++ places_of t e table wide → length after ≤ length before + 1
 one_place t e table wide before after are =
     omega (
@@ -116,7 +116,7 @@ told_within false before b = omega arith
 told_within true before b = if_some (λ (told : Told). length told.rest ≤ length b) _ _ (after_within b)
 
 -- the last of the three numbers that an entry may have beside its offset
-third_less : (class : Class) (h : CompactHeader) (e : Entry) (offset flags symbol number : ℕ) (b : List ℕ) (end : ℕ)
+third_less : (class : Class) (h : CompactHeader) (e : Relocation) (offset flags symbol number : ℕ) (b : List ℕ) (end : ℕ)
     → length b < end → IfSome (option_map (entry_of class h offset symbol number)
     (after_difference (flags / 4 == 1) (unwrap_or e.addend 0) b)) (λ next. length next.rest < end)
 third_less class h e offset flags symbol number b end less =
@@ -125,7 +125,7 @@ third_less class h e offset flags symbol number b end less =
     (told_within (flags / 4 == 1) (unwrap_or e.addend 0) b) (λ addend within. omega (arith, within, less))
 
 -- the second, and the last
-second_less : (class : Class) (h : CompactHeader) (e : Entry) (offset flags symbol : ℕ) (b : List ℕ) (end : ℕ)
+second_less : (class : Class) (h : CompactHeader) (e : Relocation) (offset flags symbol : ℕ) (b : List ℕ) (end : ℕ)
     → length b < end → IfSome (option_and_then (λ number. option_map (entry_of class h offset symbol number.number)
     (after_difference (flags / 4 == 1) (unwrap_or e.addend 0) number.rest))
     (after_difference (flags / 2 % 2 == 1) e.number b)) (λ next. length next.rest < end)
@@ -136,7 +136,7 @@ second_less class h e offset flags symbol b end less =
     (after_difference (flags / 2 % 2 == 1) e.number b) (told_within (flags / 2 % 2 == 1) e.number b)
     (λ number within. third_less class h e offset flags symbol number.number number.rest end (omega (arith, within, less)))
 
-by_less : (class : Class) (h : CompactHeader) (e : Entry) (offset flags : ℕ) (b : List ℕ) (end : ℕ) → length b < end
+by_less : (class : Class) (h : CompactHeader) (e : Relocation) (offset flags : ℕ) (b : List ℕ) (end : ℕ) → length b < end
     → IfSome (next_by class h e offset flags b) (λ next. length next.rest < end)
 by_less class h e offset flags b end less =
     if_and_then (λ (symbol : Told). length symbol.rest ≤ length b) (λ (next : Next). length next.rest < end)
@@ -146,7 +146,7 @@ by_less class h e offset flags b end less =
     (after_difference (flags % 2 == 1) e.symbol b) (told_within (flags % 2 == 1) e.symbol b)
     (λ symbol within. second_less class h e offset flags symbol.number symbol.rest end (omega (arith, within, less)))
 
-any_less : (class : Class) (h : CompactHeader) (e : Entry) (b : List ℕ)
+any_less : (class : Class) (h : CompactHeader) (e : Relocation) (b : List ℕ)
     → IfSome (next_entry class h e b) (λ next. length next.rest < length b)
 any_less class h e b =
     if_and_then (λ (n : ℕ). length (after_leb b) < length b) (λ (next : Next). length next.rest < length b)
@@ -156,7 +156,7 @@ any_less class h e b =
     less)
 
 -- the bytes after an entry are fewer
-pub entry_less : (class : Class) (h : CompactHeader) (e next : Entry) (b rest : List ℕ)
+pub entry_less : (class : Class) (h : CompactHeader) (e next : Relocation) (b rest : List ℕ)
     → next_entry class h e b ≡ Some (record { entry = next; rest = rest }) → length rest < length b
 entry_less class h e next b rest found =
     subst (λ (o : Option Next). IfSome o (λ n. length n.rest < length b)) found (any_less class h e b)

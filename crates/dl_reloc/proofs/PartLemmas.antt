@@ -5,8 +5,8 @@ use Rattle.std.proofs.lemmas.Nat.{le-div}
 use Rattle.std.proofs.Math.Nat.{add-mul, div-mul-le_self}
 use Rattle.dl_reloc.specs.declared.target.Class.{Class}
 use Rattle.dl_reloc.specs.declared.target.Class.TheVariants.{Bits32, Bits64}
-use Rattle.dl_reloc.specs.declared.target.Form.{Form}
-use Rattle.dl_reloc.specs.declared.target.Form.TheVariants.{Rela, Rel}
+use Rattle.dl_reloc.specs.declared.target.AddendPlace.{AddendPlace}
+use Rattle.dl_reloc.specs.declared.target.AddendPlace.TheVariants.{Rela, Rel}
 use Rattle.dl_reloc.specs.declared.target.Target.{Target}
 use Rattle.dl_reloc.specs.declared.apply.RelocationFault.{RelocationFault}
 use Rattle.dl_reloc.specs.Entries.{count, entry_size, entry_in}
@@ -14,7 +14,7 @@ use Rattle.dl_reloc.specs.Relocated.{applied, and_then, entry_at, applied_upto, 
 use Rattle.dl_reloc.proofs.AppliedLemmas.{fault_stays}
 use Rattle.dl_reloc.proofs.TableLemmas.{back_item, count_parts, count_whole, front_item}
 
-some : (class : Class) (form : Form) → 1 ≤ entry_size class form
+some : (class : Class) (form : AddendPlace) → 1 ≤ entry_size class form
 some Bits32 Rel = omega arith
 some Bits32 Rela = omega arith
 some Bits64 Rel = omega arith
@@ -23,7 +23,7 @@ some Bits64 Rela = omega arith
 -- ---- entries
 
 -- what the first entries make does not depend on those after them
-front_applied : (t : Target) (form : Form) (xs ys symbols : List ℕ) (n : ℕ) (b : List ℕ)
+front_applied : (t : Target) (form : AddendPlace) (xs ys symbols : List ℕ) (n : ℕ) (b : List ℕ)
     → n * entry_size t.class form ≤ length xs
     → applied_upto t form (xs ++ ys) symbols n b ≡ applied_upto t form xs symbols n b
 front_applied t form xs ys symbols zero b within = refl
@@ -36,7 +36,7 @@ front_applied t form xs ys symbols (suc n) b within =
     (front_applied t form xs ys symbols n b (omega (arith, less)))
 
 -- what the entries after the first m make of what these made
-back_applied : (t : Target) (form : Form) (xs ys symbols : List ℕ) (m n k : ℕ) (b made : List ℕ) → k ≡ n + m
+back_applied : (t : Target) (form : AddendPlace) (xs ys symbols : List ℕ) (m n k : ℕ) (b made : List ℕ) → k ≡ n + m
     → length xs ≡ m * entry_size t.class form → applied_upto t form xs symbols m b ≡ Ok made
     → applied_upto t form (xs ++ ys) symbols k b ≡ applied_upto t form ys symbols n made
 back_applied t form xs ys symbols m zero k b made sum whole so_far =
@@ -53,7 +53,7 @@ back_applied t form xs ys symbols m (suc n) k b made sum whole so_far =
     (back_applied t form xs ys symbols m n (n + m) b made refl whole so_far))
 
 -- all entries of both parts
-pub parts_relocated : (t : Target) (form : Form) (xs ys symbols b made : List ℕ) → AreWhole t form xs
+pub parts_relocated : (t : Target) (form : AddendPlace) (xs ys symbols b made : List ℕ) → AreWhole t form xs
     → relocated t form xs symbols b ≡ Ok made
     → relocated t form (xs ++ ys) symbols b ≡ relocated t form ys symbols made
 parts_relocated t form xs ys symbols b made whole is =
@@ -65,7 +65,7 @@ parts_relocated t form xs ys symbols b made whole is =
     (sym (ap (λ k. applied_upto t form xs symbols k b) first) ∙ is)
 
 -- a fault of the first part, whatever follows
-pub part_fault : (t : Target) (form : Form) (xs ys symbols b : List ℕ) (fault : RelocationFault)
+pub part_fault : (t : Target) (form : AddendPlace) (xs ys symbols b : List ℕ) (fault : RelocationFault)
     → relocated t form xs symbols b ≡ Err fault → relocated t form (xs ++ ys) symbols b ≡ Err fault
 part_fault t form xs ys symbols b fault is =
     let size = entry_size t.class form in

@@ -9,7 +9,7 @@ use Rattle.dl_num.specs.LebFront.{is_leb, leb_front, after_leb}
 use Rattle.dl_reloc.specs.declared.target.Class.{Class}
 use Rattle.dl_reloc.specs.declared.target.Class.TheVariants.{Bits32, Bits64}
 use Rattle.dl_reloc.specs.declared.target.Target.{Target}
-use Rattle.dl_reloc.specs.declared.entry.Entry.{Entry}
+use Rattle.dl_reloc.specs.declared.entry.Relocation.{Relocation}
 use Rattle.dl_reloc.specs.declared.compact.CompactHeader.{CompactHeader}
 use Rattle.dl_reloc.specs.declared.apply.RelocationFault.{RelocationFault}
 use Rattle.dl_reloc.specs.declared.apply.RelocationFault.TheVariants.{Damaged}
@@ -70,7 +70,7 @@ abbrev pub first_number : List ℕ → Option ℕ
 first_number b = unsigned_front (2 ^ 71) b
 
 -- r_offset, in 32 or 64 bits, where its difference before the shift is this
-abbrev pub offset_after : Class → CompactHeader → Entry → (difference : ℕ) → ℕ
+abbrev pub offset_after : Class → CompactHeader → Relocation → (difference : ℕ) → ℕ
 offset_after Bits32 h e difference = (e.offset + difference * 2 ^ h.shift) % 2 ^ 32
 offset_after Bits64 h e difference = (e.offset + difference * 2 ^ h.shift) % 2 ^ 64
 
@@ -81,7 +81,7 @@ addend_of Bits64 n = n
 
 -- an entry, and the bytes after it
 pub record Next : Type 0 where
-  pub entry : Entry
+  pub entry : Relocation
   pub rest : List ℕ
 
 -- the entry of these numbers: the symbol and the type have 32 bits; without addends these stand at the places
@@ -98,7 +98,7 @@ entry_of class h offset symbol number addend = record {
 
 -- what b has after the first number: the symbol where bit 0 of that is set, the type where bit 1 is, and the addend
 -- where bit 2 is and there are addends
-abbrev pub next_by : Class → CompactHeader → Entry → (offset flags : ℕ) → List ℕ → Option Next
+abbrev pub next_by : Class → CompactHeader → Relocation → (offset flags : ℕ) → List ℕ → Option Next
 next_by class h e offset flags b = option_and_then (λ symbol. option_and_then (λ number.
     option_map (entry_of class h offset symbol.number number.number)
     (after_difference (flags / 4 == 1) (unwrap_or e.addend 0) number.rest))
@@ -106,13 +106,13 @@ next_by class h e offset flags b = option_and_then (λ symbol. option_and_then (
     (after_difference (flags % 2 == 1) e.symbol b)
 
 -- the entry that b begins with; None where b ends before it does, or a number of it doesn't fit
-abbrev pub next_entry : Class → CompactHeader → Entry → List ℕ → Option Next
+abbrev pub next_entry : Class → CompactHeader → Relocation → List ℕ → Option Next
 next_entry class h e b = option_and_then
     (λ n. next_by class h e (offset_after class h e (n / flag_values h)) (n % flag_values h) (after_leb b))
     (first_number b)
 
 -- what stands before the first entry: all numbers are 0
-abbrev pub before_all : CompactHeader → Entry
+abbrev pub before_all : CompactHeader → Relocation
 before_all h =
     record { offset = 0; symbol = 0; number = 0; addend = if h.has_addends then Some 0 else None }
 
@@ -120,14 +120,14 @@ before_all h =
 
 -- the entries that a section has, and whether they are all that its header counts
 pub record Compact : Type 0 where
-  pub entries : List Entry
+  pub entries : List Relocation
   pub whole : Bool
 
-abbrev pub with_entry : Entry → Compact → Compact
+abbrev pub with_entry : Relocation → Compact → Compact
 with_entry e c = record { entries = e ∷ c.entries; whole = c.whole }
 
 -- n entries, the first of which is told by its differences from e
-abbrev pub compact_after : Class → CompactHeader → Entry → (n : ℕ) → List ℕ → Compact
+abbrev pub compact_after : Class → CompactHeader → Relocation → (n : ℕ) → List ℕ → Compact
 compact_after class h e zero b = record { entries = []; whole = true }
 compact_after class h e (suc n) b = elim (next_entry class h e b) [
   | Some next ↦ with_entry next.entry (compact_after class h next.entry n next.rest)
@@ -146,7 +146,7 @@ compact_entries class b = compact_with class b (unsigned_front (2 ^ 64) b)
 -- ---- applied to the bytes of another section
 
 -- what entries make of b, one after the other, or the first fault
-abbrev pub applied_all : Target → (symbols : List ℕ) → List Entry → List ℕ → Result (List ℕ) RelocationFault
+abbrev pub applied_all : Target → (symbols : List ℕ) → List Relocation → List ℕ → Result (List ℕ) RelocationFault
 applied_all t symbols [] b = Ok b
 applied_all t symbols (e ∷ es) b = and_then (applied_all t symbols es) (applied t symbols e b)
 

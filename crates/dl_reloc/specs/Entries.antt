@@ -6,10 +6,10 @@ use Rattle.dl_num.specs.declared.fixed.Order.TheVariants.{Big}
 use Rattle.dl_num.specs.Fixed.{fixed}
 use Rattle.dl_reloc.specs.declared.target.Class.{Class}
 use Rattle.dl_reloc.specs.declared.target.Class.TheVariants.{Bits32, Bits64}
-use Rattle.dl_reloc.specs.declared.target.Form.{Form}
-use Rattle.dl_reloc.specs.declared.target.Form.TheVariants.{Rela, Rel}
+use Rattle.dl_reloc.specs.declared.target.AddendPlace.{AddendPlace}
+use Rattle.dl_reloc.specs.declared.target.AddendPlace.TheVariants.{Rela, Rel}
 use Rattle.dl_reloc.specs.declared.target.Target.{Target}
-use Rattle.dl_reloc.specs.declared.entry.Entry.{Entry}
+use Rattle.dl_reloc.specs.declared.entry.Relocation.{Relocation}
 
 -- the number that `size` bytes spell from `at` on
 abbrev pub number_at : Order → (at size : ℕ) → List ℕ → ℕ
@@ -26,7 +26,7 @@ item size i table = take size (drop (i * size) table)
 -- ---- entries
 
 -- how many bytes an entry has
-abbrev pub entry_size : Class → Form → ℕ
+abbrev pub entry_size : Class → AddendPlace → ℕ
 entry_size Bits32 Rel = 8
 entry_size Bits32 Rela = 12
 entry_size Bits64 Rel = 16
@@ -37,7 +37,7 @@ abbrev pub extended : ℕ → ℕ
 extended n = if nat_lt n 0x80000000 then n else (n + 0xffffffff00000000) % 2 ^ 64
 
 -- r_addend, modulo 2^64; an entry of REL has none
-abbrev pub addend_in : Class → Form → Order → List ℕ → Option ℕ
+abbrev pub addend_in : Class → AddendPlace → Order → List ℕ → Option ℕ
 addend_in class Rel order b = None
 addend_in Bits32 Rela order b = Some (extended (number_at order 8 4 b))
 addend_in Bits64 Rela order b = Some (number_at order 16 8 b)
@@ -61,7 +61,7 @@ type_in Bits32 machine order b = number_at order 4 4 b % 2 ^ 8
 type_in Bits64 machine order b =
     if machine == 8 then number_at Big 12 4 b % 2 ^ 24 else number_at order 8 8 b % 2 ^ 32
 
-abbrev pub entry_in : Target → Form → List ℕ → Entry
+abbrev pub entry_in : Target → AddendPlace → List ℕ → Relocation
 entry_in t form b = record {
   offset = offset_in t.class t.order b;
   symbol = symbol_in t.class t.machine t.order b;

@@ -5,9 +5,9 @@ use Rattle.std.specs.Prelude.{ℕ, zero, suc, ◌==◌, nat_lt, if◌then◌else
 use Rattle.dl_num.specs.declared.fixed.Order.{Order}
 use Rattle.dl_reloc.specs.declared.target.Class.{Class}
 use Rattle.dl_reloc.specs.declared.target.Class.TheVariants.{Bits32, Bits64}
-use Rattle.dl_reloc.specs.declared.target.Form.{Form}
+use Rattle.dl_reloc.specs.declared.target.AddendPlace.{AddendPlace}
 use Rattle.dl_reloc.specs.declared.target.Target.{Target}
-use Rattle.dl_reloc.specs.declared.entry.Entry.{Entry}
+use Rattle.dl_reloc.specs.declared.entry.Relocation.{Relocation}
 use Rattle.dl_reloc.specs.declared.change.Change.{Change}
 use Rattle.dl_reloc.specs.declared.placed.Placed.{Placed}
 use Rattle.dl_reloc.specs.Changes.{change_size}
@@ -41,31 +41,31 @@ section_of class order table wide i =
 
 -- ---- the place of an entry
 
-abbrev pub places_by : Target → Entry → (table wide : List ℕ) → Option Change → List Placed
+abbrev pub places_by : Target → Relocation → (table wide : List ℕ) → Option Change → List Placed
 places_by t e table wide None = []
 places_by t e table wide (Some change) =
     if change_size change == 0 then []
     else record { offset = e.offset; section = section_of t.class t.order table wide e.symbol } ∷ []
 
 -- the one that an entry changes; none where its type changes nothing, or isn't known
-abbrev pub places_of : Target → Entry → (table wide : List ℕ) → List Placed
+abbrev pub places_of : Target → Relocation → (table wide : List ℕ) → List Placed
 places_of t e table wide = places_by t e table wide (change_of t e.number)
 
 -- ---- those of a section of relocations, in order
 
 -- of its first n entries
-abbrev pub placed_upto : Target → Form → (entries table wide : List ℕ) → ℕ → List Placed
+abbrev pub placed_upto : Target → AddendPlace → (entries table wide : List ℕ) → ℕ → List Placed
 placed_upto t form entries table wide zero = []
 placed_upto t form entries table wide (suc n) =
     placed_upto t form entries table wide n ++ places_of t (entry_at t form entries n) table wide
 
 -- of all whole entries
-abbrev pub placed : Target → Form → (entries table wide : List ℕ) → List Placed
+abbrev pub placed : Target → AddendPlace → (entries table wide : List ℕ) → List Placed
 placed t form entries table wide =
     placed_upto t form entries table wide (count (entry_size t.class form) entries)
 
 -- of these entries
-abbrev pub placed_all : Target → List Entry → (table wide : List ℕ) → List Placed
+abbrev pub placed_all : Target → List Relocation → (table wide : List ℕ) → List Placed
 placed_all t [] table wide = []
 placed_all t (e ∷ es) table wide = places_of t e table wide ++ placed_all t es table wide
 

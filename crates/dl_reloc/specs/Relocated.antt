@@ -4,9 +4,9 @@ use Rattle.std.specs.Prelude.{◌≡◌, ℕ, zero, suc, ◌+◌, ◌*◌, ◌%�
 use Rattle.std.specs.Prelude.{length, take, drop, Option, Some, None, unwrap_or, Result, Ok, Err}
 use Rattle.dl_num.specs.declared.fixed.Order.{Order}
 use Rattle.dl_num.specs.Fixed.{fixed, fixed_bytes}
-use Rattle.dl_reloc.specs.declared.target.Form.{Form}
+use Rattle.dl_reloc.specs.declared.target.AddendPlace.{AddendPlace}
 use Rattle.dl_reloc.specs.declared.target.Target.{Target}
-use Rattle.dl_reloc.specs.declared.entry.Entry.{Entry}
+use Rattle.dl_reloc.specs.declared.entry.Relocation.{Relocation}
 use Rattle.dl_reloc.specs.declared.change.Change.{Change}
 use Rattle.dl_reloc.specs.declared.apply.RelocationFault.{RelocationFault}
 use Rattle.dl_reloc.specs.declared.apply.RelocationFault.TheVariants.{UnknownType, PlaceOutside, SymbolOutside}
@@ -24,12 +24,12 @@ abbrev pub bytes_changed : Order → Change → (at value : ℕ) (addend : Optio
 bytes_changed order change at value addend b = let size = change_size change in
     take at b ++ (place_changed order change value addend (take size (drop at b)) ++ drop size (drop at b))
 
-abbrev pub by_symbol : Order → Change → Entry → List ℕ → Option ℕ → Result (List ℕ) RelocationFault
+abbrev pub by_symbol : Order → Change → Relocation → List ℕ → Option ℕ → Result (List ℕ) RelocationFault
 by_symbol order change e b None = Err SymbolOutside
 by_symbol order change e b (Some value) = Ok (bytes_changed order change e.offset value e.addend b)
 
 -- an entry that does this; where it changes nothing, neither its place nor its symbol is asked for
-abbrev pub by_change : Target → (symbols : List ℕ) → Entry → List ℕ → Option Change → Result (List ℕ) RelocationFault
+abbrev pub by_change : Target → (symbols : List ℕ) → Relocation → List ℕ → Option Change → Result (List ℕ) RelocationFault
 by_change t symbols e b None = Err (UnknownType e.number)
 by_change t symbols e b (Some change) =
     if change_size change == 0 then Ok b
@@ -37,7 +37,7 @@ by_change t symbols e b (Some change) =
     else by_symbol t.order change e b (symbol_value symbols e.symbol)
 
 -- what one entry makes of b, or its fault
-abbrev pub applied : Target → (symbols : List ℕ) → Entry → List ℕ → Result (List ℕ) RelocationFault
+abbrev pub applied : Target → (symbols : List ℕ) → Relocation → List ℕ → Result (List ℕ) RelocationFault
 applied t symbols e b = by_change t symbols e b (change_of t e.number)
 
 -- the next entry after those before it; after a fault nothing follows
@@ -47,20 +47,20 @@ and_then next (Ok b) = next b
 and_then next (Err fault) = Err fault
 
 -- entry i of a relocation section
-abbrev pub entry_at : Target → Form → (entries : List ℕ) → ℕ → Entry
+abbrev pub entry_at : Target → AddendPlace → (entries : List ℕ) → ℕ → Relocation
 entry_at t form entries i = entry_in t form (item (entry_size t.class form) i entries)
 
 -- what the first n entries make of b, one after the other, or the first fault
-abbrev pub applied_upto : Target → Form → (entries symbols : List ℕ) → ℕ → List ℕ → Result (List ℕ) RelocationFault
+abbrev pub applied_upto : Target → AddendPlace → (entries symbols : List ℕ) → ℕ → List ℕ → Result (List ℕ) RelocationFault
 applied_upto t form entries symbols zero b = Ok b
 applied_upto t form entries symbols (suc n) b =
     and_then (applied t symbols (entry_at t form entries n)) (applied_upto t form entries symbols n b)
 
 -- what all whole entries make of it
-abbrev pub relocated : Target → Form → (entries symbols : List ℕ) → List ℕ → Result (List ℕ) RelocationFault
+abbrev pub relocated : Target → AddendPlace → (entries symbols : List ℕ) → List ℕ → Result (List ℕ) RelocationFault
 relocated t form entries symbols b =
     applied_upto t form entries symbols (count (entry_size t.class form) entries) b
 
 -- whole entries, with nothing after them
-abbrev pub AreWhole : Target → Form → (entries : List ℕ) → Type 0
+abbrev pub AreWhole : Target → AddendPlace → (entries : List ℕ) → Type 0
 AreWhole t form entries = (n : ℕ) × (length entries ≡ n * entry_size t.class form)

@@ -7,12 +7,12 @@ ghost use Rattle.dl_reloc.specs.Compact.{relocated_compact};
 
 use crate::change::{Change, Width};
 use crate::compact::CompactHeader;
-use crate::entry::{Entry, entry_size};
+use crate::entry::{Relocation, entry_size};
 use crate::machine::{LOW, change_in, low_types};
 use crate::number::{number_of, put_number};
 use crate::symbol::symbol_value;
 use crate::table::{count, item};
-use crate::target::{Class, Form, Target};
+use crate::target::{AddendPlace, Class, Target};
 use dl_num::Order;
 
 /// Why relocations can't be applied.
@@ -59,7 +59,7 @@ fn apply_change(
     target: &Target,
     change: Change,
     symbols: &[u64],
-    entry: &Entry,
+    entry: &Relocation,
     bytes: &mut [u8],
 ) -> Result<(), RelocationFault>
     ensures { MatchResult result
@@ -94,7 +94,7 @@ fn apply(
     low: &[Option<Change>; LOW],
     long: &mut Option<u64>,
     symbols: &[u64],
-    entry: &Entry,
+    entry: &Relocation,
     bytes: &mut [u8],
 ) -> Result<(), RelocationFault>
     requires low { AreLow target.now low.now }
@@ -139,7 +139,7 @@ fn apply(
 #[inline(always)]
 fn relocate_entries(
     target: &Target,
-    form: Form,
+    form: AddendPlace,
     entries: &[u8],
     symbols: &[u64],
     bytes: &mut [u8],
@@ -158,7 +158,7 @@ fn relocate_entries(
     let size = entry_size(target.class, form);
     for index in 0..count(entries, size) {
         let entry = item(entries, size, index);
-        let entry = Entry::read(target, form, entry);
+        let entry = Relocation::read(target, form, entry);
         apply(target, &low, &mut long, symbols, &entry, bytes)?;
     }
     Ok(())
@@ -177,7 +177,7 @@ fn relocate_entries(
 #[inline(never)]
 pub fn relocate(
     target: &Target,
-    form: Form,
+    form: AddendPlace,
     entries: &[u8],
     symbols: &[u64],
     bytes: &mut [u8],
@@ -192,13 +192,13 @@ pub fn relocate(
         → relocated target.now form ((before ++ entries.now) ++ rest) symbols.now first ≡ Err fault) }
 {
     match (target.class, target.order, form) {
-        (Class::Bits64, Order::Little, Form::Rela) => {
+        (Class::Bits64, Order::Little, AddendPlace::Rela) => {
             let target = Target {
                 machine: target.machine,
                 class: Class::Bits64,
                 order: Order::Little,
             };
-            relocate_entries(&target, Form::Rela, entries, symbols, bytes)
+            relocate_entries(&target, AddendPlace::Rela, entries, symbols, bytes)
         }
         _ => relocate_entries(target, form, entries, symbols, bytes),
     }

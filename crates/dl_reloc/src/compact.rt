@@ -5,7 +5,7 @@ ghost use Rattle.dl_num.specs.LebFront.{after_leb};
 ghost use Rattle.dl_reloc.specs.Compact.{addend_of, after_difference, before_all, first_number, flag_values, header_of};
 ghost use Rattle.dl_reloc.specs.Compact.{next_entry, offset_after, unsigned_front};
 
-use crate::entry::{Entry, extended};
+use crate::entry::{Relocation, extended};
 use crate::target::Class;
 use dl_num::{LebRange, Sleb, Uleb};
 
@@ -86,10 +86,10 @@ impl CompactHeader {
     }
 
     /// What stands before the first entry.
-    pub fn before_all(&self) -> Entry
+    pub fn before_all(&self) -> Relocation
         ensures { result ≡ before_all self.now }
     {
-        Entry {
+        Relocation {
             offset: 0,
             symbol: 0,
             number: 0,
@@ -106,7 +106,7 @@ impl CompactHeader {
     }
 
     /// The place of an entry, from the one before it and the difference.
-    fn offset_after(&self, class: Class, before: &Entry, difference: u64) -> u64
+    fn offset_after(&self, class: Class, before: &Relocation, difference: u64) -> u64
         requires { self.now.shift ≤ 3 }
         ensures { (n : ℕ) → difference ≡ n % 2 ^ 64
             → result ≡ offset_after class self.now before.now n }
@@ -125,9 +125,9 @@ impl CompactHeader {
     pub fn next_entry<'a>(
         &self,
         class: Class,
-        before: &Entry,
+        before: &Relocation,
         bytes: &'a [u8],
-    ) -> Option<(Entry, &'a [u8])>
+    ) -> Option<(Relocation, &'a [u8])>
         requires { self.now.shift ≤ 3 }
         ensures { option_map (λ found. record { entry = found.0; rest = found.1.now }) result
             ≡ next_entry class self.now before.now bytes.entry.now }
@@ -137,7 +137,7 @@ impl CompactHeader {
         let (number, rest) = after_difference(flags / 2 % 2 == 1, before.number, rest)?;
         let last = before.addend.unwrap_or(0);
         let (addend, rest) = after_difference(flags / 4 == 1, last, rest)?;
-        let entry = Entry {
+        let entry = Relocation {
             offset: self.offset_after(class, before, difference),
             symbol: symbol % (1 << 32),
             number: number % (1 << 32),

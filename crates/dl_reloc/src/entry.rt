@@ -4,12 +4,12 @@ ghost use Rattle.dl_reloc.specs.Entries.{addend_in, entry_in, entry_size, extend
 
 use crate::machine::EM_MIPS;
 use crate::table::number_at;
-use crate::target::{Class, Form, Target};
+use crate::target::{AddendPlace, Class, Target};
 use dl_num::Order;
 
 /// An entry of a relocation section. The names that the ABI gives the fields stand in parentheses.
 #[derive(Clone, Copy)]
-pub struct Entry {
+pub struct Relocation {
     /// The place that it changes, in bytes from the section's first (r_offset).
     pub offset: u64,
     /// The number of its symbol (r_info).
@@ -21,15 +21,15 @@ pub struct Entry {
 }
 
 /// How many bytes an entry has.
-pub fn entry_size(class: Class, form: Form) -> usize
+pub fn entry_size(class: Class, form: AddendPlace) -> usize
     ensures size { result ≡ entry_size class form }
     ensures some { 1 ≤ result }
 {
     match (class, form) {
-        (Class::Bits32, Form::Rel) => 8,
-        (Class::Bits32, Form::Rela) => 12,
-        (Class::Bits64, Form::Rel) => 16,
-        (Class::Bits64, Form::Rela) => 24,
+        (Class::Bits32, AddendPlace::Rel) => 8,
+        (Class::Bits32, AddendPlace::Rela) => 12,
+        (Class::Bits64, AddendPlace::Rel) => 16,
+        (Class::Bits64, AddendPlace::Rela) => 24,
     }
 }
 
@@ -45,14 +45,14 @@ pub fn extended(number: u64) -> u64
 }
 
 /// The addend of an entry.
-fn addend_in(class: Class, form: Form, order: Order, bytes: &[u8]) -> Option<u64>
+fn addend_in(class: Class, form: AddendPlace, order: Order, bytes: &[u8]) -> Option<u64>
     requires { entry_size class form ≤ length bytes.now }
     ensures { result ≡ addend_in class form order bytes.now }
 {
     match (class, form) {
-        (_, Form::Rel) => None,
-        (Class::Bits32, Form::Rela) => Some(extended(number_at(order, 8, 4, bytes))),
-        (Class::Bits64, Form::Rela) => Some(number_at(order, 16, 8, bytes)),
+        (_, AddendPlace::Rel) => None,
+        (Class::Bits32, AddendPlace::Rela) => Some(extended(number_at(order, 8, 4, bytes))),
+        (Class::Bits64, AddendPlace::Rela) => Some(number_at(order, 16, 8, bytes)),
     }
 }
 
@@ -71,7 +71,7 @@ fn offset_in(class: Class, order: Order, bytes: &[u8]) -> u64
 /// The number of its symbol and that of its type (r_info).
 #[inline(always)]
 fn info_in(target: &Target, bytes: &[u8]) -> (u64, u64)
-    requires { entry_size target.now.class Form.Rel ≤ length bytes.now }
+    requires { entry_size target.now.class AddendPlace.Rel ≤ length bytes.now }
     ensures symbol { result.0 ≡ symbol_in target.now.class target.now.machine target.now.order bytes.now }
     ensures type_number { result.1 ≡ type_in target.now.class target.now.machine target.now.order bytes.now }
 {
@@ -92,14 +92,14 @@ fn info_in(target: &Target, bytes: &[u8]) -> (u64, u64)
     }
 }
 
-impl Entry {
+impl Relocation {
     /// The entry in these bytes.
-    pub fn read(target: &Target, form: Form, bytes: &[u8]) -> Entry
+    pub fn read(target: &Target, form: AddendPlace, bytes: &[u8]) -> Relocation
         requires { entry_size target.now.class form ≤ length bytes.now }
         ensures { result ≡ entry_in target.now form bytes.now }
     {
         let (symbol, number) = info_in(target, bytes);
-        Entry {
+        Relocation {
             offset: offset_in(target.class, target.order, bytes),
             symbol,
             number,

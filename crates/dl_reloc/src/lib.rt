@@ -23,4 +23,4 @@ pub use apply::{RelocationFault, relocate, relocate_compact};
 pub use placed::Placed;
 pub use places::{push_compact_places, push_places};
 pub use symbol::{push_symbol_values, symbol_size};
-pub use target::{Class, Form, Target};
+pub use target::{AddendPlace, Class, Target};

@@ -5,12 +5,12 @@ ghost use Rattle.dl_reloc.specs.Entries.{count, entry_size, symbol_size};
 ghost use Rattle.dl_reloc.specs.Places.{index_in, placed, placed_compact, places_of, section_of, wide_index};
 
 use crate::compact::CompactHeader;
-use crate::entry::{Entry, entry_size};
+use crate::entry::{Relocation, entry_size};
 use crate::machine::change_of;
 use crate::placed::Placed;
 use crate::symbol::symbol_size;
 use crate::table::{count, item, number_at};
-use crate::target::{Class, Form, Target};
+use crate::target::{AddendPlace, Class, Target};
 use dl_memory::{Memory, NoMemory};
 use dl_num::Order;
 
@@ -65,7 +65,7 @@ fn section_of(target: &Target, table: &[u8], wide: &[u8], symbol: u64) -> u64
 fn push_place<M: Memory>(
     memory: &M,
     target: &Target,
-    entry: &Entry,
+    entry: &Relocation,
     table: &[u8],
     wide: &[u8],
     places: &mut Vec<Placed>,
@@ -95,7 +95,7 @@ fn push_place<M: Memory>(
 pub fn push_places<M: Memory>(
     memory: &M,
     target: &Target,
-    form: Form,
+    form: AddendPlace,
     entries: &[u8],
     table: &[u8],
     wide: &[u8],
@@ -109,7 +109,7 @@ pub fn push_places<M: Memory>(
 {
     let size = entry_size(target.class, form);
     for index in 0..count(entries, size) {
-        let entry = Entry::read(target, form, item(entries, size, index));
+        let entry = Relocation::read(target, form, item(entries, size, index));
         push_place(memory, target, &entry, table, wide, places)?;
     }
     Ok(())

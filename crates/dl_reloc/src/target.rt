@@ -24,7 +24,7 @@ pub struct Target {
 
 /// Where the addend of a relocation stands, which is added to the value of its symbol.
 #[derive(Clone, Copy, Debug, PartialEq, Eq)]
-pub enum Form {
+pub enum AddendPlace {
     /// In its entry (SHT_RELA).
     Rela,
     /// At the place that it changes (SHT_REL).

@@ -25,8 +25,8 @@ use Rattle.dl_rows.specs.declared.reader.Event.{Event}
 use Rattle.dl_rows.specs.declared.reader.Event.TheVariants as event
 use Rattle.dl_rows.specs.declared.reader.HeaderStop.{HeaderStop}
 use Rattle.dl_rows.specs.declared.reader.Reader.{Reader}
-use Rattle.dl_rows.specs.declared.reader.State.{State}
-use Rattle.dl_rows.specs.declared.reader.State.TheVariants as state
+use Rattle.dl_rows.specs.declared.reader.UnitStage.{UnitStage}
+use Rattle.dl_rows.specs.declared.reader.UnitStage.TheVariants as state
 use Rattle.dl_rows.specs.LineUnit.{IsUnit, events}
 use Rattle.dl_rows.specs.Reading.{WithinUnit, told, EventHolds, Feeds, Fails}
 use Rattle.dl_rows.specs.ReaderStands.{StandsFor}
@@ -264,7 +264,7 @@ module _ {dialect : Dialect} {old new : HeadReader} {b piece : List ℕ} {used :
       (header_sound dialect g w is)
 
 -- by what the reader of the header answers
-pub head_took : {dialect : Dialect} {x : State} {old new : HeadReader} {b piece : List ℕ} {used : ℕ} {step : HeadStep}
+pub head_took : {dialect : Dialect} {x : UnitStage} {old new : HeadReader} {b piece : List ℕ} {used : ℕ} {step : HeadStep}
     → x ≡ state.InHeader old → StandsAt dialect x b → ((i : ℕ) → i < length piece → get_or piece i 0 < 256)
     → ((d : List ℕ) → HeadStands old d → Answers old.dialect d answer.More → Offered old.dialect d piece used step new)
     → new.dialect ≡ old.dialect → HeadTook dialect old new b piece used step
@@ -295,7 +295,7 @@ bytes_taken {b = b} {piece = piece} {used = used} h = taken_bytes b piece used h
 -- ---- where it is known that something was taken
 
 -- a header that is begun
-pub begun_in : {s : State} {head : HeadReader} → s ≡ state.InHeader head → ∥ IsBegun s ∥₁ → ∥ GoesOn head ∥₁
+pub begun_in : {s : UnitStage} {head : HeadReader} → s ≡ state.InHeader head → ∥ IsBegun s ∥₁ → ∥ GoesOn head ∥₁
 begun_in is begun = rw is at begun
 
 -- how many bytes were taken

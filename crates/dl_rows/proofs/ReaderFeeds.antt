@@ -15,7 +15,7 @@ use Rattle.dl_head.proofs.HeaderLaws.{header_is_found}
 use Rattle.dl_rows.specs.declared.reader.Fed.{Fed}
 use Rattle.dl_rows.specs.declared.reader.HeaderStop.{HeaderStop}
 use Rattle.dl_rows.specs.declared.reader.Reader.{Reader}
-use Rattle.dl_rows.specs.declared.reader.State.TheVariants as state
+use Rattle.dl_rows.specs.declared.reader.UnitStage.TheVariants as state
 use Rattle.dl_rows.specs.declared.reader.Event.{Event}
 use Rattle.dl_rows.specs.declared.reader.Event.TheVariants as event
 use Rattle.dl_rows.specs.declared.row.Row.{Row}

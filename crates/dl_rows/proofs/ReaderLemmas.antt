@@ -14,8 +14,8 @@ use Rattle.dl_head.proofs.HeaderCells.{header_holds_its_cells}
 use Rattle.dl_head.proofs.HeaderLaws.{found_is_header, header_is_not_foreign}
 use Rattle.dl_rows.specs.declared.reader.Finish.{Finish}
 use Rattle.dl_rows.specs.declared.reader.Finish.TheVariants as finish
-use Rattle.dl_rows.specs.declared.reader.State.{State}
-use Rattle.dl_rows.specs.declared.reader.State.TheVariants as state
+use Rattle.dl_rows.specs.declared.reader.UnitStage.{UnitStage}
+use Rattle.dl_rows.specs.declared.reader.UnitStage.TheVariants as state
 use Rattle.dl_rows.specs.declared.unit_body.BodyState.{BodyState}
 use Rattle.dl_rows.specs.declared.unit_body.BodyState.TheVariants as body
 use Rattle.dl_rows.specs.declared.unit_body.UnitBody.{UnitBody}
@@ -62,7 +62,7 @@ cells_here dialect h s b is =
 
 module _ (dialect : Dialect) (b : List ℕ) where
   -- no byte after the unit is taken
-  pub within_here : (s : State) → StandsAt dialect s b → WithinUnit dialect b
+  pub within_here : (s : UnitStage) → StandsAt dialect s b → WithinUnit dialect b
   within_here (state.InHeader head) s = λ n len. s.stands.within n
       (ap (λ (d : Dialect). unit_len d b) s.same_dialect ∙ len)
   within_here (state.StoppedInHeader stop) s = s.in_unit

@@ -11,8 +11,8 @@ use Rattle.dl_head.specs.Header.{IsHeader, header_in, unit_len}
 use Rattle.dl_head.specs.Reading.{Answers}
 use Rattle.dl_head.specs.Standing.{StandsFor as HeadStands}
 use Rattle.dl_rows.specs.declared.reader.HeaderStop.{HeaderStop}
-use Rattle.dl_rows.specs.declared.reader.State.{State}
-use Rattle.dl_rows.specs.declared.reader.State.TheVariants as state
+use Rattle.dl_rows.specs.declared.reader.UnitStage.{UnitStage}
+use Rattle.dl_rows.specs.declared.reader.UnitStage.TheVariants as state
 use Rattle.dl_rows.specs.Reading.{WithinUnit}
 use Rattle.dl_rows.specs.Refusal.{Refused}
 use Rattle.dl_rows.specs.UnitBodies.{InForeign, BodyStands, taken_in_body}
@@ -36,20 +36,20 @@ pub record StoppedInHeader (dialect : Dialect) (stop : HeaderStop) (b : List ℕ
   pub cells : stop.cells ≡ min (cells dialect b) (2 ^ 64 - 1)
 
 -- in this state a reader has taken the bytes b
-abbrev pub StandsAt : Dialect → State → List ℕ → Type 0
+abbrev pub StandsAt : Dialect → UnitStage → List ℕ → Type 0
 StandsAt dialect (state.InHeader head) b = InHeader dialect head b
 StandsAt dialect (state.StoppedInHeader stop) b = StoppedInHeader dialect stop b
 StandsAt dialect (state.Foreign bytes) b = (version : ℕ) × InForeign dialect version bytes b
 StandsAt dialect (state.AfterHeader h body) b = BodyStands dialect h body b
 
 -- how many bytes were taken
-abbrev pub taken_in : State → ℕ
+abbrev pub taken_in : UnitStage → ℕ
 taken_in (state.InHeader head) = head.taken
 taken_in (state.StoppedInHeader stop) = stop.taken
 taken_in (state.Foreign bytes) = bytes.taken
 taken_in (state.AfterHeader h body) = taken_in_body body
 
-abbrev pub is_in_header : State → Bool
+abbrev pub is_in_header : UnitStage → Bool
 is_in_header (state.InHeader head) = true
 is_in_header other = false
 
@@ -57,7 +57,7 @@ is_in_header other = false
 abbrev pub GoesOn : HeadReader → Type 0
 GoesOn head = (b : List ℕ) × HeadStands head b × Answers head.dialect b answer.More
 
-abbrev pub IsBegun : State → Type 0
+abbrev pub IsBegun : UnitStage → Type 0
 IsBegun (state.InHeader head) = GoesOn head
 IsBegun other = Unit {0}
 

@@ -72,7 +72,7 @@ struct HeaderStop {
 
 /// Where a reader is in its unit.
 #[derive(Drop)]
-enum State {
+enum UnitStage {
     /// The header isn't complete, and no version that isn't read is.
     InHeader(HeadReader),
     /// A fault was answered in the header.
@@ -88,7 +88,7 @@ enum State {
 pub struct Reader {
     alloc: Global,
     dialect: Dialect,
-    state: State,
+    state: UnitStage,
     ghost begun: { ∥ IsBegun state ∥₁ },
 }
 
@@ -118,7 +118,7 @@ impl Reader {
         Reader {
             alloc,
             dialect,
-            state: State::InHeader(HeadReader::new(alloc, dialect)),
+            state: UnitStage::InHeader(HeadReader::new(alloc, dialect)),
         }
     }
 
@@ -149,10 +149,10 @@ impl Reader {
         ensures refused { IfOk result (λ fed. fed.event ≡ Event.NoMemory → WasRefused SystemRefuses) }
     {
         match &mut self.state {
-            State::InHeader(_) => self.feed_head(piece),
-            State::StoppedInHeader(stop) => Err(stop.fault),
-            State::Foreign(bytes) => Ok(bytes.pass_over(piece)),
-            State::AfterHeader(header, body) => {
+            UnitStage::InHeader(_) => self.feed_head(piece),
+            UnitStage::StoppedInHeader(stop) => Err(stop.fault),
+            UnitStage::Foreign(bytes) => Ok(bytes.pass_over(piece)),
+            UnitStage::AfterHeader(header, body) => {
                 body.feed(self.dialect, header.params(), piece, sink)
             }
         }
@@ -162,7 +162,7 @@ impl Reader {
     pub fn header(&self) -> Option<&Header>
         ensures { HeaderIs self.now (option_copied result) }
     {
-        let State::AfterHeader(header, _) = &self.state else {
+        let UnitStage::AfterHeader(header, _) = &self.state else {
             return None;
         };
         Some(header)
@@ -178,8 +178,8 @@ impl Reader {
             state,
         } = self;
         match state {
-            State::AfterHeader(header, _) => Some(header),
-            State::InHeader(_) | State::StoppedInHeader(_) | State::Foreign(_) => None,
+            UnitStage::AfterHeader(header, _) => Some(header),
+            UnitStage::InHeader(_) | UnitStage::StoppedInHeader(_) | UnitStage::Foreign(_) => None,
         }
     }
 
@@ -191,10 +191,10 @@ impl Reader {
             → result ≤ n }
     {
         match &self.state {
-            State::InHeader(head) => head.taken(),
-            State::StoppedInHeader(stop) => stop.taken,
-            State::Foreign(bytes) => bytes.taken,
-            State::AfterHeader(_, body) => body.taken(),
+            UnitStage::InHeader(head) => head.taken(),
+            UnitStage::StoppedInHeader(stop) => stop.taken,
+            UnitStage::Foreign(bytes) => bytes.taken,
+            UnitStage::AfterHeader(_, body) => body.taken(),
         }
     }
 
@@ -204,10 +204,10 @@ impl Reader {
         ensures { (b : List ℕ) → StandsFor self.now b → result ≡ unit_len self.now.dialect b }
     {
         match &self.state {
-            State::InHeader(head) => head.unit_len(),
-            State::StoppedInHeader(stop) => stop.unit_len,
-            State::Foreign(bytes) => Some(bytes.unit_len()),
-            State::AfterHeader(_, body) => Some(body.unit_len()),
+            UnitStage::InHeader(head) => head.unit_len(),
+            UnitStage::StoppedInHeader(stop) => stop.unit_len,
+            UnitStage::Foreign(bytes) => Some(bytes.unit_len()),
+            UnitStage::AfterHeader(_, body) => Some(body.unit_len()),
         }
     }
 
@@ -217,10 +217,10 @@ impl Reader {
         ensures { (b : List ℕ) → StandsFor self.now b → result ≡ min (cells self.now.dialect b) (2 ^ 64 - 1) }
     {
         match &self.state {
-            State::InHeader(head) => head.cells(),
-            State::StoppedInHeader(stop) => stop.cells,
-            State::Foreign(_) => 0,
-            State::AfterHeader(header, _) => header.cells(),
+            UnitStage::InHeader(head) => head.cells(),
+            UnitStage::StoppedInHeader(stop) => stop.cells,
+            UnitStage::Foreign(_) => 0,
+            UnitStage::AfterHeader(header, _) => header.cells(),
         }
     }
 
@@ -229,8 +229,8 @@ impl Reader {
         ensures { (b : List ℕ) → StandsFor self.now b → result ≡ ends_open (unit_rows self.now.dialect b) }
     {
         match &self.state {
-            State::InHeader(_) | State::StoppedInHeader(_) | State::Foreign(_) => false,
-            State::AfterHeader(_, body) => body.in_sequence(),
+            UnitStage::InHeader(_) | UnitStage::StoppedInHeader(_) | UnitStage::Foreign(_) => false,
+            UnitStage::AfterHeader(_, body) => body.in_sequence(),
         }
     }
 
@@ -239,10 +239,10 @@ impl Reader {
         ensures { (b : List ℕ) → StandsFor self.now b → FinishIs self.now.dialect b result }
     {
         match &self.state {
-            State::InHeader(head) => finish_in_header(head),
-            State::StoppedInHeader(stop) => Err(stop.fault),
-            State::Foreign(bytes) => bytes.finish(),
-            State::AfterHeader(_, body) => body.finish(),
+            UnitStage::InHeader(head) => finish_in_header(head),
+            UnitStage::StoppedInHeader(stop) => Err(stop.fault),
+            UnitStage::Foreign(bytes) => bytes.finish(),
+            UnitStage::AfterHeader(_, body) => body.finish(),
         }
     }
 
@@ -258,7 +258,7 @@ impl Reader {
         ensures dialect { self.new.dialect ≡ self.old.dialect }
         ensures refused { IfOk result (λ fed. fed.event ≡ Event.NoMemory → WasRefused SystemRefuses) }
     {
-        let State::InHeader(head) = &mut self.state else {
+        let UnitStage::InHeader(head) = &mut self.state else {
             unreachable!()
         };
         let (used, step) = head.offer(piece);
@@ -266,7 +266,7 @@ impl Reader {
             HeadStep::More => Event::More,
             HeadStep::NoMemory => Event::NoMemory,
             HeadStep::Foreign(version) => {
-                self.state = State::Foreign(bytes_of(head));
+                self.state = UnitStage::Foreign(bytes_of(head));
                 Event::Foreign(version)
             }
             HeadStep::Done => {
@@ -275,7 +275,7 @@ impl Reader {
                 Event::Header
             }
             HeadStep::Fault(fault) => {
-                self.state = State::StoppedInHeader(HeaderStop {
+                self.state = UnitStage::StoppedInHeader(HeaderStop {
                     fault,
                     taken: head.taken(),
                     unit_len: head.unit_len(),
@@ -305,7 +305,7 @@ fn bytes_of(head: &HeadReader) -> UnitBytes
 }
 
 /// The state after the header that this reader has read.
-fn after_header(head: HeadReader) -> State
+fn after_header(head: HeadReader) -> UnitStage
     requires { ∥ HasHeader head ∥₁ }
     ensures stands { (b : List ℕ) → HeadStands head b → AllBytes b → StandsAt head.dialect result b }
     ensures begun { ∥ IsBegun result ∥₁ }
@@ -315,7 +315,7 @@ fn after_header(head: HeadReader) -> State
         unreachable!()
     };
     let program = Program::new(header.params().default_is_stmt != 0);
-    State::AfterHeader(header, BodyState::InProgram(UnitBody { program, bytes }))
+    UnitStage::AfterHeader(header, BodyState::InProgram(UnitBody { program, bytes }))
 }
 
 /// How a unit stands whose header isn't complete, where no more bytes come.

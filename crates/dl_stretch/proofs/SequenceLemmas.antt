@@ -17,7 +17,7 @@ use Rattle.dl_look.specs.Answer.{place_of, is_at_most, is_below, is_rising, firs
 use Rattle.dl_look.proofs.MoreRows.{last_place-push, is_rising-push}
 use Rattle.dl_look.proofs.PlaceOrder.{not_between, not_below-at_most}
 use Rattle.dl_stretch.specs.declared.run.Run.{Run}
-use Rattle.dl_stretch.specs.declared.sequence.State.TheVariants.{Between, Passed, Rising}
+use Rattle.dl_stretch.specs.declared.sequence.RowStage.TheVariants.{Between, Passed, Rising}
 use Rattle.dl_stretch.specs.Runs.{place_at, first_address}
 use Rattle.dl_stretch.specs.RowRuns.{AreRunsOf}
 use Rattle.dl_stretch.specs.Sequences.{Keeps, AreKept, TellFrom, TellsFirst}

@@ -4,20 +4,20 @@ use Rattle.dl_rows.specs.declared.row.Row.{Row}
 use Rattle.dl_look.specs.declared.place.Place.{Place}
 use Rattle.dl_look.specs.Answer.{is_at_most, is_rising, first_place, last_place, covers}
 use Rattle.dl_stretch.specs.declared.run.Run.{Run}
-use Rattle.dl_stretch.specs.declared.sequence.State.{State}
-use Rattle.dl_stretch.specs.declared.sequence.State.TheVariants.{Between, Passed, Rising}
+use Rattle.dl_stretch.specs.declared.sequence.RowStage.{RowStage}
+use Rattle.dl_stretch.specs.declared.sequence.RowStage.TheVariants.{Between, Passed, Rising}
 use Rattle.dl_stretch.specs.Runs.{place_at, run_told_at}
 use Rattle.dl_stretch.specs.RowRuns.{StartsRise, AreRunsOf}
 
 -- the rows since the last end row
-abbrev pub Keeps : State → List Run → List Row → Type 0
+abbrev pub Keeps : RowStage → List Run → List Row → Type 0
 Keeps Between runs rows = (rows ≡ []) × (runs ≡ [])
 Keeps Passed runs rows = is_rising rows ≡ false
 Keeps (Rising first last) runs rows =
     (is_rising rows ≡ true) × (0 < length rows) × (first ≡ first_place rows) × (last ≡ last_place rows)
     × AreRunsOf rows runs
 
-abbrev pub AreKept : State → List Run → Type 0
+abbrev pub AreKept : RowStage → List Run → Type 0
 AreKept state runs = (rows : List Row) × Keeps state runs rows
 
 -- from the first place on something is told

@@ -18,14 +18,14 @@ pub struct SequenceRuns {
     runs: Vec<Run>,
     /// How many stand before those of the current sequence.
     begun: usize,
-    state: State,
+    state: RowStage,
     ghost within: { begun ≤ length runs.items },
     ghost kept: { ∥ AreKept state (drop begun runs.items) ∥₁ },
 }
 
 /// Where the rows are.
 #[derive(Clone, Copy)]
-enum State {
+enum RowStage {
     /// The next row is the first of a sequence.
     Between,
     /// The current sequence isn't rising.
@@ -57,7 +57,7 @@ impl SequenceRuns {
         SequenceRuns {
             runs: Vec::new(alloc),
             begun: 0,
-            state: State::Between,
+            state: RowStage::Between,
         }
     }
 
@@ -73,22 +73,22 @@ impl SequenceRuns {
     {
         let place = Place::of(row);
         match self.state {
-            State::Between => {
+            RowStage::Between => {
                 push_row(memory, &mut self.runs, self.begun, row)?;
-                self.state = State::Rising {
+                self.state = RowStage::Rising {
                     first: place,
                     last: place,
                 };
             }
-            State::Rising { first, last } => {
+            RowStage::Rising { first, last } => {
                 if is_at_most(last, place) {
                     push_row(memory, &mut self.runs, self.begun, row)?;
-                    self.state = State::Rising { first, last: place };
+                    self.state = RowStage::Rising { first, last: place };
                 } else {
-                    self.state = State::Passed;
+                    self.state = RowStage::Passed;
                 }
             }
-            State::Passed => {}
+            RowStage::Passed => {}
         }
         Ok(())
     }
@@ -100,15 +100,15 @@ impl SequenceRuns {
             → place_of r ≡ end → TellsFirst result (current self.now) rows r }
     {
         match self.state {
-            State::Rising { first, last } => {
+            RowStage::Rising { first, last } => {
                 if is_at_most(last, end) {
                     Some(first)
                 } else {
                     None
                 }
             }
-            State::Between => None,
-            State::Passed => None,
+            RowStage::Between => None,
+            RowStage::Passed => None,
         }
     }
 
@@ -141,7 +141,7 @@ impl SequenceRuns {
         ensures keeps { Keeps self.new.state (current self.new) [] }
     {
         self.begun = self.runs.len();
-        self.state = State::Between;
+        self.state = RowStage::Between;
     }
 
     /// Forgets all runs but the first ones, as many as are said, those of the current sequence in any case.
@@ -154,7 +154,7 @@ impl SequenceRuns {
     {
         self.runs.truncate(len);
         self.begun = len;
-        self.state = State::Between;
+        self.state = RowStage::Between;
     }
 
     /// Forgets the runs of the current sequence, and gives the files of the runs from `from` on the numbers that the list

@@ -7,8 +7,8 @@ use dl_cmd::Job;
 use dl_member::{MemberFault, MemberLines, WalkFault, split_member, walk_members};
 use dl_memory::System;
 use dl_open::{FileSource, Shown};
-use dl_run::RunFault;
-use dl_work::Stop;
+use dl_program::Stop;
+use dl_sections::RunFault;
 use std::io::Write;
 
 /// What stands at a path.

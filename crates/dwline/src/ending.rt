@@ -5,8 +5,8 @@ use dl_elf::ElfFault;
 use dl_index::IndexFault;
 use dl_member::MemberFault;
 use dl_open::{FileFault, Shown};
-use dl_run::RunFault;
-use dl_work::Stop;
+use dl_program::Stop;
+use dl_sections::RunFault;
 use std::alloc::AllocError;
 use std::io;
 use std::io::Write;
@@ -32,8 +32,8 @@ pub enum Ending<'a> {
 
 impl From<AllocError> for Ending<'_> {
     ghost use Rattle.std.specs.Prelude.{◌≡◌};
-    ghost use Rattle.dl_run.specs.declared.fault.RunFault.TheVariants as fault;
-    ghost use Rattle.dl_work.specs.declared.stop.Stop.TheVariants as stop;
+    ghost use Rattle.dl_sections.specs.declared.fault.RunFault.TheVariants as fault;
+    ghost use Rattle.dl_program.specs.declared.stop.Stop.TheVariants as stop;
     ghost use Rattle.dwline.specs.declared.ending.Ending.TheVariants as ending;
 
     ghost from_gives = { λ error given. given ≡ ending.Stop (stop.Run fault.NoMemory) };
@@ -47,8 +47,8 @@ impl From<clap::Error> for Ending<'_> {
     ghost use Rattle.std.specs.Prelude.{◌≡◌};
     ghost use Rattle.clap.specs.Words.{kind_of};
     ghost use Rattle.clap.specs.declared.error.kind.ErrorKind.TheVariants.{OutOfMemory};
-    ghost use Rattle.dl_run.specs.declared.fault.RunFault.TheVariants as fault;
-    ghost use Rattle.dl_work.specs.declared.stop.Stop.TheVariants as stop;
+    ghost use Rattle.dl_sections.specs.declared.fault.RunFault.TheVariants as fault;
+    ghost use Rattle.dl_program.specs.declared.stop.Stop.TheVariants as stop;
     ghost use Rattle.dwline.specs.declared.ending.Ending.TheVariants as ending;
 
     /// Want of memory while the words are read is told as want of memory elsewhere is.

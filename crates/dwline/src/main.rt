@@ -20,7 +20,7 @@ use crate::several::{are_several, check_files};
 use crate::system_files::{SystemFile, SystemFiles};
 use dl_cmd::{FollowWords, Job, Words, read_words};
 use dl_member::{WithMember, open_member};
-use dl_work::{Stop, followed_path};
+use dl_program::{Stop, followed_path};
 use std::alloc::AllocError;
 use std::env;
 use std::io::ErrorKind;

@@ -2,12 +2,12 @@
 
 use crate::ending::Ending;
 use crate::indices::{list_index, write_index};
-use dl_addr::Found;
+use dl_addr::WhichFound;
 use dl_cmd::{AddrWords, IndexWords, Job};
 use dl_memory::System;
 use dl_open::{FileSource, FileUnits, units_not_read};
-use dl_run::RunFault;
-use dl_work::{DamageLines, Stop, file_units, locate, looked_into, work};
+use dl_program::{DamageLines, Stop, file_units, locate, looked_into, work};
+use dl_sections::RunFault;
 
 /// Says of the file at this path which units aren't read, where there is one.
 fn tell_not_read<F: FileSource>(rt: &HostRuntime, files: &F, path: Option<&str>, read: FileUnits) {
@@ -52,12 +52,12 @@ fn run_addr<'a, F: FileSource>(
         &mut rt.stdin(),
         &mut rt.stdout(),
     )?;
-    if located.found == Found::NotAll {
+    if located.found == WhichFound::NotAll {
         tell_not_read(rt, files, path, read);
     }
     match located.told()? {
-        Found::All => Ok(0),
-        Found::NotAll => Ok(1),
+        WhichFound::All => Ok(0),
+        WhichFound::NotAll => Ok(1),
     }
 }
 

@@ -3,7 +3,7 @@
 use dl_elf::ReadAt;
 use dl_memory::Memory;
 use dl_open::FileSource;
-use dl_run::{RunFault, read_strings};
+use dl_sections::{RunFault, read_strings};
 use std::fs::File;
 use std::io::ErrorKind;
 use std::os::unix::fs::PermissionsExt;

@@ -2,7 +2,7 @@
 
 use crate::sample::{BASE, BUILD_ID, index};
 use dl_elf::{Range, ReadAt};
-use dl_index::{Found, IndexRef, open};
+use dl_index::{FoundLine, IndexRef, open};
 use dl_index_file::{FileFinder, FileFound, IndexFile, TextFault, is_index, open_index};
 use dl_memory::System;
 use std::io::Cursor;
@@ -28,7 +28,7 @@ fn is_text<S: ReadAt>(
 fn is_same<S: ReadAt>(
     file: &IndexFile<'_, S>,
     found: &FileFound,
-    told: &Found<'_>,
+    told: &FoundLine<'_>,
     read: &mut Vec<u8>,
 ) -> Result<bool, TextFault> {
     let texts = &found.texts;

@@ -1,7 +1,7 @@
 //! What an index tells of addresses, and its list of stretches.
 
 use crate::sample::{ADDRESSES, INDEX, ROWS, Row};
-use dl_index::{Found, IndexRef, Layout, open, open_unchecked, reopen};
+use dl_index::{FoundLine, IndexRef, Layout, open, open_unchecked, reopen};
 
 /// Whether a text is the wanted one; an empty one isn't there.
 fn is_text(text: Option<&[u8]>, wanted: &[u8]) -> bool {
@@ -12,7 +12,7 @@ fn is_text(text: Option<&[u8]>, wanted: &[u8]) -> bool {
 }
 
 /// Whether what is told is what a row says.
-fn is_told(found: &Found<'_>, row: &Row) -> bool {
+fn is_told(found: &FoundLine<'_>, row: &Row) -> bool {
     let texts = &found.texts;
     is_text(texts.first, row.texts.0)
         && is_text(texts.second, row.texts.1)
@@ -35,7 +35,7 @@ fn all_told(index: &IndexRef<'_>, rows: &[Row]) -> bool {
 }
 
 /// Whether what is told of an address is what a row says; None where nothing is told.
-fn is_row(found: Option<Found<'_>>, row: &Row) -> bool {
+fn is_row(found: Option<FoundLine<'_>>, row: &Row) -> bool {
     match found {
         Some(found) => is_told(&found, row),
         None => row.line == 0,

@@ -1,5 +1,5 @@
 //! A row: a unit, and what its first entry says.
-use dl_info::{Abbreviations, Answer, Entry, Text, UnitLength, first_entry, unit_length};
+use dl_info::{Abbreviations, Answer, FirstEntry, Text, UnitLength, first_entry, unit_length};
 use dl_num::Order;
 use std::alloc::Global;
 
@@ -38,7 +38,7 @@ fn is_same_directory(text: Option<Text<'_>>, other: Option<Text<'_>>) -> bool {
 }
 
 /// Whether the entry says what the row does.
-fn is_entry(row: &Row<'_>, entry: &Entry<'_>) -> bool {
+fn is_entry(row: &Row<'_>, entry: &FirstEntry<'_>) -> bool {
     entry.stmt_list == row.stmt_list
         && entry.str_offsets_base == row.str_offsets_base
         && is_same_directory(entry.comp_dir, row.comp_dir)

@@ -1,5 +1,5 @@
 //! Archives in pieces, which stand one after the other. Their members are `one.o`, an ELF file of 32 bits with a line table, made by hand as
-//! those of work_tests are, `notes.txt` and `bare.o`, an ELF file without sections.
+//! those of program_tests are, `notes.txt` and `bare.o`, an ELF file without sections.
 
 use arrayvec::ArrayVec;
 

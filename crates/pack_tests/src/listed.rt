@@ -1,6 +1,6 @@
 //! Whether an index lists the stretches that it was made of.
 
-use dl_index::{Found, IndexRef, PathTexts};
+use dl_index::{FoundLine, IndexRef, PathTexts};
 use dl_pack::Names;
 use dl_stretch::{Stretch, Told};
 
@@ -23,7 +23,7 @@ fn are_texts(names: &Names, numbers: [u64; 3], texts: &PathTexts<'_>) -> bool {
 }
 
 /// Whether the file and the row are those that a stretch tells.
-fn is_found(names: &Names, told: &Told, found: &Found<'_>) -> bool {
+fn is_found(names: &Names, told: &Told, found: &FoundLine<'_>) -> bool {
     let has_file = match names.file(told.file) {
         Some(file) => file.unit == found.unit && are_texts(names, file.texts, &found.texts),
         None => false,

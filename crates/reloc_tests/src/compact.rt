@@ -2,7 +2,7 @@
 use crate::assembled::{AARCH64_BIG, I386, MIPS, RISCV32, RISCV64, S390X, X86_64};
 use crate::row::{Row, compact_fault, is_relocated_compactly};
 use dl_num::Order;
-use dl_reloc::{Class, Form, RelocationFault};
+use dl_reloc::{AddendPlace, Class, RelocationFault};
 use std::test::Fail;
 
 const ASSEMBLED: &[Row<'static>] = &[
@@ -73,7 +73,7 @@ const FAR: Row<'static> = Row {
     machine: 3,
     class: Class::Bits32,
     order: Order::Little,
-    form: Form::Rela,
+    form: AddendPlace::Rela,
     entries: &[
         0x24, 0xcf, 0x02, 0x01, 0x01, 0x07, 0xc4, 0xfd, 0xff, 0xff, 0x7f, 0x77, 0x47, 0x7f, 0x7f,
         0x02, 0x27, 0x01, 0x01, 0xff, 0xff, 0xff, 0xff, 0x07,

@@ -1,7 +1,7 @@
 //! The faults of relocations.
 use crate::row::{Row, fault, is_relocated};
 use dl_num::Order;
-use dl_reloc::{Class, Form, RelocationFault};
+use dl_reloc::{AddendPlace, Class, RelocationFault};
 use std::test::Fail;
 
 /// Symbols 0 and 1 of a 32-bit file, both of the value 0.
@@ -13,7 +13,7 @@ const I386: Row<'static> = Row {
     machine: 3,
     class: Class::Bits32,
     order: Order::Little,
-    form: Form::Rel,
+    form: AddendPlace::Rel,
     entries: &[1, 0, 0, 0, 1, 1, 0, 0],
     symbols: TWO_SYMBOLS,
     bytes: &[1; 6],

@@ -2,7 +2,7 @@
 use dl_memory::System;
 use dl_num::Order;
 use dl_reloc::{
-    Class, Form, RelocationFault, Target, push_symbol_values, relocate, relocate_compact,
+    AddendPlace, Class, RelocationFault, Target, push_symbol_values, relocate, relocate_compact,
 };
 use std::alloc::Global;
 use std::test::Fail;
@@ -14,7 +14,7 @@ pub struct Row<'a> {
     pub machine: u64,
     pub class: Class,
     pub order: Order,
-    pub form: Form,
+    pub form: AddendPlace,
     pub entries: &'a [u8],
     pub symbols: &'a [u8],
     pub bytes: &'a [u8],

@@ -2,7 +2,7 @@
 use crate::assembled::ROWS;
 use crate::row::{Row, is_relocated};
 use dl_num::Order;
-use dl_reloc::{Class, Form};
+use dl_reloc::{AddendPlace, Class};
 use std::test::Fail;
 
 #[test]
@@ -25,7 +25,7 @@ const LOONGARCH: Row<'static> = Row {
     machine: 258,
     class: Class::Bits64,
     order: Order::Little,
-    form: Form::Rela,
+    form: AddendPlace::Rela,
     entries: &[],
     symbols: SYMBOLS,
     bytes: &[0xff, 0xff, 0xff, 0xff, 0xff, 0xff, 0xff, 0xff, 0xff],
@@ -222,7 +222,7 @@ fn part_of_an_entry(rt: HostRuntime) -> Result<(), Fail> {
     let row = Row {
         machine: 3,
         class: Class::Bits32,
-        form: Form::Rel,
+        form: AddendPlace::Rel,
         entries: &[0, 0, 0, 0, 1, 0, 0, 0, 9, 9, 9, 9, 1, 1, 1],
         bytes: &[1, 2, 3, 4],
         relocated: &[1, 2, 3, 4],

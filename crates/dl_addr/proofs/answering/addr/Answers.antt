@@ -1,10 +1,10 @@
 use Rattle.std.proofs.Common.{◌∙◌, sym, subst}
 use Rattle.std.proofs.KnownBytes.{Appends-nil}
-use Rattle.dl_run.specs.Commands.{strings_in}
+use Rattle.dl_sections.specs.Commands.{strings_in}
 use Rattle.dl_addr.specs.Knowing.{Knows}
 use Rattle.dl_addr.proofs.AnsweringLemmas.{is_told}
-use Rattle.dl_run.proofs.BlameLemmas.{blames_where}
-use Rattle.dl_run.proofs.EndLemmas.{only_over}
+use Rattle.dl_sections.proofs.BlameLemmas.{blames_where}
+use Rattle.dl_sections.proofs.EndLemmas.{only_over}
 use Rattle.dl_addr.proofs.BlameLemmas.{never_read, told_over, told_read, told_writer}
 use Rattle.dl_addr.proofs.answering.addr.Goals as goal
 

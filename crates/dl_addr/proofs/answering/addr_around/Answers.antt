@@ -1,10 +1,10 @@
 use Rattle.std.proofs.Common.{◌∙◌, subst, sym}
 use Rattle.std.proofs.KnownBytes.{Appends-nil}
-use Rattle.dl_run.specs.Commands.{strings_in}
+use Rattle.dl_sections.specs.Commands.{strings_in}
 use Rattle.dl_addr.specs.Knowing.{Knows}
 use Rattle.dl_addr.proofs.AroundAnswers.{is_told_around}
-use Rattle.dl_run.proofs.BlameLemmas.{blames_where}
-use Rattle.dl_run.proofs.EndLemmas.{only_where}
+use Rattle.dl_sections.proofs.BlameLemmas.{blames_where}
+use Rattle.dl_sections.proofs.EndLemmas.{only_where}
 use Rattle.dl_addr.proofs.BlameLemmas.{never_read, told_around_over, told_around_read, told_around_writer}
 use Rattle.dl_addr.proofs.answering.addr_around.Goals as goal
 

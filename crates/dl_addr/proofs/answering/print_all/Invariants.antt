@@ -1,7 +1,7 @@
 -- The lines so far are printed.
 use Rattle.std.proofs.Common.{◌≡◌, ◌-◌, ◌≤◌, ℕ, List, Option, length, map, take}
 use Rattle.dl_print.specs.Output.{PrintsMore}
-use Rattle.dl_run.specs.Section.{Visit}
+use Rattle.dl_sections.specs.Section.{Visit}
 use Rattle.dl_addr.specs.declared.locating.Locator.{Locator}
 use Rattle.dl_look.specs.Asked.{looked_up}
 use Rattle.dl_addr.specs.Locating.{IsMadeFor, Locating}

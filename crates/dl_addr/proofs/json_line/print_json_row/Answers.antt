@@ -1,7 +1,7 @@
 use Rattle.std.proofs.Common.{◌++◌, codes}
 use Rattle.std.proofs.lemmas.Result.{err_from_is_err_and}
 use Rattle.dl_print.specs.Digits.{hexadecimal}
-use Rattle.dl_addr.specs.declared.style.Form.TheVariants.{Json}
+use Rattle.dl_addr.specs.declared.style.AnswerForm.TheVariants.{Json}
 use Rattle.dl_addr.specs.Answers.{answer_seen}
 use Rattle.dl_addr.specs.Json.{json_is_stmt, json_position}
 use Rattle.dl_addr.specs.Texts.{path_kept}

@@ -2,15 +2,15 @@ use Rattle.std.proofs.Common.{◌≡◌, ℕ, List, Option, [], ◌++◌, refl, 
 use Rattle.std.specs.Option.{option_copied}
 use Rattle.std.specs.Prelude.{unwrap_or}
 use Rattle.dl_print.specs.Output.{Prints}
-use Rattle.dl_addr.specs.declared.style.Form.{Form}
-use Rattle.dl_addr.specs.declared.style.Form.TheVariants.{Location, AddressAndLocation, Json}
+use Rattle.dl_addr.specs.declared.style.AnswerForm.{AnswerForm}
+use Rattle.dl_addr.specs.declared.style.AnswerForm.TheVariants.{Location, AddressAndLocation, Json}
 use Rattle.dl_path.specs.Paths.{slash_after}
 use Rattle.dl_addr.specs.Printing.{inner_text}
 use Rattle.dl_path.proofs.FrontLemmas.{json_nothing}
 use Rattle.dl_path.proofs.PrintLemmas.{prints_same}
 use Rattle.dl_addr.proofs.path_text.print_directory.Goals as goal
 
-no_text : (form : Form) → [] ≡ inner_text form [] ++ slash_after []
+no_text : (form : AnswerForm) → [] ≡ inner_text form [] ++ slash_after []
 no_text Location = refl
 no_text AddressAndLocation = refl
 no_text Json = sym (ap (λ (w : List ℕ). w ++ []) json_nothing)

@@ -5,8 +5,8 @@ use Rattle.std.proofs.lemmas.Result.{err_from_is_err_and}
 use Rattle.json.specs.Print.{escape}
 use Rattle.std.specs.Str.Lossy.{utf8_lossy}
 use Rattle.dl_addr.specs.declared.kept.KeptPath.{KeptPath}
-use Rattle.dl_addr.specs.declared.style.Form.{Form}
-use Rattle.dl_addr.specs.declared.style.Form.TheVariants.{Location, AddressAndLocation, Json}
+use Rattle.dl_addr.specs.declared.style.AnswerForm.{AnswerForm}
+use Rattle.dl_addr.specs.declared.style.AnswerForm.TheVariants.{Location, AddressAndLocation, Json}
 use Rattle.dl_path.specs.Paths.{slash_after}
 use Rattle.dl_addr.specs.Printing.{inner_text}
 use Rattle.dl_path.specs.Shown.{shown}
@@ -17,7 +17,7 @@ use Rattle.dl_path.proofs.PrintLemmas.{loses_front, loses_same, loses_then, more
 use Rattle.dl_path.proofs.ShownLemmas.{shown_at_slash}
 use Rattle.dl_addr.proofs.path_text.print_parts.Goals as goal
 
-abbrev folder : Form → List ℕ → List ℕ
+abbrev folder : AnswerForm → List ℕ → List ℕ
 folder form directory = inner_text form directory ++ slash_after directory
 
 abbrev base_of : KeptPath → List ℕ
@@ -26,7 +26,7 @@ base_of p = text_or_none p.texts.now p.file.now.base
 abbrev directory_of : KeptPath → List ℕ
 directory_of p = text_or_none p.texts.now p.file.now.directory
 
-apart : (form : Form) (p : KeptPath) (name : List ℕ)
+apart : (form : AnswerForm) (p : KeptPath) (name : List ℕ)
     → inner_text form (path_in_table p name)
     ≡ (folder form (base_of p) ++ folder form (directory_of p)) ++ inner_text form name
 apart Location p name = over_parts shown refl shown_at_slash (base_of p) (directory_of p) name
@@ -35,7 +35,7 @@ apart Json p name =
     over_parts (λ w. escape (utf8_lossy w)) json_nothing json_at_slash (base_of p) (directory_of p) name
 
 -- by what was looked up
-apart_by : (form : Form) (p : KeptPath) (name : List ℕ) (base directory : Option (List ℕ))
+apart_by : (form : AnswerForm) (p : KeptPath) (name : List ℕ) (base directory : Option (List ℕ))
     → base ≡ option_and_then (text_at p.texts.now) p.file.now.base
     → directory ≡ option_and_then (text_at p.texts.now) p.file.now.directory
     → (folder form (unwrap_or base []) ++ folder form (unwrap_or directory [])) ++ inner_text form name

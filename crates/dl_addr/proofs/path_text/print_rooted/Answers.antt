@@ -5,8 +5,8 @@ use Rattle.std.specs.Str.Lossy.{utf8_lossy}
 use Rattle.std.proofs.lemmas.Result.{err_from_is_err_and}
 use Rattle.json.specs.Print.{escape}
 use Rattle.dl_addr.specs.declared.kept.KeptPath.{KeptPath}
-use Rattle.dl_addr.specs.declared.style.Form.{Form}
-use Rattle.dl_addr.specs.declared.style.Form.TheVariants.{Location, AddressAndLocation, Json}
+use Rattle.dl_addr.specs.declared.style.AnswerForm.{AnswerForm}
+use Rattle.dl_addr.specs.declared.style.AnswerForm.TheVariants.{Location, AddressAndLocation, Json}
 use Rattle.dl_path.specs.Paths.{slash_after, under}
 use Rattle.dl_path.specs.Shown.{shown}
 use Rattle.dl_addr.specs.Printing.{inner_text}
@@ -18,14 +18,14 @@ use Rattle.dl_path.proofs.ShownLemmas.{shown_at_slash}
 use Rattle.dl_addr.proofs.path_text.print_rooted.Goals as goal
 
 -- a directory and what is in it, one after the other
-root_apart : (form : Form) (root path : List ℕ)
+root_apart : (form : AnswerForm) (root path : List ℕ)
     → inner_text form (under root path) ≡ (inner_text form root ++ slash_after root) ++ inner_text form path
 root_apart Location root path = apart shown refl shown_at_slash root path
 root_apart AddressAndLocation root path = apart shown refl shown_at_slash root path
 root_apart Json root path = apart (λ w. escape (utf8_lossy w)) json_nothing json_at_slash root path
 
 -- by what was looked up
-apart_by : (form : Form) (p : KeptPath) (name root : List ℕ) (kept : List ℕ) → Some root ≡ option_copied p.root
+apart_by : (form : AnswerForm) (p : KeptPath) (name root : List ℕ) (kept : List ℕ) → Some root ≡ option_copied p.root
     → kept ≡ root → (inner_text form kept ++ slash_after kept) ++ inner_text form (path_in_table p name)
     ≡ inner_text form (path_named p name)
 apart_by form p name root kept is same =

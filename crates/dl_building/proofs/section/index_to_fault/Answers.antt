@@ -1,6 +1,6 @@
 use Rattle.std.proofs.Common.{ℕ, Some, Ok, Err, refl, subst}
 use Rattle.dl_making.specs.Makes.{Makes}
-use Rattle.dl_run.specs.Commands.{strings_in}
+use Rattle.dl_sections.specs.Commands.{strings_in}
 use Rattle.dl_building.proofs.section.index_to_fault.Goals as goal
 
 pub returns-in-Ok : goal.returns-in-Ok

@@ -2,7 +2,7 @@ use Rattle.std.proofs.Common.{Err, rules, arith, refl, [], ◌<◌, ◌++◌, ap
 use Rattle.std.proofs.KnownBytes.{Consumes-nil, Consumes-trans}
 use Rattle.std.specs.Io.KnownBytes.{Consumes}
 use Rattle.std.proofs.lemmas.Result.{err_from_is_err_and}
-use Rattle.dl_run.proofs.BlameLemmas.{blames_next}
+use Rattle.dl_sections.proofs.BlameLemmas.{blames_next}
 use Rattle.dl_dialogue.proofs.BlameLemmas.{no_input}
 use Rattle.dl_dialogue.proofs.DialogueLemmas.{end_answers, fault_answers, nothing_of}
 use Rattle.dl_dialogue.specs.Faults.{TellFails}

@@ -2,7 +2,7 @@ use Rattle.std.proofs.Common.{◌≤◌, ◌++◌, ◌-◌, List, ℕ, arith, dr
 use Rattle.std.proofs.lemmas.List.{take_all}
 use Rattle.dl_head.specs.declared.dialect.Dialect.{Dialect}
 use Rattle.dl_forms.specs.Names.{RefusesCellFrom}
-use Rattle.dl_forms.specs.declared.state.State.TheVariants as state
+use Rattle.dl_forms.specs.declared.state.WalkStage.TheVariants as state
 use Rattle.dl_forms.specs.Standing.{Onward, StandsAt}
 use Rattle.dl_forms.proofs.WalkLemmas.{begins_none, body_ends, body_goes, further, wants_further}
 use Rattle.dl_forms.proofs.state.after_body.Goals as goal

@@ -1,12 +1,12 @@
 use Rattle.std.proofs.Common.{None, ap, ◌∙◌}
 use Rattle.std.proofs.KnownBytes.{Appends-nil}
 use Rattle.dl_print.specs.ValueText.{strings_of}
-use Rattle.dl_run.proofs.Names.{err_from_is_err_and}
-use Rattle.dl_run.specs.Commands.{strings_in}
+use Rattle.dl_sections.proofs.Names.{err_from_is_err_and}
+use Rattle.dl_sections.specs.Commands.{strings_in}
 use Rattle.dl_making.proofs.MakerLemmas.{begins}
 use Rattle.dl_making.proofs.MakingLemmas.{Knows, fails, makes, was_told, unmade}
-use Rattle.dl_run.proofs.BlameLemmas.{blames_where, same_answer}
-use Rattle.dl_run.proofs.EndLemmas.{only_left}
+use Rattle.dl_sections.proofs.BlameLemmas.{blames_where, same_answer}
+use Rattle.dl_sections.proofs.EndLemmas.{only_left}
 use Rattle.dl_making.proofs.BlameLemmas.{never_read}
 use Rattle.dl_making.proofs.making.make_index.Goals as goal
 

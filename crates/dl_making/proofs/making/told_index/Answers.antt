@@ -2,7 +2,7 @@ use Rattle.std.proofs.Common.{inl, inr, refl, ◌<◌, arith, ◌∙◌, ap, sym
 use Rattle.std.specs.List.{All}
 use Rattle.std.proofs.lemmas.List.{length-map, length-take}
 use Rattle.std.specs.Option.{option_and_then}
-use Rattle.dl_run.specs.RowsTold.{rows_after}
+use Rattle.dl_sections.specs.RowsTold.{rows_after}
 use Rattle.dl_stretch.specs.ToldUnits.{told_of_units}
 use Rattle.dl_pack.specs.IndexOf.{files_told, index_of}
 use Rattle.dl_pack.specs.Named.{named}

@@ -1,13 +1,13 @@
 use Rattle.std.proofs.Common.{None, ap, subst, sym, ◌∙◌}
 use Rattle.std.proofs.KnownBytes.{Appends-nil}
 use Rattle.dl_print.specs.ValueText.{strings_of}
-use Rattle.dl_run.specs.Commands.{strings_in}
+use Rattle.dl_sections.specs.Commands.{strings_in}
 use Rattle.dl_making.specs.Until.{MakesUntilAround, is_refused}
 use Rattle.dl_making.proofs.MakerLemmas.{begins}
 use Rattle.dl_making.proofs.MakingLemmas.{Knows}
 use Rattle.dl_making.proofs.UntilLemmas.{told_until_around, until_around, refused_by, told_index_is}
-use Rattle.dl_run.proofs.BlameLemmas.{blames_where}
-use Rattle.dl_run.proofs.EndLemmas.{only_where}
+use Rattle.dl_sections.proofs.BlameLemmas.{blames_where}
+use Rattle.dl_sections.proofs.EndLemmas.{only_where}
 use Rattle.dl_making.proofs.BlameLemmas.{never_read}
 use Rattle.dl_making.proofs.until.make_index_until_around.Goals as goal
 

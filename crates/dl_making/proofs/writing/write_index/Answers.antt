@@ -2,9 +2,9 @@ use Rattle.std.proofs.Common.{subst}
 use Rattle.std.specs.Io.KnownBytes.{Appends}
 use Rattle.std.proofs.lemmas.Result.{err_from_is_err_and}
 use Rattle.dl_print.specs.Output.{TellsOut}
-use Rattle.dl_run.specs.Commands.{strings_in}
+use Rattle.dl_sections.specs.Commands.{strings_in}
 use Rattle.dl_making.proofs.WritingLemmas.{keeps_same, lost, never_written, not_made, written}
-use Rattle.dl_run.proofs.BlameLemmas.{blames_where, same_answer}
+use Rattle.dl_sections.proofs.BlameLemmas.{blames_where, same_answer}
 use Rattle.dl_making.proofs.writing.write_index.Goals as goal
 
 pub returns-in_err-made-clause-ran : goal.returns-in_err-made-clause-ran

@@ -1,5 +1,5 @@
-use Rattle.dl_run.specs.Commands.{strings_in}
-use Rattle.dl_run.proofs.BlameLemmas.{blames_where}
+use Rattle.dl_sections.specs.Commands.{strings_in}
+use Rattle.dl_sections.proofs.BlameLemmas.{blames_where}
 use Rattle.dl_making.proofs.BlameLemmas.{made_over, made_read, never_until}
 use Rattle.dl_making.proofs.writing_until.write_index_until.Goals as goal
 

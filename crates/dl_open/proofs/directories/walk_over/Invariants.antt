@@ -4,7 +4,7 @@ use Rattle.std.specs.Io.KnownBytes.{Consumes}
 use Rattle.dl_dirs.specs.Standing.{Keeps, StandsFor}
 use Rattle.dl_file.specs.Faults.{FailsOnly}
 use Rattle.dl_file.specs.LineReader.{LineReaderFails, line_damage, line_remaining}
-use Rattle.dl_run.specs.declared.options.TheConstants.{SECTION_LIMIT}
+use Rattle.dl_sections.specs.declared.options.TheConstants.{SECTION_LIMIT}
 use Rattle.dl_open.proofs.directories.walk_over.Given as goal
 
 abbrev pub invariant-loop-walk : goal.invariant-loop-walk

@@ -1,6 +1,6 @@
 use Rattle.std.proofs.Common.{length, subst}
 use Rattle.dl_memory.specs.Refusals.{IsRefused}
-use Rattle.dl_run.specs.declared.options.TheConstants.{SECTION_LIMIT}
+use Rattle.dl_sections.specs.declared.options.TheConstants.{SECTION_LIMIT}
 use Rattle.dl_open.proofs.DirectoriesLemmas.{had_size}
 use Rattle.dl_open.specs.Walked.{IsWalked}
 use Rattle.dl_open.proofs.directories.walk_through.Goals as goal

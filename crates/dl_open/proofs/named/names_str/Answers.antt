@@ -4,7 +4,7 @@ use Rattle.dl_head.specs.declared.dialect.Dialect.{Dialect}
 use Rattle.dl_forms.specs.Names.{RefusesCellFrom}
 use Rattle.dl_open.proofs.NamedLemmas.{at_end, empty_is, none_follow, over, said, told_in, wants}
 use Rattle.dl_open.proofs.NamedLemmas.{too_long, same_over}
-use Rattle.dl_run.proofs.BlameLemmas.{blames_next}
+use Rattle.dl_sections.proofs.BlameLemmas.{blames_next}
 use Rattle.dl_open.proofs.named.names_str.Goals as goal
 
 pub loop-buffer-init : goal.loop-buffer-init

@@ -2,7 +2,7 @@ use Rattle.std.proofs.Common.{◌≡◌, ◌+◌, ℕ, List, length}
 use Rattle.std.specs.Io.KnownBytes.{Consumes}
 use Rattle.dl_input.specs.Failing.{Became}
 use Rattle.dl_forms.specs.Standing.{StandsFor}
-use Rattle.dl_run.specs.declared.options.TheConstants.{SECTION_LIMIT}
+use Rattle.dl_sections.specs.declared.options.TheConstants.{SECTION_LIMIT}
 use Rattle.dl_open.proofs.named.names_str.Given as goal
 
 abbrev pub invariant-loop-buffer : goal.invariant-loop-buffer

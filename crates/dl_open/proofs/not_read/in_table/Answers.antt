@@ -1,8 +1,8 @@
 use Rattle.std.proofs.Common.{ap₂, subst, ◌∙◌}
 use Rattle.dl_head.specs.declared.dialect.Dialect.{Dialect}
 use Rattle.dl_file.specs.LineReader.{line_remaining}
-use Rattle.dl_run.specs.declared.options.TheConstants.{SECTION_LIMIT}
-use Rattle.dl_run.specs.PassedOver.{PassesOver}
+use Rattle.dl_sections.specs.declared.options.TheConstants.{SECTION_LIMIT}
+use Rattle.dl_sections.specs.PassedOver.{PassesOver}
 use Rattle.dl_open.specs.Tables.{class_dialect}
 use Rattle.dl_open.proofs.ReaderLemmas.{reader_known}
 use Rattle.dl_open.proofs.not_read.in_table.Goals as goal

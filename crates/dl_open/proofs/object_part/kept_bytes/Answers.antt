@@ -1,5 +1,5 @@
 use Rattle.std.proofs.Common.{◌≡◌, ◌∙◌, Some, Err, ap, arith, inl, length, refl, sym}
-use Rattle.dl_run.specs.declared.options.TheConstants.{SECTION_LIMIT}
+use Rattle.dl_sections.specs.declared.options.TheConstants.{SECTION_LIMIT}
 use Rattle.dl_open.specs.Tables.{bytes_of, stream_of}
 use Rattle.dl_open.proofs.BlameLemmas.{of_file, reading_reads}
 use Rattle.dl_open.proofs.ReaderLemmas.{all_read, keeping_refused, kept_of_all, line_whole, reader_known, reader_stream, reader_told, stops_at, stops_known}

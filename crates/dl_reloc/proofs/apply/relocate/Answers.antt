@@ -1,8 +1,8 @@
 use Rattle.std.proofs.Common.{◌≡◌, ◌++◌, ℕ, List, MatchResult, Ok, Err, refl, subst, sym}
 use Rattle.dl_num.specs.declared.fixed.Order.TheVariants.{Little}
 use Rattle.dl_reloc.specs.declared.target.Class.TheVariants.{Bits64}
-use Rattle.dl_reloc.specs.declared.target.Form.{Form}
-use Rattle.dl_reloc.specs.declared.target.Form.TheVariants.{Rela}
+use Rattle.dl_reloc.specs.declared.target.AddendPlace.{AddendPlace}
+use Rattle.dl_reloc.specs.declared.target.AddendPlace.TheVariants.{Rela}
 use Rattle.dl_reloc.specs.declared.target.Target.{Target}
 use Rattle.dl_reloc.specs.Relocated.{relocated, AreWhole}
 use Rattle.dl_reloc.proofs.apply.relocate.Goals as goal
@@ -12,11 +12,11 @@ same_target : (t : Target) → t.class ≡ Bits64 → t.order ≡ Little
 same_target t class order = rw (← class, ← order) refl
 
 -- what holds of a target and form that are told again
-told_again : (P : Target → Form → Type 0) (t : Target) (form : Form) → t.class ≡ Bits64 → t.order ≡ Little
+told_again : (P : Target → AddendPlace → Type 0) (t : Target) (form : AddendPlace) → t.class ≡ Bits64 → t.order ≡ Little
     → form ≡ Rela → P (record { machine = t.machine; class = Bits64; order = Little }) Rela → P t form
 told_again P t form class order rela told =
     let Q : Target → Type 0 = λ s. P s Rela in
-    let R : Form → Type 0 = λ k. P t k in
+    let R : AddendPlace → Type 0 = λ k. P t k in
     subst R (sym rela) (subst Q (same_target t class order) told)
 
 pub returns-in-Bits64-Little-Rela-clause-made : goal.returns-in-Bits64-Little-Rela-clause-made

@@ -1,6 +1,6 @@
 use Rattle.std.proofs.Common.{[], refl, ◌∙◌}
 use Rattle.dl_look.specs.LiveRows.{live_rows}
-use Rattle.dl_run.specs.RowsTold.{rows_after}
+use Rattle.dl_sections.specs.RowsTold.{rows_after}
 use Rattle.dl_addr.specs.Locating.{code_of, ended_rows}
 use Rattle.dl_addr.proofs.LocatorLemmas.{nothing_seen, something_seen}
 use Rattle.dl_addr.proofs.locating.Locator.answer.Goals as goal

@@ -1,5 +1,5 @@
 use Rattle.std.proofs.Common.{[], ◌∷◌, refl}
-use Rattle.dl_run.specs.Section.{of_version}
+use Rattle.dl_sections.specs.Section.{of_version}
 use Rattle.dl_addr.proofs.LocatorLemmas.{goes_on}
 use Rattle.dl_addr.proofs.locating.LocatorVisitor.foreign.Goals as goal
 

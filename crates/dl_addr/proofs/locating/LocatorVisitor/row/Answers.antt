@@ -5,8 +5,8 @@ use Rattle.dl_rows.specs.declared.row.Row.{Row}
 use Rattle.dl_look.specs.FinderRows.{unended}
 use Rattle.dl_look.specs.FindersRows.{Stand}
 use Rattle.dl_look.specs.LiveRows.{live_rows}
-use Rattle.dl_run.specs.RowsTold.{rows_after}
-use Rattle.dl_run.specs.Section.{of_row}
+use Rattle.dl_sections.specs.RowsTold.{rows_after}
+use Rattle.dl_sections.specs.Section.{of_row}
 use Rattle.dl_addr.specs.Code.{is_code}
 use Rattle.dl_addr.specs.Locating.{code_of}
 use Rattle.dl_addr.proofs.LocatorLemmas.{goes_on}

@@ -1,6 +1,6 @@
 use Rattle.std.proofs.Common.{List, ℕ, ◌≡◌, ◌+◌, ap, arith, length, refl, subst, sym}
 use Rattle.dl_dirs.specs.declared.places.Places.{Places}
-use Rattle.dl_dirs.specs.declared.walk.State.{State}
+use Rattle.dl_dirs.specs.declared.walk.InfoStage.{InfoStage}
 use Rattle.dl_dirs.specs.Holding.{Holds}
 use Rattle.dl_dirs.specs.Standing.{GoesOn, StandsAt}
 use Rattle.dl_dirs.specs.Units.{HasDirectory, entries, found_in}
@@ -20,7 +20,7 @@ returns-clause-places g c order abbreviations b s =
     let es = entries order abbreviations b in
     elim c.match-state.branch [
       | in-Begun+in_ok-read w ↦
-          let begun = subst (λ (x : State). StandsAt order abbreviations x front b s.es) w.in-Begun.is s.stands in
+          let begun = subst (λ (x : InfoStage). StandsAt order abbreviations x front b s.es) w.in-Begun.is s.stands in
           let goes : GoesOn walk order abbreviations b front = record {
             order_is = s.order_is;
             abbreviations_are = s.abbreviations_are;
@@ -48,7 +48,7 @@ pub returns-in_err-read-clause-memory : goal.returns-in_err-read-clause-memory
 returns-in_err-read-clause-memory g c order abbreviations b s =
     let walk = c.args.self in
     let front = walk.front.items in
-    let begun = subst (λ (x : State). StandsAt order abbreviations x front b s.es) c.in-Begun.is s.stands in
+    let begun = subst (λ (x : InfoStage). StandsAt order abbreviations x front b s.es) c.in-Begun.is s.stands in
     let of_front = subst
     (λ (u : List ℕ). HasDirectory (found_in (first_entry walk.places.order (section_of walk.abbreviations) u)))
     c.deref.ensures.value c.in_err-read.ensures.memory in

@@ -1,5 +1,5 @@
 use Rattle.std.proofs.Common.{◌≡◌, ◌≤◌, ◌-◌, ap, arith, length, length-take, refl, sym, take}
-use Rattle.dl_dirs.specs.declared.walk.State.TheVariants as state
+use Rattle.dl_dirs.specs.declared.walk.InfoStage.TheVariants as state
 use Rattle.dl_dirs.specs.declared.walk.Walk.{Walk}
 use Rattle.dl_dirs.proofs.WalkLemmas.{grew, grew_out, some_awaited}
 use Rattle.dl_dirs.proofs.walk.Walk.grow.Goals as goal

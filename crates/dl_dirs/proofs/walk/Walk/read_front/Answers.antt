@@ -4,8 +4,8 @@ use Rattle.dl_info.specs.Section.{section_of}
 use Rattle.dl_info.specs.declared.head.UnitLength.{UnitLength}
 use Rattle.dl_info.specs.declared.unit.Answer.{Answer}
 use Rattle.dl_info.specs.declared.unit.Answer.TheVariants.{Found, More, Unreadable}
-use Rattle.dl_dirs.specs.declared.walk.State.{State}
-use Rattle.dl_dirs.specs.declared.walk.State.TheVariants as state
+use Rattle.dl_dirs.specs.declared.walk.InfoStage.{InfoStage}
+use Rattle.dl_dirs.specs.declared.walk.InfoStage.TheVariants as state
 use Rattle.dl_dirs.specs.declared.walk.Walk.{Walk}
 use Rattle.dl_dirs.specs.Standing.{Awaits, KeepsWith, StandsAt, begun as begun_front, passed, told_length}
 use Rattle.dl_dirs.proofs.UnitLemmas.{told_found, wants_more}
@@ -46,7 +46,7 @@ returns-clause-stands g c order abbreviations b goes fits =
           let left : w.saturating_sub.result ≡ l.size - length front = search rules in
           after_unit walk order abbreviations b front goes new c.read.ensures.abbreviations front b (Found l) m
           (subst
-          (λ (x : State). StandsAt order abbreviations x front b (more_in walk order abbreviations b front goes front))
+          (λ (x : InfoStage). StandsAt order abbreviations x front b (more_in walk order abbreviations b front goes front))
           (sym (w.self-is ∙ ap state.Body left))
           (ends_front order abbreviations b goes.es front front l goes.onward m.told within))
       | in-More w ↦
@@ -67,7 +67,7 @@ returns-clause-stands g c order abbreviations b goes fits =
           (read Unreadable w.in-Unreadable.is) in
           after_unit walk order abbreviations b front goes new c.read.ensures.abbreviations front b Unreadable m
           (subst
-          (λ (x : State). StandsAt order abbreviations x front b (more_in walk order abbreviations b front goes front))
+          (λ (x : InfoStage). StandsAt order abbreviations x front b (more_in walk order abbreviations b front goes front))
           (sym w.self-is) (ends_over order abbreviations b goes.es front front goes.onward m.told))
     ]
 
@@ -83,12 +83,12 @@ returns-clause-few g c taken k =
     taken taken le k in
     elim c.match-branch-2.branch [
       | in-Found w ↦
-          subst (λ (s : State). KeepsWith places (begun_front s front) taken) (sym w.self-is)
+          subst (λ (s : InfoStage). KeepsWith places (begun_front s front) taken) (sym w.self-is)
           (read [] (omega (arith, same, ap (λ a. passed a u) w.in-Found.is)))
       | in-More w ↦
-          subst (λ (s : State). KeepsWith places (begun_front s front) taken) (sym w.self-is)
+          subst (λ (s : InfoStage). KeepsWith places (begun_front s front) taken) (sym w.self-is)
           (read front (omega (arith, same, ap (λ a. passed a u) w.in-More.is)))
       | in-Unreadable w ↦
-          subst (λ (s : State). KeepsWith places (begun_front s front) taken) (sym w.self-is)
+          subst (λ (s : InfoStage). KeepsWith places (begun_front s front) taken) (sym w.self-is)
           (read [] (omega (arith, same, ap (λ a. passed a u) w.in-Unreadable.is)))
     ]

@@ -1,6 +1,6 @@
 use Rattle.std.proofs.Common.{Bool, Some, refl, sym, ap}
 use Rattle.std.specs.Prelude.{if◌then◌else◌}
-use Rattle.dl_look.specs.declared.finder.State.TheVariants.{Open}
+use Rattle.dl_look.specs.declared.finder.AnswerStage.TheVariants.{Open}
 use Rattle.dl_look.proofs.FinderLemmas.{begins, passes, stays, stays_answered, falls, rises}
 use Rattle.dl_look.proofs.finder.Finder.go_on.Goals as goal
 

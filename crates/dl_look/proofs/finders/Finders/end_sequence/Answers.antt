@@ -1,6 +1,6 @@
 use Rattle.std.proofs.Common.{◌≡◌, ℕ, ◌<◌, [], length, arith, sym, ap, ap₂, subst, ◌∙◌}
 use Rattle.std.specs.Option.{option_or}
-use Rattle.dl_look.specs.declared.finders.State.TheVariants.{Start, Passed, Open}
+use Rattle.dl_look.specs.declared.finders.SequenceStage.TheVariants.{Start, Passed, Open}
 use Rattle.dl_look.specs.Answer.{place_of, is_at_most}
 use Rattle.dl_look.specs.FinderRows.{unended}
 use Rattle.dl_look.specs.Ledgers.{answer_upto}

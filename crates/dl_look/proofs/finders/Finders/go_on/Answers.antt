@@ -1,6 +1,6 @@
 use Rattle.std.proofs.Common.{◌≡◌, inl, length, arith, refl, [], ◌∷◌, ◌++◌, sym, ap, ◌∙◌}
 use Rattle.dl_look.specs.FinderRows.{unended}
-use Rattle.dl_look.specs.declared.finders.State.TheVariants.{Start, Passed, Open}
+use Rattle.dl_look.specs.declared.finders.SequenceStage.TheVariants.{Start, Passed, Open}
 use Rattle.dl_look.specs.Answer.{is_at_most}
 use Rattle.dl_look.specs.Slots.{slot_place}
 use Rattle.dl_look.proofs.FindersLemmas.{kept_in, keeps_above, keeps_begun, keeps_on, keeps_fallen, keeps_passed, same_answer}

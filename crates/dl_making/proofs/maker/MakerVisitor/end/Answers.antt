@@ -1,5 +1,5 @@
 use Rattle.std.proofs.Common.{true, refl, subst}
-use Rattle.dl_run.specs.Section.{of_end}
+use Rattle.dl_sections.specs.Section.{of_end}
 use Rattle.dl_memory.specs.Refusals.{IsRefused}
 use Rattle.dl_making.specs.Making.{EndsUnit, end_room}
 use Rattle.dl_making.proofs.KeepLemmas.{end_wants}

@@ -1,6 +1,6 @@
 use Rattle.std.proofs.Common.{arith, [], ◌∷◌, refl, subst, sym}
-use Rattle.dl_run.specs.Section.{of_version}
-use Rattle.dl_run.proofs.VisitLemmas.{rows_after-append}
+use Rattle.dl_sections.specs.Section.{of_version}
+use Rattle.dl_sections.proofs.VisitLemmas.{rows_after-append}
 use Rattle.dl_stretch.specs.Stands.{Stands}
 use Rattle.dl_making.specs.Making.{code_of}
 use Rattle.dl_making.proofs.MakerLemmas.{goes_on}

@@ -1,8 +1,8 @@
 use Rattle.std.proofs.Common.{true, [], ◌∷◌, refl, subst, sym, ap, ◌∙◌}
 use Rattle.std.specs.Option.{option_copied}
-use Rattle.dl_run.specs.RowsTold.{rows_after}
-use Rattle.dl_run.specs.Section.{of_row}
-use Rattle.dl_run.proofs.VisitLemmas.{rows_after-append}
+use Rattle.dl_sections.specs.RowsTold.{rows_after}
+use Rattle.dl_sections.specs.Section.{of_row}
+use Rattle.dl_sections.proofs.VisitLemmas.{rows_after-append}
 use Rattle.dl_addr.specs.Code.{is_code}
 use Rattle.dl_stretch.specs.Stands.{Stands}
 use Rattle.dl_making.specs.Making.{code_of}

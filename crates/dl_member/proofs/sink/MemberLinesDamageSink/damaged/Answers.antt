@@ -1,4 +1,4 @@
-use Rattle.dl_work.proofs.DamageLemmas.{lines_more}
+use Rattle.dl_program.proofs.DamageLemmas.{lines_more}
 use Rattle.dl_member.proofs.sink.MemberLinesDamageSink.damaged.Goals as goal
 
 pub returns : goal.returns

@@ -2,14 +2,14 @@ use Rattle.std.proofs.Common.{◌≡◌, ◌++◌, ◌∷◌, [], List, drop, sy
 use Rattle.std.proofs.Math.Logic.{∥∥₁_map}
 use Rattle.dl_rows.specs.declared.row.Row.{Row}
 use Rattle.dl_stretch.specs.declared.run.Run.{Run}
-use Rattle.dl_stretch.specs.declared.sequence.State.{State}
-use Rattle.dl_stretch.specs.declared.sequence.State.TheVariants.{Between, Passed, Rising}
+use Rattle.dl_stretch.specs.declared.sequence.RowStage.{RowStage}
+use Rattle.dl_stretch.specs.declared.sequence.RowStage.TheVariants.{Between, Passed, Rising}
 use Rattle.dl_stretch.specs.Sequences.{Keeps, AreKept}
 use Rattle.dl_stretch.specs.Parts.{current}
 use Rattle.dl_stretch.proofs.SequenceLemmas.{keeps_first, keeps_next, keeps_falls, keeps_passed}
 use Rattle.dl_stretch.proofs.sequence.SequenceRuns.row.Goals as goal
 
-now : (state known : State) (runs : List Run) (rows : List Row) → state ≡ known → Keeps state runs rows
+now : (state known : RowStage) (runs : List Run) (rows : List Row) → state ≡ known → Keeps state runs rows
     → Keeps known runs rows
 now state known runs rows is k = subst (λ s. Keeps s runs rows) is k
 

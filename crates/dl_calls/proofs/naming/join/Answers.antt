@@ -1,9 +1,0 @@
-use Rattle.std.proofs.Common.{[], refl}
-use Rattle.dl_calls.proofs.RoomLemmas.{over_none}
-use Rattle.dl_calls.proofs.naming.join.Goals as goal
-
-pub returns-clause-written : goal.returns-clause-written
-returns-clause-written c = c.join_after.ensures.written c.args.room.now [] (over_none c.args.room.now) refl
-
-pub returns-clause-len : goal.returns-clause-len
-returns-clause-len c = c.join_after.ensures.len [] refl

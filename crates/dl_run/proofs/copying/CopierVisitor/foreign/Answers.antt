@@ -1,6 +1,0 @@
-use Rattle.dl_run.proofs.CopierLemmas.{stops_at_version}
-use Rattle.dl_run.proofs.copying.CopierVisitor.foreign.Goals as goal
-
-pub returns-clause-heard : goal.returns-clause-heard
-returns-clause-heard g c first start visits s = stops_at_version s g.M.Memory.refuses
-    c.args.offset c.args._version

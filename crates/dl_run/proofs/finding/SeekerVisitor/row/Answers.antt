@@ -1,9 +1,0 @@
-use Rattle.dl_run.proofs.Names.{◌++◌, ◌∷◌, [], of_row, refl}
-use Rattle.dl_run.proofs.SeekerLemmas.{seeks_on}
-use Rattle.dl_run.proofs.finding.SeekerVisitor.row.Goals as goal
-
-pub returns-clause-heard : goal.returns-clause-heard
-returns-clause-heard g c first start visits s =
-    seeks_on s (record c.args.self.now { finder = c.row.new.self }) (of_row c.args.row.now)
-    (s.rows ++ c.args.row.now ∷ []) refl refl s.not_found refl refl
-    (c.row.ensures first.place s.rows s.stands)

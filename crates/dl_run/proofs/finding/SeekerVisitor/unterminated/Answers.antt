@@ -1,6 +1,0 @@
-use Rattle.dl_run.proofs.Names.{of_open, refl}
-use Rattle.dl_run.proofs.SeekerLemmas.{seeks_past}
-use Rattle.dl_run.proofs.finding.SeekerVisitor.unterminated.Goals as goal
-
-pub returns-clause-heard : goal.returns-clause-heard
-returns-clause-heard g c first start visits s = seeks_past s of_open refl

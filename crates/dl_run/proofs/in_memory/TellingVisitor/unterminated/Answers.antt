@@ -1,6 +1,0 @@
-use Rattle.dl_run.specs.Section.{of_open}
-use Rattle.dl_run.proofs.TellingVisits.{told_on}
-use Rattle.dl_run.proofs.in_memory.TellingVisitor.unterminated.Goals as goal
-
-pub returns-clause-heard : goal.returns-clause-heard
-returns-clause-heard g c first start visits s = told_on s of_open _ _ s.passed s.hears

@@ -1,5 +1,0 @@
-use Rattle.dl_run.proofs.CopiedUnits.{copies_are_newer}
-use Rattle.dl_run.proofs.laws.copies_are_newer.Goals as goal
-
-pub returns : goal.returns
-returns c = copies_are_newer

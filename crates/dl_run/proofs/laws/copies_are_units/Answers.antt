@@ -1,5 +1,0 @@
-use Rattle.dl_run.proofs.CopiedUnits.{copies_are_units}
-use Rattle.dl_run.proofs.laws.copies_are_units.Goals as goal
-
-pub returns : goal.returns
-returns c = copies_are_units

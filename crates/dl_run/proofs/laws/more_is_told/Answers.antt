@@ -1,5 +1,0 @@
-use Rattle.dl_run.proofs.SectionGrowth.{more_is_told}
-use Rattle.dl_run.proofs.laws.more_is_told.Goals as goal
-
-pub returns : goal.returns
-returns c = more_is_told

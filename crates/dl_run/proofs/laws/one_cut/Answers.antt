@@ -1,5 +1,0 @@
-use Rattle.dl_run.proofs.SectionCuts.{one_cut}
-use Rattle.dl_run.proofs.laws.one_cut.Goals as goal
-
-pub returns : goal.returns
-returns c = one_cut

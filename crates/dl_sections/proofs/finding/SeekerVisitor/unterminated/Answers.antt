@@ -1,0 +1,6 @@
+use Rattle.dl_sections.proofs.Names.{of_open, refl}
+use Rattle.dl_sections.proofs.SeekerLemmas.{seeks_past}
+use Rattle.dl_sections.proofs.finding.SeekerVisitor.unterminated.Goals as goal
+
+pub returns-clause-heard : goal.returns-clause-heard
+returns-clause-heard g c first start visits s = seeks_past s of_open refl
