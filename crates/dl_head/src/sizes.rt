@@ -5,6 +5,9 @@ ghost use Rattle.dl_head.specs.HeaderLayout.{initial_size as initial_size_of, fi
 
 use dl_table::Format;
 
+/// The greatest unit_length that is read or written.
+pub const UNIT_LENGTH_LIMIT: u64 = 1 << 40;
+
 /// The size in bytes of the initial length. Section 7.4.
 pub fn initial_size(format: Format) -> u64
     ensures { result ≡ initial_size_of format }

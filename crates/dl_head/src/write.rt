@@ -14,7 +14,7 @@ ghost use Rattle.dl_head.specs.Written.{byte_of, header_bytes, header_length_of,
 ghost use Rattle.dl_head.specs.Written.{written_limit};
 
 use crate::header::Header;
-use crate::sizes::{fixed_part, initial_size};
+use crate::sizes::{UNIT_LENGTH_LIMIT, fixed_part, initial_size};
 use dl_field::Params;
 use dl_num::Order;
 use dl_output::Destination;
@@ -245,6 +245,6 @@ fn longest_unit(format: Format) -> u64
 {
     match format {
         Format::Dwarf32 => 0xffff_ffef,
-        Format::Dwarf64 => 1 << 40,
+        Format::Dwarf64 => UNIT_LENGTH_LIMIT,
     }
 }

@@ -8,13 +8,10 @@ ghost use Rattle.dl_table.specs.TableCells.{table_cells};
 
 use crate::reader::byte_field::ByteField;
 use crate::reader::{HeadReader, Phase};
-use crate::sizes::{fixed_part, initial_size};
+use crate::sizes::{UNIT_LENGTH_LIMIT, fixed_part, initial_size};
 use dl_field::FieldStep;
 use dl_num::{Order, PartialNumber};
 use dl_table::{FaultKind, Format};
-
-/// The greatest unit_length that is accepted.
-const UNIT_LENGTH_LIMIT: u64 = 1 << 40;
 
 impl HeadReader {
     ghost use Rattle.dl_field.specs.declared.field_step.FieldStep.TheVariants as byte_makes;
