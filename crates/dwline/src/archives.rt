@@ -1,7 +1,6 @@
 //! Archives, and members of archives, as FILE.
 
 use crate::ending::{Ending, report};
-use crate::system_files::{SystemFile, SystemFiles};
 use dl_archive::archive_kind;
 use dl_cmd::Job;
 use dl_member::{MemberFault, MemberLines, WalkFault, split_member, walk_members};
@@ -9,6 +8,7 @@ use dl_memory::System;
 use dl_open::{FileSource, Shown};
 use dl_program::Stop;
 use dl_sections::RunFault;
+use dl_system::{SystemFile, SystemFiles};
 use std::io::Write;
 
 /// What stands at a path.

@@ -3,24 +3,21 @@
 
 mod archives;
 mod ending;
-mod following;
 mod indices;
 mod progress;
 mod running;
 mod sections;
 mod several;
-mod system_files;
 
 use crate::archives::{Standing, is_over_members, run_members, what_stands};
 use crate::ending::{Ending, report};
-use crate::following::Search;
 use crate::running::run_job;
 use crate::sections::tell_sections;
 use crate::several::{are_several, check_files};
-use crate::system_files::{SystemFile, SystemFiles};
 use dl_cmd::{FollowWords, Job, Words, read_words};
 use dl_member::{WithMember, open_member};
 use dl_program::{Stop, followed_path};
+use dl_system::{Search, SystemFile, SystemFiles};
 use std::alloc::AllocError;
 use std::env;
 use std::io::ErrorKind;

@@ -1,10 +1,10 @@
 //! What is told of an object file whose code is in several sections.
 
-use crate::system_files::SystemFiles;
 use dl_cmd::Job;
 use dl_file::find_code;
 use dl_memory::System;
 use dl_open::{FileSource, Shown};
+use dl_system::SystemFiles;
 use std::io::Write;
 
 /// Whether a job looks addresses up in no section that is named.

@@ -2,9 +2,7 @@
 
 use crate::archives::{Standing, run_members, what_stands};
 use crate::ending::{Ending, report, report_of};
-use crate::following::Search;
 use crate::progress::Progress;
-use crate::system_files::{SystemFile, SystemFiles};
 use dl_cmd::{FilesWords, FollowWords, Job, UnitWords};
 use dl_member::{WithMember, open_member};
 use dl_memory::System;
@@ -13,6 +11,7 @@ use dl_output::Destination;
 use dl_program::{Stop, work};
 use dl_sections::{Damage, DamageSink, RunFault};
 use dl_several::{CheckFiles, PathList, Several, check_several};
+use dl_system::{Search, SystemFile, SystemFiles};
 use std::fs::File;
 use std::io;
 use std::io::{Read, Stderr, Stdout, Write};

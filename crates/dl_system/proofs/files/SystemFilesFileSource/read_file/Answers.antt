@@ -1,5 +1,5 @@
 use Rattle.dl_open.proofs.FilesLemmas.{any_fails, any_file}
-use Rattle.dwline.proofs.system_files.SystemFilesFileSource.read_file.Goals as goal
+use Rattle.dl_system.proofs.files.SystemFilesFileSource.read_file.Goals as goal
 
 pub returns-in-Ok : goal.returns-in-Ok
 returns-in-Ok g c =

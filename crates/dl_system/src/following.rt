@@ -1,6 +1,6 @@
 //! The file whose line table is read for FILE, and what is told of it.
 
-use crate::system_files::{SystemFile, SystemFiles};
+use crate::files::{SystemFile, SystemFiles};
 use dl_cmd::FollowWords;
 use dl_follow::{Clues, Folders, Followed, NotFound, folder_of, table_file, write_passed};
 use dl_open::Shown;
@@ -80,13 +80,15 @@ fn cache(rt: &HostRuntime) -> Result<Option<String>, AllocError> {
     below(rt, "HOME", "/.cache/debuginfod_client")
 }
 
-/// What was found where the debug information of FILE was looked for.
+/// Whose line table is read for FILE.
 #[derive(Drop)]
-pub struct Search {
-    /// The path of the file whose line table is read in place of FILE's.
-    other: Option<String>,
-    /// What is told of FILE, where it has no line table and none was found for it.
-    lost: Option<String>,
+pub enum Search {
+    /// Its own.
+    Own,
+    /// That of the file at this path.
+    Other(String),
+    /// It has none, and none was found for it, as this text tells.
+    Lost(String),
 }
 
 /// A text for as long as its place is lent.
@@ -101,10 +103,7 @@ impl Search {
     #[inline(never)]
     pub fn of(rt: &HostRuntime, path: &str, words: &FollowWords<'_>) -> Result<Search, AllocError> {
         if words.no_follow {
-            return Ok(Search {
-                other: None,
-                lost: None,
-            });
+            return Ok(Search::Own);
         }
         let places = Places::of(rt, path)?;
         let dirs: Vec<&str> = words
@@ -117,34 +116,40 @@ impl Search {
         if words.verbose {
             tell(rt, path, &found, &folders);
         }
-        match &found {
-            Followed::Own => Ok(Search {
-                other: None,
-                lost: None,
-            }),
-            Followed::Other { taken, .. } => Ok(Search {
-                other: Some(String::from_str(rt.alloc(), taken.path.as_str())?),
-                lost: None,
-            }),
-            Followed::Lost(clues) => Ok(Search {
-                other: None,
-                lost: Some(told_lost(rt.alloc(), clues, path, &folders)?),
-            }),
-        }
+        found_by(rt.alloc(), &found, path, &folders)
     }
 
     /// The path of the file whose line table is read for the one at this path.
     pub fn path<'a>(&'a self, path: &'a str) -> &'a str {
-        match &self.other {
-            Some(other) => other.as_str(),
-            None => path,
+        match self {
+            Search::Other(other) => other.as_str(),
+            Search::Own | Search::Lost(_) => path,
         }
     }
 
     /// What is told of the file, where it has no line table and none was found for it.
     pub fn lost(&self) -> Option<&str> {
-        self.lost.as_ref().map(|text| text.as_str())
+        match self {
+            Search::Lost(text) => Some(text.as_str()),
+            Search::Own | Search::Other(_) => None,
+        }
     }
+}
+
+/// Whose line table is read for the file at this path, by what was found.
+fn found_by(
+    alloc: Global,
+    found: &Followed<SystemFile>,
+    path: &str,
+    folders: &Folders<'_>,
+) -> Result<Search, AllocError> {
+    Ok(match found {
+        Followed::Own => Search::Own,
+        Followed::Other { taken, .. } => {
+            Search::Other(String::from_str(alloc, taken.path.as_str())?)
+        }
+        Followed::Lost(clues) => Search::Lost(told_lost(alloc, clues, path, folders)?),
+    })
 }
 
 /// What is told of the file at this path, which has no line table, and for which none was found.
