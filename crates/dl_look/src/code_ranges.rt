@@ -96,15 +96,5 @@ fn starts_upto(reaches: &[Reach], address: u64) -> usize
     ensures upto { (k : ℕ) → k < result → reach_start reaches.now k ≤ address }
     ensures above { (k : ℕ) → result ≤ k → k < length reaches.now → address < reach_start reaches.now k }
 {
-    let mut low = 0;
-    let mut high = reaches.len();
-    while low < high {
-        let middle = low + (high - low) / 2;
-        if reaches[middle].start <= address {
-            low = middle + 1;
-        } else {
-            high = middle;
-        }
-    }
-    low
+    reaches.partition_point(|reach| reach.start <= address)
 }

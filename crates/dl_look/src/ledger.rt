@@ -184,10 +184,10 @@ pub(crate) fn no_entries<M: Memory>(
     ensures refused { OnErr result (IsRefused (M.refuses memory.now) count) }
 {
     let mut entries = memory.with_capacity(count)?;
-    while entries.len() < count {
-        entries.push_reserved(None);
+    match entries.resize(count, None) {
+        Ok(()) => Ok(entries),
+        Err(_) => unreachable!(),
     }
-    Ok(entries)
 }
 
 /// The places whose answers come after the first `whole` have no entry any more.

@@ -123,8 +123,8 @@ fn none_sealed<M: Memory>(memory: &M, count: usize) -> Result<Vec<bool>, NoMemor
     ensures refused { OnErr result (IsRefused (M.refuses memory.now) count) }
 {
     let mut sealed = memory.with_capacity(count)?;
-    while sealed.len() < count {
-        sealed.push_reserved(false);
+    match sealed.resize(count, false) {
+        Ok(()) => Ok(sealed),
+        Err(_) => unreachable!(),
     }
-    Ok(sealed)
 }

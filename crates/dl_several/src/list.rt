@@ -6,6 +6,7 @@ ghost use Rattle.dl_several.specs.Checks.{IsWorst};
 
 use crate::checker::CheckFiles;
 use crate::files::PathList;
+use memchr::memchr;
 use std::str;
 
 /// What stands before the first byte `end`, and what behind it: nothing where there is none.
@@ -13,7 +14,7 @@ fn cut(list: &[u8], end: u8) -> (&[u8], &[u8])
     ensures before { result.0.now ≡ before_first (λ byte. byte == end) list.now }
     ensures behind { result.1.now ≡ after_first (λ byte. byte == end) list.now }
 {
-    match list.iter().position(|byte| *byte == end) {
+    match memchr(end, list) {
         Some(at) => (&list[..at], &list[at + 1..]),
         None => (list, &[]),
     }

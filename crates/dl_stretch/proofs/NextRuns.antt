@@ -24,10 +24,6 @@ pub starts_upto : (runs : List Run) (m a : ℕ) → RunsRise runs → m < length
     → k < m + 1 → start_at runs k ≤ a
 starts_upto runs m a r lt upto k less = let h = starts_far runs r k m (omega arith) lt in omega (arith, h, upto)
 
-pub starts_above : (runs : List Run) (m a : ℕ) → RunsRise runs → a < start_at runs m → (k : ℕ) → m ≤ k
-    → k < length runs → a < start_at runs k
-starts_above runs m a r above k le lt = let h = starts_far runs r m k le lt in omega (arith, h, above)
-
 -- what the run before the run n tells
 abbrev pub told_before : List Run → ℕ → Option Told
 told_before runs zero = None

@@ -127,15 +127,5 @@ fn begun(runs: &[Run], address: u64) -> usize
     ensures upto { (k : ℕ) → k < result → start_at runs.now k ≤ address }
     ensures above { (k : ℕ) → result ≤ k → k < length runs.now → address < start_at runs.now k }
 {
-    let mut low = 0;
-    let mut high = runs.len();
-    while low < high {
-        let middle = low + (high - low) / 2;
-        if runs[middle].start <= address {
-            low = middle + 1;
-        } else {
-            high = middle;
-        }
-    }
-    low
+    runs.partition_point(|run| run.start <= address)
 }

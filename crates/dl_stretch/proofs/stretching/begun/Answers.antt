@@ -1,27 +1,27 @@
-use Rattle.std.proofs.Common.{◌+◌, ◌-◌, ◌/◌, arith}
-use Rattle.dl_stretch.proofs.NextRuns.{starts_upto, starts_above}
+use Rattle.std.proofs.Common.{ℕ, ◌<◌, length, nat_le, ap, arith, rules}
+use Rattle.std.proofs.lemmas.Bool.Decides.{nat_tests}
+use Rattle.std.proofs.lemmas.List.{get_or_default}
+use Rattle.std.proofs.lemmas.List.Sorted.{IsPartitionPoint-from_clause}
+use Rattle.dl_stretch.specs.declared.run.Run.{Run}
+use Rattle.dl_stretch.specs.Made.{no_run}
+use Rattle.dl_stretch.proofs.NextRuns.{starts_far}
 use Rattle.dl_stretch.proofs.stretching.begun.Goals as goal
 
-pub loop-low-preserved-then-runs-middle : goal.loop-low-preserved-then-runs-middle
-loop-low-preserved-then-runs-middle c =
-    let l = c.loop-low in
-    let i = l.invariant in
+pub returns : goal.returns
+returns c =
+    let runs = c.args.runs.now in
+    let point = c.partition_point in
+    let start = λ (k : ℕ) (d : Run) (lt : k < length runs). ap (λ (r : Run). r.start) (get_or_default runs k d no_run lt) in
+    let parts =
+    IsPartitionPoint-from_clause (λ (r : Run). nat_le r.start c.args.address) runs point.result point.ensures.partitioned
+    (λ i j d le lt test. (
+    let rise = starts_far runs c.requires i j le lt in
+    let low = start i d (omega (arith, le, lt)) in
+    let high = start j d lt in
+    grind (arith, nat_tests, rise, low, high, test)))
+    (λ a r q k. search rules) in
     record {
-      apart = omega arith;
-      within = i.within;
-      upto = starts_upto c.args.runs.now (l.low + (l.high - l.low) / 2) c.args.address c.requires (omega arith)
-          c.if-runs-middle.true;
-      above = i.above;
-    }
-
-pub loop-low-preserved : goal.loop-low-preserved
-loop-low-preserved c =
-    let l = c.loop-low in
-    let i = l.invariant in
-    record {
-      apart = omega arith;
-      within = omega arith;
-      upto = i.upto;
-      above = starts_above c.args.runs.now (l.low + (l.high - l.low) / 2) c.args.address c.requires
-          c.if-runs-middle.false;
+      within = point.ensures.bound;
+      upto = λ k lt. (let at = parts.0 k no_run (omega arith) lt in grind (arith, nat_tests, at));
+      above = λ k le lt. (let at = parts.1 k no_run le lt in grind (arith, nat_tests, at));
     }
