@@ -24,6 +24,6 @@ fn addresses(rt: HostRuntime) {
         ("18446744073709551616", None),
         ("184467440737095516150", None),
     ] {
-        assert_eq!(rt; read_address(text), want, "{text:?}");
+        assert_eq!(rt; read_address(false, text), want, "{text:?}");
     }
 }

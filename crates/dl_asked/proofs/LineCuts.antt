@@ -1,20 +1,16 @@
 -- What lines ask for byte by byte is what they ask for one by one.
-use Rattle.std.proofs.Common.{◌≡◌, ℕ, ◌+◌, ◌*◌, suc, Bool, true, false, ◌==◌, if◌then◌else◌, List, [], ◌∷◌, ◌++◌}
-use Rattle.std.proofs.Common.{Option, None, arith, refl, sym, ap, ap₂, ◌∙◌, subst}
-use Rattle.std.specs.Prelude.{option_and_then}
+use Rattle.std.proofs.Common.{◌≡◌, ℕ, suc, Bool, true, false, ◌==◌, if◌then◌else◌, List, [], ◌∷◌, ◌++◌}
+use Rattle.std.proofs.Common.{None, refl, sym, ap, ap₂, ◌∙◌, subst}
 use Rattle.std.proofs.lemmas.Bool.{eqb-true}
-use Rattle.dl_cmd.specs.Address.{below_2_64}
 use Rattle.dl_asked.specs.declared.line.Line.{Line}
-use Rattle.dl_asked.specs.declared.line.Text.{Text}
-use Rattle.dl_asked.specs.declared.line.Text.TheVariants.{Blank, Zero, Prefix, Digits, Ended, Other}
-use Rattle.dl_asked.specs.Line.{after_blank, after_byte, after_digit, after_mark, asked_at_end, asked_of}
-use Rattle.dl_asked.specs.Line.{digits_or_other, new_line, text_so_far}
-use Rattle.dl_asked.specs.LinesRead.{asked_from, base_of, no_address_from}
-use Rattle.dl_asked.specs.AskedLines.{and_asked, asked_in, asked_of_line, asked_of_lines, if_no_address, is_blank}
+use Rattle.dl_asked.specs.declared.line.Text.TheVariants.{Blank}
+use Rattle.dl_asked.specs.Line.{after_byte, asked_at_end, asked_of, new_line, text_after, text_so_far}
+use Rattle.dl_asked.specs.LinesRead.{asked_from, no_address_from}
+use Rattle.dl_asked.specs.AskedLines.{and_asked, asked_in, asked_of_line, asked_of_lines, if_no_address}
 use Rattle.dl_asked.specs.AskedLines.{lines_after, no_address_among, no_address_in, trim_end, without_return}
 use Rattle.dl_asked.specs.LineWord.{with_byte, word_after, word_so_far}
 use Rattle.dl_asked.proofs.WordLemmas.{kept_more, kept_of}
-use Rattle.dl_asked.proofs.LineTexts.{line_asks, not_digit, run, run-more, step}
+use Rattle.dl_asked.proofs.LineTexts.{line_asks, run, run-more}
 
 -- ---- a 0x0d at the end of a line
 
@@ -28,106 +24,70 @@ kept [] c not = ap (λ (b : Bool). if b then [] else c ∷ []) not
 kept (d ∷ []) c not = ap (λ (l : List ℕ). d ∷ l) (kept [] c not)
 kept (d ∷ e ∷ line) c not = ap (λ (l : List ℕ). d ∷ l) (kept (e ∷ line) c not)
 
-no_number : (own n : ℕ) → after_digit own n 13 ≡ Other
-no_number own n =
-    ap (λ (o : Option ℕ). digits_or_other own (option_and_then (λ d. below_2_64 (n * own + d)) o))
-    (not_digit own 13 (omega arith))
-
--- it is no blank, and no part of an address
-return_steps : (base : ℕ) (t : Text) → step base t 13 ≡ Other
-return_steps base Blank = no_number base 0
-return_steps base Zero = no_number base 0
-return_steps base Prefix = no_number 16 0
-return_steps base (Digits own n) = no_number own n
-return_steps base (Ended a) = refl
-return_steps base Other = refl
-
 -- ---- bytes of a line
 
 -- these were read
-record Read (base : ℕ) (line : List ℕ) (l : Line) : Type 0 where
-  so_far : text_so_far l ≡ run base Blank line
-  ended : l.text ≡ run base Blank (without_return line)
+record Read (hex : Bool) (line : List ℕ) (l : Line) : Type 0 where
+  so_far : text_so_far hex l ≡ run hex Blank line
+  ended : l.text ≡ run hex Blank (without_return line)
   word : word_so_far l (kept_of (without_return line)) ≡ kept_of line
 
-read_none : (base : ℕ) → Read base [] new_line
-read_none base = record { so_far = refl; ended = refl; word = refl }
+read_none : (hex : Bool) → Read hex [] new_line
+read_none hex = record { so_far = refl; ended = refl; word = refl }
 
-read_return : (base : ℕ) (line : List ℕ) (l : Line) → Read base line l
-    → Read base (line ++ 13 ∷ []) (after_byte base l 13)
-read_return base line l r = record {
-  so_far = sym (run-more base Blank line 13 ∙ return_steps base (run base Blank line));
-  ended = r.so_far ∙ sym (ap (run base Blank) (dropped line));
+read_return : (hex : Bool) (line : List ℕ) (l : Line) → Read hex line l
+    → Read hex (line ++ 13 ∷ []) (after_byte hex l 13)
+read_return hex line l r = record {
+  so_far = ap (λ t. text_after hex t 13) r.so_far ∙ sym (run-more hex Blank line 13);
+  ended = r.so_far ∙ sym (ap (run hex Blank) (dropped line));
   word = ap (λ l. with_byte (kept_of l) 13) (dropped line) ∙ kept_more line 13;
 }
 
-byte_is : (base : ℕ) (l : Line) (c : ℕ) → (c == 13) ≡ false
-    → ◌≡◌ {A = Line} (after_byte base l c) (record { text = step base (text_so_far l) c; returned = false })
-byte_is base l c not = ap (λ (b : Bool). if b then end else by_blank (is_blank c)) not ∙ same (is_blank c) where
-  end : Line
-  end = record { text = text_so_far l; returned = true }
-
-  by_blank : Bool → Line
-  by_blank b =
-      if b then record { text = after_blank (text_so_far l); returned = false }
-      else record { text = after_mark base (text_so_far l) c; returned = false }
-
-  same : (b : Bool)
-      → ◌≡◌ {A = Line} (by_blank b) (record {
-        text =
-            (if b then after_blank (text_so_far l) else after_mark base (text_so_far l) c);
-        returned = false;
-      })
-  same true = refl
-  same false = refl
-
-read_other : (base : ℕ) (line : List ℕ) (l : Line) (c : ℕ) → (c == 13) ≡ false → Read base line l
-    → Read base (line ++ c ∷ []) (after_byte base l c)
-read_other base line l c not r =
-    let now : step base (text_so_far l) c ≡ run base Blank (line ++ c ∷ []) =
-    ap (λ t. step base t c) r.so_far ∙ sym (run-more base Blank line c) in
-    let at : Read base (line ++ c ∷ []) (record { text = step base (text_so_far l) c; returned = false }) =
-    record {
+read_other : (hex : Bool) (line : List ℕ) (l : Line) (c : ℕ) → (c == 13) ≡ false → Read hex line l
+    → Read hex (line ++ c ∷ []) (after_byte hex l c)
+read_other hex line l c not r =
+    let now : text_after hex (text_so_far hex l) c ≡ run hex Blank (line ++ c ∷ []) =
+    ap (λ t. text_after hex t c) r.so_far ∙ sym (run-more hex Blank line c) in
+    rw not (record {
       so_far = now;
-      ended = now ∙ sym (ap (run base Blank) (kept line c not));
+      ended = now ∙ sym (ap (run hex Blank) (kept line c not));
       word = ap kept_of (kept line c not);
-    } in
-    subst (Read base (line ++ c ∷ [])) (sym (byte_is base l c not)) at
+    })
 
-read_byte : (base : ℕ) (line : List ℕ) (l : Line) (c : ℕ) → Read base line l
-    → Read base (line ++ c ∷ []) (after_byte base l c)
-read_byte base line l c r = by (c == 13) refl where
-  by : (b : Bool) → (c == 13) ≡ b → Read base (line ++ c ∷ []) (after_byte base l c)
+read_byte : (hex : Bool) (line : List ℕ) (l : Line) (c : ℕ) → Read hex line l
+    → Read hex (line ++ c ∷ []) (after_byte hex l c)
+read_byte hex line l c r = by (c == 13) refl where
+  by : (b : Bool) → (c == 13) ≡ b → Read hex (line ++ c ∷ []) (after_byte hex l c)
   by true e =
-      subst (λ d. Read base (line ++ d ∷ []) (after_byte base l d)) (sym (eqb-true c 13 e)) (read_return base line l r)
-  by false e = read_other base line l c e r
+      subst (λ d. Read hex (line ++ d ∷ []) (after_byte hex l d)) (sym (eqb-true c 13 e)) (read_return hex line l r)
+  by false e = read_other hex line l c e r
 
 -- ---- lines
 
-line_ends : (hex : Bool) (line : List ℕ) (l : Line) → Read (base_of hex) line l
+line_ends : (hex : Bool) (line : List ℕ) (l : Line) → Read hex line l
     → asked_of l.text ≡ asked_of_line hex (without_return line)
 line_ends hex line l r = ap asked_of r.ended ∙ line_asks hex (without_return line)
 
-input_ends : (hex : Bool) (line : List ℕ) (l : Line) → Read (base_of hex) line l
-    → asked_at_end l ≡ asked_of_line hex line
+input_ends : (hex : Bool) (line : List ℕ) (l : Line) → Read hex line l
+    → asked_at_end hex l ≡ asked_of_line hex line
 input_ends hex line l r = ap asked_of r.so_far ∙ line_asks hex line
 
-asked_after : (hex : Bool) (line : List ℕ) (l : Line) (b : List ℕ) → Read (base_of hex) line l
-    → asked_from (base_of hex) l b ≡ asked_of_lines hex (lines_after line b)
+asked_after : (hex : Bool) (line : List ℕ) (l : Line) (b : List ℕ) → Read hex line l
+    → asked_from hex l b ≡ asked_of_lines hex (lines_after line b)
 asked_after hex line l [] r = ap (λ a. and_asked a []) (input_ends hex line l r)
 asked_after hex line l (c ∷ b) r =
-    let next = after_byte (base_of hex) l c in
-    elim (c == 10) as (λ x. (if x then and_asked (asked_of l.text) (asked_from (base_of hex) new_line b)
-    else asked_from (base_of hex) next b) ≡ asked_of_lines hex (if x then without_return line ∷ lines_after [] b
+    let next = after_byte hex l c in
+    elim (c == 10) as (λ x. (if x then and_asked (asked_of l.text) (asked_from hex new_line b)
+    else asked_from hex next b) ≡ asked_of_lines hex (if x then without_return line ∷ lines_after [] b
     else lines_after (line ++ c ∷ []) b)) [
-      | true ↦ ap₂ and_asked (line_ends hex line l r) (asked_after hex [] new_line b (read_none (base_of hex)))
-      | false ↦ asked_after hex (line ++ c ∷ []) next b (read_byte (base_of hex) line l c r)
+      | true ↦ ap₂ and_asked (line_ends hex line l r) (asked_after hex [] new_line b (read_none hex))
+      | false ↦ asked_after hex (line ++ c ∷ []) next b (read_byte hex line l c r)
     ]
 
 -- what it says first, with a byte more
-word_read : (base : ℕ) (line : List ℕ) (l : Line) (c : ℕ) → Read base line l
+word_read : (hex : Bool) (line : List ℕ) (l : Line) (c : ℕ) → Read hex line l
     → word_after l (kept_of (without_return line)) c ≡ kept_of (without_return (line ++ c ∷ []))
-word_read base line l c r = by (c == 13) refl where
+word_read hex line l c r = by (c == 13) refl where
   now : List ℕ
   now = word_so_far l (kept_of (without_return line))
 
@@ -137,25 +97,25 @@ word_read base line l c r = by (c == 13) refl where
       r.word ∙ ap kept_of (sym (ap (λ d. without_return (line ++ d ∷ [])) (eqb-true c 13 e) ∙ dropped line))
   by false e = ap (λ w. with_byte w c) r.word ∙ (kept_more line c ∙ ap kept_of (sym (kept line c e)))
 
-numbered_after : (hex : Bool) (n : ℕ) (line : List ℕ) (l : Line) (b : List ℕ) → Read (base_of hex) line l
-    → no_address_from (base_of hex) l n (kept_of (without_return line)) b ≡ no_address_among hex n (lines_after line b)
+numbered_after : (hex : Bool) (n : ℕ) (line : List ℕ) (l : Line) (b : List ℕ) → Read hex line l
+    → no_address_from hex l n (kept_of (without_return line)) b ≡ no_address_among hex n (lines_after line b)
 numbered_after hex n line l [] r =
     ap₂ (λ a w. if_no_address a (n, trim_end w) None) (input_ends hex line l r) r.word
 numbered_after hex n line l (c ∷ b) r =
-    let next = after_byte (base_of hex) l c in
+    let next = after_byte hex l c in
     let word = kept_of (without_return line) in
     elim (c == 10) as (λ x. (if x then if_no_address (asked_of l.text) (n, trim_end word)
-    (no_address_from (base_of hex) new_line (suc n) [] b)
-    else no_address_from (base_of hex) next n (word_after l word c) b) ≡ no_address_among hex n (if x
+    (no_address_from hex new_line (suc n) [] b)
+    else no_address_from hex next n (word_after l word c) b) ≡ no_address_among hex n (if x
     then without_return line ∷ lines_after [] b else lines_after (line ++ c ∷ []) b)) [
       | true ↦ ap₂ (λ a o. if_no_address a (n, trim_end word) o) (line_ends hex line l r)
-          (numbered_after hex (suc n) [] new_line b (read_none (base_of hex)))
-      | false ↦ ap (λ w. no_address_from (base_of hex) next n w b) (word_read (base_of hex) line l c r)
-          ∙ numbered_after hex n (line ++ c ∷ []) next b (read_byte (base_of hex) line l c r)
+          (numbered_after hex (suc n) [] new_line b (read_none hex))
+      | false ↦ ap (λ w. no_address_from hex next n w b) (word_read hex line l c r)
+          ∙ numbered_after hex n (line ++ c ∷ []) next b (read_byte hex line l c r)
     ]
 
-pub lines_asked : (hex : Bool) (b : List ℕ) → asked_from (base_of hex) new_line b ≡ asked_in hex b
-lines_asked hex b = asked_after hex [] new_line b (read_none (base_of hex))
+pub lines_asked : (hex : Bool) (b : List ℕ) → asked_from hex new_line b ≡ asked_in hex b
+lines_asked hex b = asked_after hex [] new_line b (read_none hex)
 
-pub lines_numbered : (hex : Bool) (b : List ℕ) → no_address_from (base_of hex) new_line 1 [] b ≡ no_address_in hex b
-lines_numbered hex b = numbered_after hex 1 [] new_line b (read_none (base_of hex))
+pub lines_numbered : (hex : Bool) (b : List ℕ) → no_address_from hex new_line 1 [] b ≡ no_address_in hex b
+lines_numbered hex b = numbered_after hex 1 [] new_line b (read_none hex)

@@ -1,8 +1,8 @@
 -- The addresses asked for on an input, one a line.
 use Rattle.std.specs.Prelude.{ℕ, suc, Bool, ◌||◌, ◌==◌, if◌then◌else◌, List, [], ◌∷◌, ◌++◌}
-use Rattle.std.specs.Prelude.{take, Option, Some, None, is_none, option_map}
+use Rattle.std.specs.Prelude.{take, Option, Some, None, is_none}
 use Rattle.std.specs.List.{list_all, list_any}
-use Rattle.dl_cmd.specs.Address.{address_in, hex_address_in}
+use Rattle.dl_cmd.specs.Address.{address_by}
 use Rattle.dl_look.specs.declared.asked.Asked.{Asked}
 use Rattle.dl_asked.specs.declared.asked_lines.OtherLine.{OtherLine}
 
@@ -34,10 +34,6 @@ trim_start (c ∷ line) = if is_blank c then trim_start line else c ∷ line
 abbrev pub trim_end : List ℕ → List ℕ
 trim_end [] = []
 trim_end (c ∷ line) = if list_all is_blank (c ∷ line) then [] else c ∷ trim_end line
-
--- the address that a text says; with `hex` digits without `0x` are hexadecimal too
-abbrev pub address_by : (hex : Bool) → List ℕ → Option ℕ
-address_by hex text = if hex then hex_address_in text else address_in text
 
 -- the address, where it is one; an empty text asks for nothing
 abbrev pub asked_by : (hex : Bool) → (text : List ℕ) → Option Asked

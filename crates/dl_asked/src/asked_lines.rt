@@ -26,8 +26,8 @@ pub struct LastLine {
 /// its 0x0a. Spaces and tabs around an address are dropped, and so are empty lines.
 #[derive(Debug, Drop)]
 pub struct CurrentLine {
-    /// The base of digits without `0x`.
-    base: u64,
+    /// Whether digits without `0x` are hexadecimal too.
+    hex: bool,
     /// What was read of it.
     line: Line,
     /// Its number.
@@ -50,7 +50,7 @@ impl CurrentLine {
         ensures { HasRead hex [] [] result }
     {
         CurrentLine {
-            base: if hex { 16 } else { 10 },
+            hex,
             line: Line::new(),
             number: 1,
             word: LineWord::new(),
@@ -65,7 +65,7 @@ impl CurrentLine {
     {
         if byte != b'\n' {
             self.word.take(self.line, byte);
-            self.line = self.line.after(self.base, byte);
+            self.line = self.line.after(self.hex, byte);
             return None;
         }
         let asked = self.line.text.asked();
@@ -84,11 +84,11 @@ impl CurrentLine {
             → length done < 2 ^ 63 → option_map other_line_seen result.no_address ≡ no_address_in hex done }
     {
         let mut lines = self;
-        let asked = lines.line.asked_at_end();
+        let asked = lines.line.asked_at_end(lines.hex);
         lines.word.go_on(lines.line);
         lines.note(asked);
         let CurrentLine {
-            base: _,
+            hex: _,
             line: _,
             number: _,
             word: _,

@@ -1,8 +1,7 @@
 //! What a line says first, as it is told of one that is no address.
 ghost use Rattle.std.specs.Prelude.{◌≡◌};
-ghost use Rattle.dl_asked.specs.AskedLines.{is_blank};
 
-use crate::line::Line;
+use crate::line::{Line, is_blank};
 use std::marker::Model;
 
 /// How many bytes of a line are told. An address has at most 20.
@@ -24,13 +23,6 @@ impl Model for LineWord {
     ghost view = { λ word. take word.len word.bytes };
 
     ghost invariant = { λ word. word.len ≤ WORD_LEN };
-}
-
-/// Whether a byte is a space or a tab.
-fn is_blank(byte: u8) -> bool
-    ensures { result ≡ is_blank byte }
-{
-    byte == b' ' || byte == b'\t'
 }
 
 impl LineWord {

@@ -1,5 +1,5 @@
 -- Addresses as texts.
-use Rattle.std.specs.Prelude.{ℕ, ◌+◌, ◌-◌, ◌*◌, ◌^◌, ◌&&◌, List, [], ◌∷◌, Option, Some, None, option_and_then, nat_lt}
+use Rattle.std.specs.Prelude.{ℕ, Bool, ◌+◌, ◌-◌, ◌*◌, ◌^◌, ◌&&◌, List, [], ◌∷◌, Option, Some, None, option_and_then, nat_lt}
 use Rattle.std.specs.Prelude.{nat_le, ◌==◌, if◌then◌else◌}
 
 -- the value of a digit: 48 is `0`, 97 is `a` and 65 is `A`
@@ -34,3 +34,11 @@ abbrev pub hex_address_in : List ℕ → Option ℕ
 hex_address_in [] = None
 hex_address_in (c ∷ []) = number_in 16 (c ∷ [])
 hex_address_in (c ∷ x ∷ text) = if (c == 48) && (x == 120) then number_in 16 text else number_in 16 (c ∷ x ∷ text)
+
+-- the address that a text says; with `hex` digits without `0x` are hexadecimal too
+abbrev pub address_by : (hex : Bool) → List ℕ → Option ℕ
+address_by hex text = if hex then hex_address_in text else address_in text
+
+-- the base of digits without `0x`
+abbrev pub base_of : (hex : Bool) → ℕ
+base_of hex = if hex then 16 else 10

@@ -4,3 +4,4 @@ pub mod Words
 pub mod Refusals
 pub mod Laws
 pub mod Address
+pub mod AddressText

@@ -7,7 +7,7 @@ mod laws;
 mod refusal;
 mod words;
 
-pub use address::{digit_of, read_address, read_hex_address};
+pub use address::{AddressText, read_address};
 pub use job::{AddrWords, FilesWords, FollowWords, IndexWords, Job, UnitWords, Words};
 pub use laws::{faultless_words, file_excludes_input, refused_words, worked_words};
 pub use words::{read_words, word_status};

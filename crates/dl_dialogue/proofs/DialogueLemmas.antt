@@ -8,7 +8,7 @@ use Rattle.std.proofs.lemmas.List.{take_all, take_more}
 use Rattle.dl_print.specs.Printed.{Printed}
 use Rattle.dl_look.specs.declared.asked.Asked.{Asked}
 use Rattle.dl_asked.specs.AskedLines.{and_asked, asked_in, ended}
-use Rattle.dl_asked.specs.LinesRead.{asked_from, base_of}
+use Rattle.dl_asked.specs.LinesRead.{asked_from}
 use Rattle.dl_asked.specs.Reading.{HasRead}
 use Rattle.dl_asked.proofs.LineLemmas.{asked_so_far}
 use Rattle.dl_dialogue.specs.Answers.{Manner, StopsBy, lines_by}
@@ -27,7 +27,7 @@ pub stops_in : (m : Manner) (hex : Bool) (Fails : TellFault → Type 0) (start n
     → StopsBy m Fails start now asked fault → StopsIn m hex Fails start now done fault
 stops_in m hex Fails start now done asked d fault read stops rest =
     subst (λ a. StopsBy m Fails start now a fault) (sym (asked_so_far hex done asked d.line read rest))
-    (stops_more m Fails start now asked (asked_from (base_of hex) d.line.line rest) fault stops)
+    (stops_more m Fails start now asked (asked_from hex d.line.line rest) fault stops)
 
 pub stops_later : (m : Manner) (hex : Bool) (Fails : TellFault → Type 0) (start now : Option (List ℕ)) (done more : List ℕ)
     (fault : AnswerFault) → StopsIn m hex Fails start now done fault → StopsIn m hex Fails start now (done ++ more) fault

@@ -7,13 +7,13 @@ use Rattle.std.specs.declared.io.Error.{Error}
 use Rattle.std.proofs.KnownBytes.{Keeps-refl}
 use Rattle.dl_file.specs.declared.code.Code.{Code}
 use Rattle.dl_look.specs.declared.code_ranges.CodeRanges.{CodeRanges}
+use Rattle.dl_cmd.specs.Address.{address_by}
 use Rattle.dl_cmd.specs.Job.{AddrTexts, Text, addr}
 use Rattle.dl_sections.specs.declared.around.Survey.{Survey}
 use Rattle.dl_addr.specs.Code.{is_code}
 use Rattle.dl_dirs.specs.Compilation.{directory_by}
 use Rattle.dl_dirs.specs.declared.compilation.CompilationDirectories.{CompilationDirectories}
 use Rattle.dl_look.specs.declared.asked.Asked.{Asked}
-use Rattle.dl_asked.specs.AskedLines.{address_by}
 use Rattle.dl_addr.specs.declared.question.Question.{Question}
 use Rattle.dl_open.specs.Code.{AreLive, live_by}
 use Rattle.dl_program.specs.declared.command.Command.{Command}

@@ -7,10 +7,10 @@ use Rattle.std.proofs.lemmas.List.{drop_more, map-append, take-append-drop, take
 use Rattle.std.proofs.lemmas.Option.{none-some}
 use Rattle.std.specs.List.{list_all}
 use Rattle.std.proofs.lemmas.List.Folds.{list_all-map}
+use Rattle.dl_cmd.specs.Address.{address_by}
 use Rattle.dl_cmd.specs.Job.{AddrTexts, Text}
 use Rattle.dl_sections.specs.declared.fault.RunFault.TheVariants as fault
 use Rattle.dl_look.specs.declared.asked.Asked.{Asked}
-use Rattle.dl_asked.specs.AskedLines.{address_by}
 use Rattle.dl_program.specs.declared.stop.Stop.{Stop}
 use Rattle.dl_program.specs.declared.stop.Stop.TheVariants.{NotAddress, Run}
 use Rattle.dl_program.specs.Locate.{AddressesStop, IsFirstOther, WordsStop, base_in, first_other}

@@ -7,10 +7,10 @@ use Rattle.std.specs.List.{list_all}
 use Rattle.std.specs.Option.{option_copied, option_map_or}
 use Rattle.std.specs.declared.io.Error.{Error}
 use Rattle.dl_memory.specs.Refusals.{IsRefused}
+use Rattle.dl_cmd.specs.Address.{address_by}
 use Rattle.dl_cmd.specs.Job.{AddrTexts, Text, addr}
 use Rattle.dl_sections.specs.declared.fault.RunFault.TheVariants as fault
 use Rattle.dl_sections.specs.declared.around.Survey.{Survey}
-use Rattle.dl_asked.specs.AskedLines.{address_by}
 use Rattle.dl_addr.specs.Code.{is_code}
 use Rattle.dl_dirs.specs.Compilation.{directory_by}
 use Rattle.dl_look.specs.declared.asked.Asked.{Asked}

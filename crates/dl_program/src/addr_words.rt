@@ -2,9 +2,9 @@
 ghost use Rattle.std.specs.Prelude.{◌≡◌, ℕ, IfErr, IfOk, MatchResult, Some, is_some, map, option_map, option_to_list, true};
 ghost use Rattle.std.specs.List.{list_all};
 ghost use Rattle.std.specs.Option.{option_copied};
+ghost use Rattle.dl_cmd.specs.Address.{address_by};
 ghost use Rattle.dl_cmd.specs.Job.{addr_words_made};
 ghost use Rattle.dl_dirs.specs.Compilation.{directory_by};
-ghost use Rattle.dl_asked.specs.AskedLines.{address_by};
 ghost use Rattle.dl_program.specs.Asked.{unless_input};
 ghost use Rattle.dl_program.specs.Compiled.{wants_directories};
 ghost use Rattle.dl_program.specs.Locate.{AddressesStop, IsFirstOther, WordsStop, are_addresses, asked_in_words, base_in};
@@ -15,7 +15,7 @@ use crate::command::{Command, directory_said};
 use crate::stop::Stop;
 use crate::unit_words::is_size;
 use dl_addr::{AnswerForm, Asked, CompilationDirectories, Question, Style};
-use dl_cmd::{AddrWords, read_address, read_hex_address};
+use dl_cmd::{AddrWords, read_address};
 use dl_look::CodeRanges;
 use dl_making::Table;
 use dl_memory::Memory;
@@ -32,24 +32,13 @@ pub fn file_of_words<'a>(words: &AddrWords<'a>) -> Option<&'a str>
     if path == INPUT { None } else { Some(path) }
 }
 
-/// The address that a word says.
-fn address(hex: bool, word: &str) -> Option<u64>
-    ensures { result ≡ address_by hex word.now }
-{
-    if hex {
-        read_hex_address(word)
-    } else {
-        read_address(word)
-    }
-}
-
 /// What is subtracted from each address.
 fn base<'a>(words: &AddrWords<'a>) -> Result<u64, Stop<'a>>
     ensures { MatchResult result (λ n. base_in (addr_words_made words.now) ≡ Some n)
         (IsFirstOther words.now.hex (option_to_list (addr_words_made words.now).base)) }
 {
     match words.base {
-        Some(word) => address(words.hex, word).ok_or(Stop::NotAddress { word }),
+        Some(word) => read_address(words.hex, word).ok_or(Stop::NotAddress { word }),
         None => Ok(0),
     }
 }
@@ -67,7 +56,7 @@ fn addresses<'a, M: Memory>(
 {
     let mut asked = Vec::new(memory.alloc());
     for word in words {
-        let address = address(hex, *word);
+        let address = read_address(hex, *word);
         if address.is_none() {
             return Err(Stop::NotAddress { word: *word });
         }

@@ -85,7 +85,7 @@ fn place(address: Option<&str>, op: u8) -> Option<Place>
     ensures { result ≡ place_of (option_copied address.entry) op }
 {
     Some(Place {
-        address: read_address(address?)?,
+        address: read_address(false, address?)?,
         op_index: op,
     })
 }

@@ -2,7 +2,7 @@
 use Rattle.std.proofs.Common.{◌≡◌, map, take, true, None}
 use Rattle.std.specs.Prelude.{is_some}
 use Rattle.std.specs.List.{list_all}
-use Rattle.dl_asked.specs.AskedLines.{address_by}
+use Rattle.dl_cmd.specs.Address.{address_by}
 use Rattle.dl_program.specs.Locate.{first_other}
 use Rattle.dl_program.proofs.addr_words.addresses.Given as goal
 

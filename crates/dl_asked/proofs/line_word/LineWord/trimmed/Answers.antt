@@ -1,4 +1,4 @@
-use Rattle.std.proofs.Common.{◌≡◌, ◌∙◌, ◌-◌, ◌+◌, ◌<◌, ℕ, arith, refl, sym, ap, take, length, get_or}
+use Rattle.std.proofs.Common.{◌≡◌, ◌∙◌, ◌-◌, ◌+◌, ◌<◌, arith, refl, sym, ap, take, length, get_or}
 use Rattle.dl_asked.specs.AskedLines.{trim_end}
 use Rattle.dl_asked.proofs.WordLemmas.{none_fewer, one_fewer}
 use Rattle.dl_asked.proofs.line_word.LineWord.trimmed.Goals as goal

@@ -1,4 +1,4 @@
-use Rattle.std.proofs.Common.{◌≡◌, ℕ, ◌≤◌, take}
+use Rattle.std.proofs.Common.{◌≡◌, ◌≤◌, take}
 use Rattle.dl_asked.specs.AskedLines.{trim_end}
 use Rattle.dl_asked.proofs.line_word.LineWord.trimmed.Given as goal
 
