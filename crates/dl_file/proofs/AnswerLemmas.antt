@@ -9,10 +9,10 @@ use Rattle.dl_elf.specs.declared.name.SectionName.{SectionName}
 use Rattle.dl_elf.specs.Answers.{IfRead}
 use Rattle.dl_reloc.specs.declared.apply.RelocationFault.{RelocationFault}
 use Rattle.dl_reloc.specs.declared.apply.RelocationFault.TheVariants.{UnknownType, PlaceOutside, SymbolOutside, Damaged}
-use Rattle.dl_elf.specs.declared.named.NamedSection.{NamedSection}
 use Rattle.dl_file.specs.declared.content_reader.ContentReader.{ContentReader}
+use Rattle.dl_file.specs.declared.content_reader.Readable.{Readable}
 use Rattle.dl_file.specs.declared.line_reader.LineReader.TheVariants.{File}
-use Rattle.dl_file.specs.LineTable.{Content, Gives, GivesLine, Inflated, IsLine, Plain, content, line_by}
+use Rattle.dl_file.specs.LineTable.{Content, Gives, GivesLine, Inflated, IsLine, Plain, content_of, line_by}
 use Rattle.dl_file.proofs.ListedLemmas.{none_listed}
 use Rattle.dl_file.proofs.RelocationLemmas.{line_alone}
 use Rattle.std.specs.Option.{option_map}
@@ -65,23 +65,23 @@ line_of all_bytes fails_with fails reader (Inflated name bytes damage) gives = g
 
 -- it has no relocations
 pub opened_line : {S : Type 0} {g : _} (all_bytes : S → Option (List ℕ)) (fails_with : S → Error → Type 0)
-    (fails : Error → Type 0) (e : Elf) (f : List ℕ) (line : NamedSection) (Memory : Type 0) (reader : ContentReader S g)
-    → relocations_of e f line.number ≡ Some 0 → Gives all_bytes fails_with fails reader (content e f line)
+    (fails : Error → Type 0) (e : Elf) (f : List ℕ) (line : Readable) (Memory : Type 0) (reader : ContentReader S g)
+    → relocations_of e f line.section.number ≡ Some 0 → Gives all_bytes fails_with fails reader (content_of f line)
     → OpensLine all_bytes fails_with fails (IsLine e f line) Memory (Ok (File reader))
 opened_line all_bytes fails_with fails e f line Memory reader none gives = (
-  content e f line,
-  sym (line_alone e f line (content e f line) none),
-  line_of all_bytes fails_with fails reader (content e f line) gives,
+  content_of f line,
+  sym (line_alone e f line.section (content_of f line) none),
+  line_of all_bytes fails_with fails reader (content_of f line) gives,
 )
 
 -- it can't be told how many it has
 pub uncounted_opens : {S : Type 0} (g : _) (all_bytes : S → Option (List ℕ)) (fails_with : S → Error → Type 0)
-    (fails : Error → Type 0) (e : Elf) (f : List ℕ) (line : NamedSection) (Memory : Type 0) (why : ElfFault)
-    → IsCounted (relocations_of e f line.number) (Err why)
+    (fails : Error → Type 0) (e : Elf) (f : List ℕ) (line : Readable) (Memory : Type 0) (why : ElfFault)
+    → IsCounted (relocations_of e f line.section.number) (Err why)
     → OpensLine {g = g} all_bytes fails_with fails (IsLine e f line) Memory (Err why)
 uncounted_opens g all_bytes fails_with fails e f line Memory (fault.Read error) is = tt
 uncounted_opens g all_bytes fails_with fails e f line Memory (fault.Damaged part.SectionHeaders) is =
-    sym (ap (line_by e f line (content e f line)) (none_listed (relocation_sections e f line.number) is))
+    sym (ap (line_by e f line.section (content_of f line)) (none_listed (relocation_sections e f line.section.number) is))
 uncounted_opens g all_bytes fails_with fails e f line Memory other is = absurd is
 
 -- it has some, and its bytes can't be had

@@ -1,5 +1,5 @@
 -- How many places relocations change at most, and for how many memory is refused.
-use Rattle.std.proofs.Common.{◌≡◌, ℕ, zero, suc, ◌+◌, ◌*◌, ◌-◌, ◌<◌, ◌≤◌, Bool, true, false, List, [], drop, take, length, Option, Some, None, Result, Ok, Err}
+use Rattle.std.proofs.Common.{◌≡◌, ℕ, zero, suc, ◌+◌, ◌*◌, ◌-◌, ◌<◌, ◌≤◌, Bool, true, false, List, [], drop, length, Option, Some, None, Result, Ok, Err}
 use Rattle.std.proofs.Common.{arith, refl, sym, ap, subst, ◌∙◌, length-take, length-drop}
 use Rattle.std.specs.Prelude.{⊤, OnErr, OnOk, if◌then◌else◌, is_err}
 use Rattle.std.proofs.Math.Nat.{add-mul, mul-le-mul_right}

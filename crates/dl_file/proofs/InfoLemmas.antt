@@ -14,18 +14,19 @@ use Rattle.dl_elf.specs.declared.name.SectionName.TheVariants.{DebugLineStr, Zde
 use Rattle.dl_elf.specs.declared.named.NamedSection.{NamedSection}
 use Rattle.dl_elf.specs.Found.{AreFound, Sections}
 use Rattle.dl_elf.specs.Sections.{opened, range_within, section_range}
+use Rattle.dl_file.specs.declared.content_reader.Readable.{Readable}
 use Rattle.dl_file.specs.declared.info_file.InfoFile.{InfoFile}
 use Rattle.dl_file.specs.declared.info_file.InfoSections.{InfoSections}
 use Rattle.dl_file.specs.declared.line_reader.LineReader.{LineReader}
 use Rattle.dl_file.specs.Answering.{InfoLiesIn, LiesIn}
 use Rattle.dl_file.specs.InfoTable.{HasInfo, InfoTable, IsInfoOf, OpensUnits, info_sections, named_section}
 use Rattle.dl_file.specs.InfoTable.{OpensInfo, OpensInfoOf, TakesMemoryForInfo, readable}
-use Rattle.dl_file.specs.LineTable.{Content, GivesLine, HasStream, IsLine, option_or, refused}
+use Rattle.dl_file.specs.LineTable.{Content, GivesLine, HasStream, IsLine, option_or, refused, with_stream}
 use Rattle.dl_file.specs.Relocations.{HasRelocations}
 
 -- memory may be refused for them
 abbrev UnitsMemory : Elf → List ℕ → InfoSections → Type 0
-UnitsMemory e f c = HasRelocations e f c.info.number ⊎ HasStream e f (Some c.info)
+UnitsMemory e f c = HasRelocations e f c.info.section.number ⊎ HasStream (Some c.info)
 
 -- its relocations can't be applied
 pub no_units : {S : Type 0} {g : _} (all_bytes : S → Option (List ℕ)) (fails_with : S → Error → Type 0) (fails : Error → Type 0) (e : Elf) (f : List ℕ) (c : InfoSections)
@@ -61,25 +62,26 @@ of_sections e f at found t is has =
 
 -- ---- a section that can be read lies in the file
 
-same : (b : Bool) (s r : NamedSection) → ◌≡◌ {A = Option NamedSection} (if b then None else Some s) (Some r) → s ≡ r
+same : (b : Bool) (s r : Readable) → ◌≡◌ {A = Option Readable} (if b then None else Some s) (Some r) → s ≡ r
 same true s r is = absurd (cc is)
 same false s r is = cc is
 
-readable_within : (e : Elf) (f : List ℕ) (s r : NamedSection) → readable e f s ≡ Some r
-    → range_within (section_range r.header) f ≡ true
+readable_within : (e : Elf) (f : List ℕ) (s : NamedSection) (r : Readable) → readable e f s ≡ Some r
+    → range_within (section_range r.section.header) f ≡ true
 readable_within e f s r is = by (range_within (section_range s.header) f) refl where
-  by : (b : Bool) → range_within (section_range s.header) f ≡ b → range_within (section_range r.header) f ≡ true
+  by : (b : Bool) → range_within (section_range s.header) f ≡ b → range_within (section_range r.section.header) f ≡ true
   by true e' =
-      subst (λ (n : NamedSection). range_within (section_range n.header) f ≡ true)
-      (same (is_some (section_damage e f s) || is_some (refused e f s)) s r is) e'
+      subst (λ (n : Readable). range_within (section_range n.section.header) f ≡ true)
+      (same (is_some (section_damage e f s) || is_some (refused e f s)) (with_stream e f s) r is) e'
   by false e' = absurd (cc (rw e' at is))
 
-named_within : (e : Elf) (f : List ℕ) (o : Option NamedSection) (r : NamedSection)
-    → option_and_then (readable e f) o ≡ Some r → range_within (section_range r.header) f ≡ true
+named_within : (e : Elf) (f : List ℕ) (o : Option NamedSection) (r : Readable)
+    → option_and_then (readable e f) o ≡ Some r → range_within (section_range r.section.header) f ≡ true
 named_within e f None r is = absurd (cc is)
 named_within e f (Some s) r is = readable_within e f s r is
 
-lies_in : (e : Elf) (f : List ℕ) (o n : Option NamedSection) → option_and_then (readable e f) o ≡ n → LiesIn f n
+lies_in : (e : Elf) (f : List ℕ) (o : Option NamedSection) (n : Option Readable) → option_and_then (readable e f) o ≡ n
+    → LiesIn f n
 lies_in e f o None is = tt
 lies_in e f o (Some r) is = named_within e f o r is
 
@@ -88,7 +90,7 @@ pub info_within : (e : Elf) (f : List ℕ) (at : Sections) (c : InfoSections) �
 info_within e f at c is =
     by (named_section e f at DebugInfo ZdebugInfo) (named_section e f at DebugAbbrev ZdebugAbbrev) refl refl is
   where
-    with_both : NamedSection → NamedSection → InfoSections
+    with_both : Readable → Readable → InfoSections
     with_both info abbreviations = record {
       info = info;
       abbreviations = abbreviations;
@@ -97,7 +99,7 @@ info_within e f at c is =
       debug_line_str = named_section e f at DebugLineStr ZdebugLineStr;
     }
 
-    by : (o p : Option NamedSection) → named_section e f at DebugInfo ZdebugInfo ≡ o
+    by : (o p : Option Readable) → named_section e f at DebugInfo ZdebugInfo ≡ o
         → named_section e f at DebugAbbrev ZdebugAbbrev ≡ p
         → Some c ≡ option_and_then (λ info. option_map (with_both info) p) o → InfoLiesIn f c
     by None p found besides is = absurd (cc is)

@@ -1,10 +1,9 @@
 -- The answer of a file whose headers were read.
-use Rattle.std.proofs.Common.{◌≡◌, ℕ, ◌==◌, Bool, false, if◌then◌else◌, List, [], ◌∷◌, Option, None, Some, Result, Ok, Err}
+use Rattle.std.proofs.Common.{◌≡◌, ◌⊎◌, ℕ, ◌==◌, Bool, false, if◌then◌else◌, List, [], ◌∷◌, Option, None, Some, Result, Ok, Err}
 use Rattle.std.proofs.Common.{MatchResult, MatchOption, inl, inr, option_map, refl, sym, subst, true, ◌∙◌}
 use Rattle.std.proofs.lemmas.Bool.{cases_Bool}
 use Rattle.std.specs.declared.io.Error.{Error}
 use Rattle.dl_elf.specs.declared.header.FileHeader.{FileHeader}
-use Rattle.dl_elf.specs.declared.section.SectionHeader.{SectionHeader}
 use Rattle.dl_elf.specs.declared.file.Elf.{Elf}
 use Rattle.dl_elf.specs.declared.fault.ElfFault.{ElfFault}
 use Rattle.dl_elf.specs.declared.fault.ElfFault.TheVariants as fault
@@ -14,27 +13,42 @@ use Rattle.dl_elf.specs.declared.fault.Part.{Part}
 use Rattle.dl_elf.specs.declared.fault.Part.TheVariants as part
 use Rattle.dl_elf.specs.declared.named.NamedSection.{NamedSection}
 use Rattle.std.specs.Option.{option_and_then}
-use Rattle.dl_elf.specs.Elf.{file_header, section_header_size}
+use Rattle.dl_elf.specs.Elf.{file_header}
 use Rattle.dl_elf.specs.Sections.{count_in, names_range, opened, opened_by, range_within, reasons, section_range, unless}
 use Rattle.dl_elf.specs.Sections.{without_names}
 use Rattle.dl_elf.specs.declared.build_id.BuildId.{BuildId}
 use Rattle.dl_elf.specs.declared.name.SectionName.TheVariants.{BuildIdNote}
 use Rattle.dl_elf.specs.Notes.{build_id_bytes, build_id_of}
 use Rattle.dl_elf.specs.Found.{AreFound, Sections}
+use Rattle.dl_file.specs.declared.content_reader.Readable.{Readable}
 use Rattle.dl_file.specs.declared.line_file.Chosen.{Chosen}
 use Rattle.dl_file.specs.declared.line_file.Wanted.{Wanted}
 use Rattle.dl_file.specs.declared.line_file.LineFile.{LineFile}
-use Rattle.dl_file.specs.Answering.{LiesIn, OpensTable}
+use Rattle.dl_file.specs.Answering.{LiesIn, OpensLine, OpensTable}
 use Rattle.dl_file.specs.LineTable.{Content, HasLineTable, IsLine, IsLineTable, IsTableOf, LineTable, Opens, chosen}
 use Rattle.dl_file.specs.LineTable.{IsWithoutLineSection, TakesMemoryFor, first_damage, first_refused}
-use Rattle.dl_file.specs.LineTable.{option_or, with_line}
+use Rattle.dl_file.specs.LineTable.{HasStream, option_or, with_line, with_stream}
+use Rattle.dl_file.specs.Relocations.{HasRelocations}
 
 -- none of the wanted sections has damage, and none is compressed otherwise than with zlib
-pub table_whole : (e : Elf) (f : List ℕ) (c : Chosen) (line : Result Content ElfFault)
-    (result : Result LineTable ElfFault)
-    → first_damage e f c ≡ None → first_refused e f c ≡ None → IsLine e f c.line line → result ≡ with_line e f c line
-    → IsTableOf e f c result
-table_whole e f c line result undamaged unrefused is table = rw (undamaged, unrefused) (line, is, table)
+pub table_whole : (e : Elf) (f : List ℕ) (c : Chosen) (line : Result Content ElfFault) → first_damage e f c ≡ None
+    → first_refused e f c ≡ None → IsLine e f (with_stream e f c.line) line → IsTableOf e f c (with_line e f c line)
+table_whole e f c line undamaged unrefused is = rw (undamaged, unrefused) (line, is, refl)
+
+-- and there is no reader of the line section
+pub line_stops : {S : Type 0} (g : _) (all_bytes : S → Option (List ℕ)) (fails_with : S → Error → Type 0) (fails : Error → Type 0)
+    (e : Elf) (f : List ℕ) (c : Chosen) (line : Readable) (why : ElfFault) → first_damage e f c ≡ None
+    → first_refused e f c ≡ None → line ≡ with_stream e f c.line
+    → OpensLine {g = g} all_bytes fails_with fails (IsLine e f line)
+    (HasRelocations e f line.section.number ⊎ HasStream (Some line)) (Err why)
+    → OpensTable {g = g} all_bytes fails_with fails (IsTableOf e f c) (TakesMemoryFor e f c) (Err why)
+line_stops g all_bytes fails_with fails e f c line (fault.Read error) undamaged unrefused is opens = tt
+line_stops g all_bytes fails_with fails e f c line fault.NoMemory undamaged unrefused is (inl relocations) =
+    inl (rw is at relocations)
+line_stops g all_bytes fails_with fails e f c line fault.NoMemory undamaged unrefused is (inr stream) =
+    inr (inl (rw is at stream))
+line_stops g all_bytes fails_with fails e f c line other undamaged unrefused is opens =
+    table_whole e f c (Err other) undamaged unrefused (rw is at opens)
 
 -- sections without damage lie in the file
 lies : (e : Elf) (f : List ℕ) (s : NamedSection) (found : Option Part) → found ≡ section_damage e f s → found ≡ None
@@ -45,7 +59,8 @@ lies e f s found is none = elim (cases_Bool (range_within (section_range s.heade
       absurd (cc (sym none ∙ (is ∙ damaged))))
 ]
 
-lies_where : (e : Elf) (f : List ℕ) (o : Option NamedSection) → option_and_then (section_damage e f) o ≡ None → LiesIn f o
+lies_where : (e : Elf) (f : List ℕ) (o : Option NamedSection) → option_and_then (section_damage e f) o ≡ None
+    → LiesIn f (option_map (with_stream e f) o)
 lies_where e f None none = tt
 lies_where e f (Some s) none = lies e f s (section_damage e f s) refl none
 
@@ -58,7 +73,7 @@ first_none None p is = refl
 first_none (Some x) p is = absurd (cc is)
 
 pub strings_lie : (e : Elf) (f : List ℕ) (c : Chosen) → first_damage e f c ≡ None
-    → LiesIn f c.debug_line_str × LiesIn f c.debug_str
+    → LiesIn f (option_map (with_stream e f) c.debug_line_str) × LiesIn f (option_map (with_stream e f) c.debug_str)
 strings_lie e f c none =
     let both = second_none (section_damage e f c.line) _ none in (
       lies_where e f c.debug_line_str (first_none (option_and_then (section_damage e f) c.debug_line_str) _ both),

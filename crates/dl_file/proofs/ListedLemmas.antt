@@ -1,6 +1,6 @@
 -- What is done section after section is done over the list of all section headers.
 use Rattle.std.proofs.Common.{◌≡◌, ◌∙◌, if◌then◌else◌, ℕ, zero, suc, ◌+◌, ◌-◌, Bool, true, false, cond, List, [], ◌∷◌, ◌++◌, length, Option, None, Some}
-use Rattle.std.proofs.Common.{Result, Ok, Err, arith, refl, ap, sym, subst, append_assoc}
+use Rattle.std.proofs.Common.{Result, Ok, Err, refl, ap, sym}
 use Rattle.std.specs.Prelude.{filter, option_map, slice_get}
 use Rattle.std.specs.List.{cons_option, filter_map}
 use Rattle.std.specs.Option.{option_and_then}
@@ -13,13 +13,12 @@ use Rattle.dl_elf.specs.declared.section.SectionHeader.{SectionHeader}
 use Rattle.dl_elf.specs.Elf.{is_object, relocates}
 use Rattle.dl_elf.specs.Sections.{headers_upto, section_headers, section_in}
 use Rattle.dl_file.specs.declared.code.ExecutableRange.{ExecutableRange}
-use Rattle.dl_file.specs.Code.{executable_range, executable_range_at, executable_ranges}
+use Rattle.dl_file.specs.Code.{executable_range}
 use Rattle.dl_file.specs.LineTable.{option_or}
-use Rattle.dl_file.specs.OneByOne.{and_range, placed_at, placed_if, placed_upto, ranges_upto, relocated_at, relocated_if}
+use Rattle.dl_file.specs.OneByOne.{and_range, placed_if, placed_upto, ranges_upto, relocated_if}
 use Rattle.dl_file.specs.OneByOne.{relocated_upto, relocations_in, relocations_upto, sum_of, wide_at, wide_upto}
 use Rattle.dl_file.specs.Places.{is_wide, placed_of, there}
 use Rattle.dl_file.specs.Relocations.{all_there, and_then, by_each, relocated_by, relocation_sections, relocations_of}
-use Rattle.dl_reloc.specs.declared.placed.Placed.{Placed}
 
 -- ---- one more of a list
 

@@ -9,7 +9,6 @@ use Rattle.dl_elf.specs.declared.named.NamedSection.{NamedSection}
 use Rattle.dl_elf.specs.declared.section.SectionHeader.{SectionHeader}
 use Rattle.dl_elf.specs.declared.fault.ElfFault.{ElfFault}
 use Rattle.dl_elf.specs.declared.fault.ElfFault.TheVariants as fault
-use Rattle.dl_elf.specs.declared.fault.Part.TheVariants as part
 use Rattle.dl_elf.specs.Answers.{Answers}
 use Rattle.dl_elf.specs.Elf.{file_header, relocates}
 use Rattle.dl_elf.specs.Found.{AreFound, Sections}

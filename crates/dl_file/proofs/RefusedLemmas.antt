@@ -12,7 +12,7 @@ use Rattle.dl_file.specs.declared.info_file.InfoSections.{InfoSections}
 use Rattle.dl_file.specs.declared.line_file.Chosen.{Chosen}
 use Rattle.dl_file.specs.declared.line_file.Wanted.{Wanted}
 use Rattle.dl_file.specs.InfoTable.{InfoTooLong, info_sections}
-use Rattle.dl_file.specs.LineTable.{HoldsTooMuch, LineTooLong, chosen}
+use Rattle.dl_file.specs.LineTable.{HoldsTooMuch, LineTooLong, chosen, with_stream}
 
 -- by a fault
 pub refused_err : (P Q : Type 0) (why : ElfFault) → (P → Q) → IfRefused {A = Unit {0}} P (Err why)
@@ -28,9 +28,9 @@ refused_in P Q (Err why) wider refused = refused_err P Q why wider refused
 -- the line section of a file is too long to be held
 pub line_too_long : {A : Type 0} (Refusal : Type 0) (f : List ℕ) (wanted : Wanted) (e : Elf) (at : Sections) (c : Chosen)
     (r : Result A ElfFault) → Ok e ≡ opened f → AreFound e f at → Some c ≡ chosen at wanted
-    → IfRefused (Refusal ⊎ HoldsTooMuch e f c.line) r → IfRefused (Refusal ⊎ LineTooLong f wanted) r
+    → IfRefused (Refusal ⊎ HoldsTooMuch e f (with_stream e f c.line)) r → IfRefused (Refusal ⊎ LineTooLong f wanted) r
 line_too_long Refusal f wanted e at c r is found these =
-    refused_in (Refusal ⊎ HoldsTooMuch e f c.line) (Refusal ⊎ LineTooLong f wanted) r
+    refused_in (Refusal ⊎ HoldsTooMuch e f (with_stream e f c.line)) (Refusal ⊎ LineTooLong f wanted) r
     (λ why. elim why [ inl refused ↦ inl refused | inr much ↦ inr (e, sym is, at, found, c, sym these, much) ])
 
 -- or its .debug_info

@@ -10,7 +10,7 @@ use Rattle.dl_elf.specs.declared.section.SectionHeader.{SectionHeader}
 use Rattle.dl_elf.specs.declared.fault.ElfFault.{ElfFault}
 use Rattle.dl_elf.specs.declared.fault.ElfFault.TheVariants as fault
 use Rattle.dl_elf.specs.declared.fault.Part.TheVariants as part
-use Rattle.dl_elf.specs.Elf.{is_object, relocates}
+use Rattle.dl_elf.specs.Elf.{relocates}
 use Rattle.dl_elf.specs.Forward.{IsBackward}
 use Rattle.dl_elf.specs.Sections.{section_in}
 use Rattle.dl_file.specs.LineTable.{Content, held_bytes, line_by, plain_content}

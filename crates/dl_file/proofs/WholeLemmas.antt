@@ -4,17 +4,15 @@ use Rattle.std.proofs.Common.{inl, inr, subst, arith, append_assoc, length-drop,
 use Rattle.std.proofs.lemmas.Bool.{cases_Bool, eqb-true, leb-true}
 use Rattle.std.specs.Global.{Vec}
 use Rattle.std.specs.Io.KnownBytes.{Consumes}
-use Rattle.dl_elf.specs.Compressed.{compression_header}
 use Rattle.dl_elf.specs.Sections.{lies_within, range_within, section_bytes, section_range}
 use Rattle.dl_elf.specs.declared.compression.CompressionHeader.{CompressionHeader}
 use Rattle.dl_elf.specs.declared.fault.ElfFault.{ElfFault}
-use Rattle.dl_elf.specs.declared.file.Elf.{Elf}
 use Rattle.dl_elf.specs.declared.name.SectionName.{SectionName}
-use Rattle.dl_elf.specs.declared.named.NamedSection.{NamedSection}
 use Rattle.dl_elf.specs.declared.section.SectionHeader.{SectionHeader}
+use Rattle.dl_file.specs.declared.content_reader.Readable.{Readable}
 use Rattle.dl_file.specs.Answering.{IsHad}
 use Rattle.dl_file.specs.Inflating.{damage, inflated}
-use Rattle.dl_file.specs.LineTable.{Content, Inflated, content, content_by, held_bytes}
+use Rattle.dl_file.specs.LineTable.{Content, Inflated, content_by, content_of, held_bytes}
 
 -- one more piece was read of bytes that are known
 pub more_read : (bytes before rest piece : List ℕ) (old new : Option (List ℕ)) → old ≡ Some rest → Consumes old new piece
@@ -63,13 +61,14 @@ section_few f s =
     omega (arith, length-take range.size (drop range.offset f), length-drop range.offset f)
 
 -- the bytes of a section that lies in the file
-pub inflated_had : (e : Elf) (f : List ℕ) (s : NamedSection) (header : CompressionHeader) (section : List ℕ)
-    (result : Result (Vec ℕ) ElfFault) → compression_header e f s ≡ Some header
-    → range_within (section_range s.header) f ≡ true → section ≡ section_bytes s.header f
-    → IsHad (held_bytes (Inflated s.name (inflated header (drop header.stream_offset section))
+pub inflated_had : (f : List ℕ) (r : Readable) (header : CompressionHeader) (section : List ℕ)
+    (result : Result (Vec ℕ) ElfFault) → r.stream ≡ Some header
+    → range_within (section_range r.section.header) f ≡ true → section ≡ section_bytes r.section.header f
+    → IsHad (held_bytes (Inflated r.section.name (inflated header (drop header.stream_offset section))
     (damage header (length section) (drop header.stream_offset section)))) result
-    → IsHad (held_bytes (content e f s)) result
-inflated_had e f s header section result compressed within is had =
+    → IsHad (held_bytes (content_of f r)) result
+inflated_had f r header section result compressed within is had =
+    let s = r.section in
     let range = section_range s.header in
     let size : length (section_bytes s.header f) ≡ range.size = range_size f range.offset range.size within in
     subst (λ (o : Option CompressionHeader). IsHad (held_bytes (content_by f s o)) result) (sym compressed)

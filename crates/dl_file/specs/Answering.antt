@@ -2,12 +2,12 @@
 use Rattle.std.specs.Prelude.{◌≡◌, ◌-◌, ℕ, true, List, Option, Some, None, IfSome, Result, Ok, Err}
 use Rattle.std.specs.Global.{Vec}
 use Rattle.std.specs.declared.io.Error.{Error}
+use Rattle.dl_elf.specs.declared.compression.Compression.{Compression}
 use Rattle.dl_elf.specs.declared.name.SectionName.{SectionName}
 use Rattle.dl_elf.specs.declared.fault.ElfFault.{ElfFault}
 use Rattle.dl_elf.specs.declared.fault.ElfFault.TheVariants as fault
 use Rattle.dl_elf.specs.declared.fault.Part.TheVariants as part
 use Rattle.dl_elf.specs.declared.file.Elf.{Elf}
-use Rattle.dl_elf.specs.declared.named.NamedSection.{NamedSection}
 use Rattle.dl_elf.specs.Sections.{range_within, section_range}
 use Rattle.dl_file.specs.declared.info_file.InfoSections.{InfoSections}
 use Rattle.dl_reloc.specs.declared.placed.Placed.{Placed}
@@ -17,9 +17,9 @@ use Rattle.dl_file.specs.Relocations.{relocations_of}
 use Rattle.dl_file.specs.declared.read_fault.ReadFault.{ReadFault}
 use Rattle.dl_file.specs.declared.read_fault.ReadFault.TheVariants.{Read, DamagedStream}
 use Rattle.dl_file.specs.declared.line_file.LineFile.{LineFile}
-use Rattle.dl_file.specs.declared.content_reader.ContentReader.{ContentReader}
+use Rattle.dl_file.specs.declared.content_reader.Readable.{Readable}
 use Rattle.dl_file.specs.declared.line_reader.LineReader.{LineReader}
-use Rattle.dl_file.specs.LineTable.{Content, Gives, GivesLine, GivesOption, GivesTable, LineTable}
+use Rattle.dl_file.specs.LineTable.{Content, GivesLine, GivesTable, LineTable}
 
 -- a read failed, or a growth was refused
 abbrev pub StopsReading : (Error → Type 0) → ElfFault → Type 0
@@ -66,33 +66,29 @@ AreFound e f number (Ok found) =
     (relocations_of e f number ≡ Some found.count) × (relocations_upto e f number (found.first - 1) ≡ Some 0)
 AreFound e f number (Err why) = IsCounted (relocations_of e f number) (Err why)
 
+-- this is what was checked, or a section is compressed otherwise than with zlib; or a read failed
+abbrev pub IsChecked : {A : Type 0} → (refused : Option (SectionName × Compression)) (checked : A) → Result A ElfFault → Type 0
+IsChecked refused checked (Ok found) = (◌≡◌ {A = Option (SectionName × Compression)} refused None) × (found ≡ checked)
+IsChecked refused checked (Err (fault.Read error)) = Unit {0}
+IsChecked refused checked (Err (fault.Compressed name method)) = refused ≡ Some (name, method)
+IsChecked refused checked (Err other) = ⊥
+
 -- a section lies in the file, where there is one
-abbrev pub LiesIn : List ℕ → Option NamedSection → Type 0
-LiesIn f section = IfSome section (λ s. range_within (section_range s.header) f ≡ true)
+abbrev pub LiesIn : List ℕ → Option Readable → Type 0
+LiesIn f section = IfSome section (λ r. range_within (section_range r.section.header) f ≡ true)
 
 -- those of .debug_info that were found lie in the file
 pub record InfoLiesIn (f : List ℕ) (found : InfoSections) : Type 0 where
-  pub info : range_within (section_range found.info.header) f ≡ true
-  pub abbreviations : range_within (section_range found.abbreviations.header) f ≡ true
+  pub info : range_within (section_range found.info.section.header) f ≡ true
+  pub abbreviations : range_within (section_range found.abbreviations.section.header) f ≡ true
   pub str_offsets : LiesIn f found.str_offsets
   pub str : LiesIn f found.debug_str
   pub line_str : LiesIn f found.debug_line_str
 
--- a reader of these bytes; memory is refused only where `Memory` says so
-abbrev pub OpensContent : {S : Type 0} {g : _} → (S → Option (List ℕ)) → (S → Error → Type 0) → (fails : Error → Type 0) → Content → (Memory : Type 0)
-    → Result (ContentReader S g) ElfFault → Type 0
-OpensContent all_bytes fails_with fails content Memory (Ok reader) = Gives all_bytes fails_with fails reader content
-OpensContent all_bytes fails_with fails content Memory (Err (fault.Read error)) = Unit {0}
-OpensContent all_bytes fails_with fails content Memory (Err fault.NoMemory) = Memory
-OpensContent all_bytes fails_with fails content Memory (Err other) = ⊥
-
--- the same where there is a section
-abbrev pub OpensOption : {S : Type 0} {g : _} → (S → Option (List ℕ)) → (S → Error → Type 0) → (fails : Error → Type 0) → Option Content → (Memory : Type 0)
-    → Result (Option (ContentReader S g)) ElfFault → Type 0
-OpensOption all_bytes fails_with fails content Memory (Ok reader) = GivesOption all_bytes fails_with fails reader content
-OpensOption all_bytes fails_with fails content Memory (Err (fault.Read error)) = Unit {0}
-OpensOption all_bytes fails_with fails content Memory (Err fault.NoMemory) = Memory
-OpensOption all_bytes fails_with fails content Memory (Err other) = ⊥
+-- a growth was refused, for which `Memory` holds
+abbrev pub WantsMemory : (Memory : Type 0) → ElfFault → Type 0
+WantsMemory Memory fault.NoMemory = Memory
+WantsMemory Memory other = ⊥
 
 -- a reader of the line section, or the fault
 abbrev pub OpensLine : {S : Type 0} {g : _} → (S → Option (List ℕ)) → (S → Error → Type 0) → (fails : Error → Type 0) → (IsAnswer : Result Content ElfFault → Type 0)

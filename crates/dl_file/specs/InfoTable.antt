@@ -15,20 +15,23 @@ use Rattle.dl_elf.specs.declared.named.NamedSection.{NamedSection}
 use Rattle.dl_elf.specs.Compressed.{section_damage}
 use Rattle.dl_elf.specs.Found.{AreFound, Sections}
 use Rattle.dl_elf.specs.Sections.{opened}
+use Rattle.dl_file.specs.declared.content_reader.Readable.{Readable}
 use Rattle.dl_file.specs.declared.info_file.InfoFile.{InfoFile}
 use Rattle.dl_file.specs.declared.info_file.InfoSections.{InfoSections}
 use Rattle.dl_file.specs.declared.line_reader.LineReader.{LineReader}
-use Rattle.dl_file.specs.LineTable.{Content, Gives, GivesLine, GivesOption, HasStream, HoldsTooMuch, IsLine, content, option_or, refused}
+use Rattle.dl_file.specs.LineTable.{Content, Gives, GivesLine, GivesOption, HasStream, HoldsTooMuch, IsLine, content_of}
+use Rattle.dl_file.specs.LineTable.{option_or, refused, with_stream}
 use Rattle.dl_file.specs.Relocations.{HasRelocations}
 
 -- ---- which sections
 
 -- a section that lies in the file, and isn't compressed otherwise than with zlib
-abbrev pub readable : Elf → List ℕ → NamedSection → Option NamedSection
-readable e f s = if is_some (section_damage e f s) || is_some (refused e f s) then None else Some s
+abbrev pub readable : Elf → List ℕ → NamedSection → Option Readable
+readable e f s =
+    if is_some (section_damage e f s) || is_some (refused e f s) then None else Some (with_stream e f s)
 
 -- the section of one of two names, the first before the other, where it can be read
-abbrev pub named_section : Elf → List ℕ → Sections → (name compressed : SectionName) → Option NamedSection
+abbrev pub named_section : Elf → List ℕ → Sections → (name compressed : SectionName) → Option Readable
 named_section e f at name compressed = option_and_then (readable e f) (option_or (at name) (at compressed))
 
 -- the sections; None where .debug_info or .debug_abbrev isn't among them
@@ -58,10 +61,10 @@ abbrev pub info_table : Elf → List ℕ → InfoSections → Result Content Elf
 info_table e f c (Ok info) = Some (record {
   order = e.header.order;
   info = info;
-  abbreviations = content e f c.abbreviations;
-  str_offsets = option_map (content e f) c.str_offsets;
-  str = option_map (content e f) c.debug_str;
-  line_str = option_map (content e f) c.debug_line_str;
+  abbreviations = content_of f c.abbreviations;
+  str_offsets = option_map (content_of f) c.str_offsets;
+  str = option_map (content_of f) c.debug_str;
+  line_str = option_map (content_of f) c.debug_line_str;
 })
 info_table e f c (Err first) = None
 
@@ -77,9 +80,8 @@ HasInfo f t = MatchResult (opened f) (λ e. (at : Sections) × AreFound e f at
 
 -- memory is taken for these sections: one is compressed, or .debug_info has relocations and is held
 abbrev pub TakesMemoryForInfo : Elf → List ℕ → InfoSections → Type 0
-TakesMemoryForInfo e f c = HasRelocations e f c.info.number ⊎ (HasStream e f (Some c.info)
-    ⊎ (HasStream e f (Some c.abbreviations) ⊎ (HasStream e f c.str_offsets
-    ⊎ (HasStream e f c.debug_str ⊎ HasStream e f c.debug_line_str))))
+TakesMemoryForInfo e f c = HasRelocations e f c.info.section.number ⊎ (HasStream (Some c.info)
+    ⊎ (HasStream (Some c.abbreviations) ⊎ (HasStream c.str_offsets ⊎ (HasStream c.debug_str ⊎ HasStream c.debug_line_str))))
 
 -- and for those of a file with these bytes
 abbrev pub TakesInfoMemory : List ℕ → Type 0

@@ -15,6 +15,7 @@ use Rattle.dl_file.specs.declared.line_file.Wanted.TheVariants.{LineSection, Lin
 use Rattle.dl_file.specs.declared.line_file.Chosen.{Chosen}
 use Rattle.dl_file.specs.declared.line_file.LineFile.{LineFile}
 use Rattle.dl_file.specs.declared.content_reader.ContentReader.{ContentReader}
+use Rattle.dl_file.specs.declared.content_reader.Readable.{Readable}
 use Rattle.dl_file.specs.declared.line_reader.LineReader.{LineReader}
 use Rattle.dl_elf.specs.declared.compression.Compression.{Compression}
 use Rattle.dl_elf.specs.declared.compression.Compression.TheVariants.{Zlib}
@@ -112,8 +113,12 @@ abbrev pub content_by : List ℕ → NamedSection → Option CompressionHeader �
 content_by f s None = Plain (section_bytes s.header f)
 content_by f s (Some header) = inflated_content s.name header (section_range s.header) f
 
-abbrev pub content : Elf → List ℕ → NamedSection → Content
-content e f s = content_by f s (compression_header e f s)
+-- a section with how it is compressed, and the bytes of such a one
+abbrev pub with_stream : Elf → List ℕ → NamedSection → Readable
+with_stream e f s = record { section = s; stream = compression_header e f s }
+
+abbrev pub content_of : List ℕ → Readable → Content
+content_of f r = content_by f r.section r.stream
 
 abbrev pub plain_content : Result (List ℕ) ElfFault → Result Content ElfFault
 plain_content (Ok bytes) = Ok (Plain bytes)
@@ -133,8 +138,9 @@ line_by e f line whole (Some []) = Ok whole
 line_by e f line whole (Some (s ∷ more)) = plain_content (relocated_line e f line (s ∷ more) (held_bytes whole))
 
 -- the line section, in an object file with the relocations of all sections applied, or its first fault
-abbrev pub IsLine : Elf → List ℕ → NamedSection → Result Content ElfFault → Type 0
-IsLine e f line result = result ≡ line_by e f line (content e f line) (relocation_sections e f line.number)
+abbrev pub IsLine : Elf → List ℕ → Readable → Result Content ElfFault → Type 0
+IsLine e f line result =
+    result ≡ line_by e f line.section (content_of f line) (relocation_sections e f line.section.number)
 
 -- ---- the answer
 
@@ -155,8 +161,8 @@ line_table e f c line = record {
   class = e.header.class;
   is_object_file = is_object e.header;
   line = line;
-  line_str = option_map (content e f) c.debug_line_str;
-  str = option_map (content e f) c.debug_str;
+  line_str = option_map (content_of f) (option_map (with_stream e f) c.debug_line_str);
+  str = option_map (content_of f) (option_map (with_stream e f) c.debug_str);
   has_str = c.has_debug_str;
 }
 
@@ -166,7 +172,8 @@ with_line e f c (Err first) = Err first
 
 -- sections that lie in the file, and of which none is compressed otherwise than with zlib
 abbrev pub IsTableWith : Elf → List ℕ → Chosen → Result LineTable ElfFault → Type 0
-IsTableWith e f c result = (line : Result Content ElfFault) × IsLine e f c.line line × (result ≡ with_line e f c line)
+IsTableWith e f c result =
+    (line : Result Content ElfFault) × IsLine e f (with_stream e f c.line) line × (result ≡ with_line e f c line)
 
 -- what the wanted sections come to, or their first fault: damage, one that is compressed otherwise, that of the line
 -- section's stream or relocations
@@ -194,13 +201,13 @@ HasLineTable f wanted result = MatchResult (opened f)
     (λ first. result ≡ Err first)
 
 -- there is such a section, and it is compressed
-abbrev pub HasStream : Elf → List ℕ → Option NamedSection → Type 0
-HasStream e f section = (header : CompressionHeader) × (option_and_then (compression_header e f) section ≡ Some header)
+abbrev pub HasStream : Option Readable → Type 0
+HasStream section = (header : CompressionHeader) × (option_and_then (λ r. r.stream) section ≡ Some header)
 
 -- memory is taken for these sections: one is compressed, or the line section has relocations and is held
 abbrev pub TakesMemoryFor : Elf → List ℕ → Chosen → Type 0
-TakesMemoryFor e f c = HasRelocations e f c.line.number ⊎ (HasStream e f (Some c.line)
-    ⊎ (HasStream e f c.debug_line_str ⊎ HasStream e f c.debug_str))
+TakesMemoryFor e f c = HasRelocations e f c.line.number ⊎ (HasStream (Some (with_stream e f c.line))
+    ⊎ (HasStream (option_map (with_stream e f) c.debug_line_str) ⊎ HasStream (option_map (with_stream e f) c.debug_str)))
 
 -- and for those of a file with these bytes
 abbrev pub TakesMemory : List ℕ → Wanted → Type 0
@@ -210,17 +217,17 @@ TakesMemory f wanted = (e : Elf) × (opened f ≡ Ok e) × (at : Sections) × Ar
 -- ---- sections that are too long to be held
 
 -- a section is compressed, and says that it inflates to more than 2^32 bytes
-abbrev pub IsTooLong : Elf → List ℕ → NamedSection → Type 0
-IsTooLong e f s = (header : CompressionHeader) × (compression_header e f s ≡ Some header) × (2 ^ 32 < header.size)
+abbrev pub IsTooLong : Readable → Type 0
+IsTooLong r = (header : CompressionHeader) × (r.stream ≡ Some header) × (2 ^ 32 < header.size)
 
 -- and it would be held, as it has relocations
-abbrev pub HoldsTooMuch : Elf → List ℕ → NamedSection → Type 0
-HoldsTooMuch e f s = HasRelocations e f s.number × IsTooLong e f s
+abbrev pub HoldsTooMuch : Elf → List ℕ → Readable → Type 0
+HoldsTooMuch e f r = HasRelocations e f r.section.number × IsTooLong r
 
 -- the line section of a file with these bytes is such a one
 abbrev pub LineTooLong : List ℕ → Wanted → Type 0
 LineTooLong f wanted = (e : Elf) × (opened f ≡ Ok e) × (at : Sections) × AreFound e f at
-    × (c : Chosen) × (chosen at wanted ≡ Some c) × HoldsTooMuch e f c.line
+    × (c : Chosen) × (chosen at wanted ≡ Some c) × HoldsTooMuch e f (with_stream e f c.line)
 
 -- ---- readers
 

@@ -15,8 +15,8 @@ ghost use Rattle.dl_file.specs.LineTable.{HasStream, HoldsTooMuch, IsLine};
 ghost use Rattle.dl_memory.specs.Refusals.{IsRefused, WasRefused};
 ghost use Rattle.dl_file.specs.Relocations.{HasRelocations};
 
-use crate::content_reader::ContentReader;
-use crate::line_file::{damage_of, line_reader, optional_reader, refused_compression};
+use crate::content_reader::{ContentReader, Readable};
+use crate::line_file::{damage_of, line_reader, optional_reader};
 use crate::line_reader::LineReader;
 use dl_elf::{Elf, ElfFault, NamedSection, ReadAt, SectionName, Sections, find_sections, open_elf};
 use dl_memory::Memory;
@@ -43,11 +43,11 @@ pub struct InfoFile<'a, S: ReadAt> {
 /// The sections that were found of those.
 #[derive(Clone, Copy)]
 pub struct InfoSections {
-    pub info: NamedSection,
-    pub abbreviations: NamedSection,
-    pub str_offsets: Option<NamedSection>,
-    pub debug_str: Option<NamedSection>,
-    pub debug_line_str: Option<NamedSection>,
+    pub info: Readable,
+    pub abbreviations: Readable,
+    pub str_offsets: Option<Readable>,
+    pub debug_str: Option<Readable>,
+    pub debug_line_str: Option<Readable>,
 }
 
 /// The section, where it can be read: it lies in the file, and isn't compressed otherwise than with zlib.
@@ -55,7 +55,7 @@ fn readable<S: ReadAt>(
     source: &S,
     elf: &Elf,
     section: Option<NamedSection>,
-) -> io::Result<Option<NamedSection>>
+) -> io::Result<Option<Readable>>
     ensures section { ForBytes (S.all_bytes source.now) (λ f.
         IfOk result (λ found. found ≡ option_and_then (readable elf.now f) section)) }
     ensures fails { IfErr result (S.fails_with source.now) }
@@ -63,10 +63,11 @@ fn readable<S: ReadAt>(
     if damage_of(source, elf, section)?.is_some() {
         return Ok(None);
     }
-    if refused_compression(source, elf, section)?.is_some() {
-        return Ok(None);
+    match Readable::optional(source, elf, section) {
+        Ok(readable) => Ok(readable),
+        Err(ElfFault::Read(error)) => Err(error),
+        Err(_) => Ok(None),
     }
-    Ok(section)
 }
 
 /// The section of one of two names, the first before the other, where it can be read.
@@ -76,7 +77,7 @@ fn named<S: ReadAt>(
     sections: &Sections,
     name: SectionName,
     compressed: SectionName,
-) -> io::Result<Option<NamedSection>>
+) -> io::Result<Option<Readable>>
     ensures section { ForBytes (S.all_bytes source.now) (λ f. IfOk result
         (λ found. found ≡ named_section elf.now f (slot_of (slots sections.now)) name compressed)) }
     ensures fails { IfErr result (S.fails_with source.now) }
@@ -147,15 +148,15 @@ fn info_reader<'a, S: ReadAt, M: Memory>(
     source: &'a S,
     elf: &Elf,
     sections: &Sections,
-    info: &NamedSection,
+    info: &Readable,
 ) -> Result<Option<LineReader<'a, S>>, ElfFault>
     requires within { ForBytes (S.all_bytes source.now)
-        (λ f. range_within (section_range info.now.header) f ≡ true) }
+        (λ f. range_within (section_range info.now.section.header) f ≡ true) }
     requires forward { ForBytes (S.all_bytes source.now)
         (λ f. NoneForward elf.now f (forward_of sections.now)) }
     requires passed { forward_of sections.now - 1 ≤ elf.now.count - 1 }
     ensures opens { ForBytes (S.all_bytes source.entry.now) (λ f. OpensUnits S.all_bytes S.fails_with (S.fails_with source.entry.now) (IsLine elf.now f info.now)
-        (HasRelocations elf.now f info.now.number ⊎ HasStream elf.now f (Some info.now)) result) }
+        (HasRelocations elf.now f info.now.section.number ⊎ HasStream (Some info.now)) result) }
     ensures read { IfRead (S.fails_with source.entry.now) result }
     ensures refused { ForBytes (S.all_bytes source.entry.now)
         (λ f. IfRefused (WasRefused (M.refuses memory.now) ⊎ HoldsTooMuch elf.now f info.now) result) }
@@ -196,10 +197,10 @@ fn open_found<'a, S: ReadAt, M: Memory>(
     Ok(Some(InfoFile {
         order: elf.header.order,
         info,
-        abbreviations: ContentReader::open(memory, source, elf, &found.abbreviations)?,
-        str_offsets: optional_reader(memory, source, elf, found.str_offsets)?,
-        debug_str: optional_reader(memory, source, elf, found.debug_str)?,
-        debug_line_str: optional_reader(memory, source, elf, found.debug_line_str)?,
+        abbreviations: ContentReader::open(memory, source, &found.abbreviations)?,
+        str_offsets: optional_reader(memory, source, found.str_offsets)?,
+        debug_str: optional_reader(memory, source, found.debug_str)?,
+        debug_line_str: optional_reader(memory, source, found.debug_line_str)?,
     }))
 }
 

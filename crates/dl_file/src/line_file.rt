@@ -8,21 +8,20 @@ ghost use Rattle.dl_elf.specs.Compressed.{section_damage};
 ghost use Rattle.dl_elf.specs.Slots.{slot_of};
 ghost use Rattle.dl_elf.specs.SectionsHeld.{slots, forward_of};
 ghost use Rattle.dl_elf.specs.Forward.{NoneForward};
-ghost use Rattle.dl_file.specs.Answering.{LiesIn, OpensLine, OpensOption, OpensTable};
+ghost use Rattle.dl_file.specs.Answering.{LiesIn, OpensLine, OpensTable, WantsMemory};
 ghost use Rattle.dl_file.specs.Relocations.{HasRelocations};
-ghost use Rattle.dl_file.specs.LineTable.{HasStream, IsLine, IsTableOf, Opens, TakesMemoryFor, content, refused};
+ghost use Rattle.dl_file.specs.LineTable.{GivesOption, HasStream, IsLine, IsTableOf, Opens, TakesMemoryFor, content_of, with_stream};
 ghost use Rattle.dl_file.specs.LineTable.{HoldsTooMuch, LineTooLong};
 ghost use Rattle.dl_memory.specs.Refusals.{IsRefused, WasRefused};
-ghost use Rattle.dl_file.specs.LineTable.{first_damage, first_refused, line_section, debug_line_str_section};
-ghost use Rattle.dl_file.specs.LineTable.{debug_str_section};
+ghost use Rattle.dl_file.specs.LineTable.{first_damage, line_section, debug_line_str_section, debug_str_section};
 
-use crate::content_reader::ContentReader;
+use crate::content_reader::{ContentReader, Readable};
 use crate::line_reader::LineReader;
 use crate::relocating::{find_relocations, relocate_line};
 use crate::whole_bytes::whole_bytes;
 use dl_elf::{
-    Class, Compression, Elf, ElfFault, NamedSection, Part, ReadAt, SectionName, Sections,
-    compression_header, find_sections, open_elf, read_build_id, section_damage,
+    Class, Elf, ElfFault, NamedSection, Part, ReadAt, SectionName, Sections, find_sections,
+    open_elf, read_build_id, section_damage,
 };
 use dl_memory::Memory;
 use dl_num::Order;
@@ -167,63 +166,21 @@ fn first_damage<S: ReadAt>(source: &S, elf: &Elf, chosen: &Chosen) -> io::Result
     damage_of(source, elf, chosen.debug_str)
 }
 
-/// The section's name and how it is compressed, where there is one that is, and otherwise than with zlib.
-pub fn refused_compression<S: ReadAt>(
-    source: &S,
-    elf: &Elf,
-    section: Option<NamedSection>,
-) -> io::Result<Option<(SectionName, Compression)>>
-    ensures refused { ForBytes (S.all_bytes source.now) (λ f.
-        IfOk result (λ found. found ≡ option_and_then (refused elf.now f) section)) }
-    ensures fails { IfErr result (S.fails_with source.now) }
-{
-    let Some(section) = section else {
-        return Ok(None);
-    };
-    let Some(header) = compression_header(source, elf, &section)? else {
-        return Ok(None);
-    };
-    match header.method {
-        Compression::Zlib => Ok(None),
-        method => Ok(Some((section.name, method))),
-    }
-}
-
-/// The first of the wanted sections that is compressed otherwise than with zlib, and how.
-fn first_refused<S: ReadAt>(
-    source: &S,
-    elf: &Elf,
-    chosen: &Chosen,
-) -> io::Result<Option<(SectionName, Compression)>>
-    ensures refused { ForBytes (S.all_bytes source.now) (λ f.
-        IfOk result (λ found. found ≡ first_refused elf.now f chosen.now)) }
-    ensures fails { IfErr result (S.fails_with source.now) }
-{
-    if let Some(found) = refused_compression(source, elf, Some(chosen.line))? {
-        return Ok(Some(found));
-    }
-    if let Some(found) = refused_compression(source, elf, chosen.debug_line_str)? {
-        return Ok(Some(found));
-    }
-    refused_compression(source, elf, chosen.debug_str)
-}
-
 /// A reader of a section's bytes where there is a section.
 pub fn optional_reader<'a, S: ReadAt, M: Memory>(
     memory: &M,
     source: &'a S,
-    elf: &Elf,
-    section: Option<NamedSection>,
+    readable: Option<Readable>,
 ) -> Result<Option<ContentReader<'a, S>>, ElfFault>
-    requires within { ForBytes (S.all_bytes source.now) (λ f. LiesIn f section) }
-    ensures opens { ForBytes (S.all_bytes source.entry.now) (λ f. OpensOption S.all_bytes S.fails_with (S.fails_with source.entry.now)
-        (option_map (content elf.now f) section) (HasStream elf.now f section) result) }
-    ensures read { IfRead (S.fails_with source.entry.now) result }
+    requires within { ForBytes (S.all_bytes source.now) (λ f. LiesIn f readable) }
+    ensures opens { ForBytes (S.all_bytes source.entry.now) (λ f. IfOk result (λ reader.
+        GivesOption S.all_bytes S.fails_with (S.fails_with source.entry.now) reader (option_map (content_of f) readable))) }
+    ensures memory { IfErr result (WantsMemory (HasStream readable)) }
     ensures refused { IfRefused (WasRefused (M.refuses memory.now)) result }
     ensures most { IfRefused (IsRefused (M.refuses memory.now) 1) result }
 {
-    match section {
-        Some(section) => Ok(Some(ContentReader::open(memory, source, elf, &section)?)),
+    match readable {
+        Some(readable) => Ok(Some(ContentReader::open(memory, source, &readable)?)),
         None => Ok(None),
     }
 }
@@ -235,35 +192,35 @@ pub fn line_reader<'a, S: ReadAt, M: Memory>(
     source: &'a S,
     elf: &Elf,
     sections: &Sections,
-    line: &NamedSection,
+    line: &Readable,
 ) -> Result<LineReader<'a, S>, ElfFault>
     requires within { ForBytes (S.all_bytes source.now)
-        (λ f. range_within (section_range line.now.header) f ≡ true) }
+        (λ f. range_within (section_range line.now.section.header) f ≡ true) }
     requires forward { ForBytes (S.all_bytes source.now)
         (λ f. NoneForward elf.now f (forward_of sections.now)) }
     requires passed { forward_of sections.now - 1 ≤ elf.now.count - 1 }
     ensures opens { ForBytes (S.all_bytes source.entry.now) (λ f. OpensLine S.all_bytes S.fails_with (S.fails_with source.entry.now) (IsLine elf.now f line.now)
-        (HasRelocations elf.now f line.now.number ⊎ HasStream elf.now f (Some line.now)) result) }
+        (HasRelocations elf.now f line.now.section.number ⊎ HasStream (Some line.now)) result) }
     ensures read { IfRead (S.fails_with source.entry.now) result }
     ensures refused { ForBytes (S.all_bytes source.entry.now)
         (λ f. IfRefused (WasRefused (M.refuses memory.now) ⊎ HoldsTooMuch elf.now f line.now) result) }
     ensures most { ForBytes (S.all_bytes source.entry.now) (λ f.
         IfRefused (IsRefused (M.refuses memory.now) (length f + 2 ^ 32) ⊎ HoldsTooMuch elf.now f line.now) result) }
 {
-    let relocations = find_relocations(source, elf, sections, line.number)?;
+    let relocations = find_relocations(source, elf, sections, line.section.number)?;
     if relocations.count == 0 {
-        let reader = ContentReader::open(memory, source, elf, line)?;
+        let reader = ContentReader::open(memory, source, line)?;
         return Ok(LineReader::File(reader));
     }
     if MOST_RELOCATIONS < relocations.count {
-        return Err(ElfFault::Damaged(Part::Relocations(line.name)));
+        return Err(ElfFault::Damaged(Part::Relocations(line.section.name)));
     }
-    let mut bytes = whole_bytes(memory, source, elf, line)?;
+    let mut bytes = whole_bytes(memory, source, line)?;
     relocate_line(
         memory,
         source,
         elf,
-        line,
+        &line.section,
         relocations.first,
         bytes.as_mut_slice(),
     )?;
@@ -285,23 +242,23 @@ fn open_chosen<'a, S: ReadAt, M: Memory>(
         (IsTableOf elf.now f chosen.now) (TakesMemoryFor elf.now f chosen.now) result) }
     ensures read { IfRead (S.fails_with source.entry.now) result }
     ensures refused { ForBytes (S.all_bytes source.entry.now)
-        (λ f. IfRefused (WasRefused (M.refuses memory.now) ⊎ HoldsTooMuch elf.now f chosen.now.line) result) }
+        (λ f. IfRefused (WasRefused (M.refuses memory.now) ⊎ HoldsTooMuch elf.now f (with_stream elf.now f chosen.now.line)) result) }
     ensures most { ForBytes (S.all_bytes source.entry.now) (λ f.
-        IfRefused (IsRefused (M.refuses memory.now) (length f + 2 ^ 32) ⊎ HoldsTooMuch elf.now f chosen.now.line) result) }
+        IfRefused (IsRefused (M.refuses memory.now) (length f + 2 ^ 32) ⊎ HoldsTooMuch elf.now f (with_stream elf.now f chosen.now.line)) result) }
 {
     if let Some(part) = first_damage(source, elf, chosen)? {
         return Err(ElfFault::Damaged(part));
     }
-    if let Some((name, method)) = first_refused(source, elf, chosen)? {
-        return Err(ElfFault::Compressed(name, method));
-    }
+    let line = Readable::new(source, elf, chosen.line)?;
+    let debug_line_str = Readable::optional(source, elf, chosen.debug_line_str)?;
+    let debug_str = Readable::optional(source, elf, chosen.debug_str)?;
     Ok(LineFile {
         order: elf.header.order,
         class: elf.header.class,
         is_object: elf.header.is_object(),
-        line: line_reader(memory, source, elf, sections, &chosen.line)?,
-        debug_line_str: optional_reader(memory, source, elf, chosen.debug_line_str)?,
-        debug_str: optional_reader(memory, source, elf, chosen.debug_str)?,
+        line: line_reader(memory, source, elf, sections, &line)?,
+        debug_line_str: optional_reader(memory, source, debug_line_str)?,
+        debug_str: optional_reader(memory, source, debug_str)?,
         has_debug_str: chosen.has_debug_str,
     })
 }

@@ -8,16 +8,14 @@ ghost use Rattle.dl_file.specs.Answering.{IsHad, IsToldAs};
 ghost use Rattle.dl_file.specs.ContentReader.{StreamFails, inflated_damage, inflated_left, inflated_name};
 ghost use Rattle.dl_file.specs.ContentReader.{inflated_remaining};
 ghost use Rattle.dl_file.specs.Inflating.{damage, inflated};
-ghost use Rattle.dl_file.specs.LineTable.{Inflated, IsTooLong, content, held_bytes};
+ghost use Rattle.dl_file.specs.LineTable.{Inflated, IsTooLong, content_of, held_bytes};
 ghost use Rattle.dl_memory.specs.Refusals.{IsRefused, WasRefused};
 
+use crate::content_reader::Readable;
 use crate::inflated_reader::InflatedReader;
 use crate::read_fault::ReadFault;
 use crate::section_bytes::{PIECE, read_bytes};
-use dl_elf::{
-    CompressionHeader, Elf, ElfFault, NamedSection, Part, Range, ReadAt, SectionName,
-    compression_header,
-};
+use dl_elf::{CompressionHeader, ElfFault, Part, Range, ReadAt, SectionName};
 use dl_memory::Memory;
 use std::io::{Cursor, Read};
 
@@ -99,22 +97,21 @@ fn inflate_whole<M: Memory>(
 pub fn whole_bytes<S: ReadAt, M: Memory>(
     memory: &M,
     source: &S,
-    elf: &Elf,
-    section: &NamedSection,
+    readable: &Readable,
 ) -> Result<Vec<u8>, ElfFault>
     requires within { ForBytes (S.all_bytes source.now)
-        (λ f. range_within (section_range section.now.header) f ≡ true) }
-    ensures bytes { ForBytes (S.all_bytes source.now) (λ f. IsHad (held_bytes (content elf.now f section.now)) result) }
+        (λ f. range_within (section_range readable.now.section.header) f ≡ true) }
+    ensures bytes { ForBytes (S.all_bytes source.now) (λ f. IsHad (held_bytes (content_of f readable.now)) result) }
     ensures read { IfRead (S.fails_with source.now) result }
-    ensures refused { ForBytes (S.all_bytes source.now)
-        (λ f. IfRefused (WasRefused (M.refuses memory.now) ⊎ IsTooLong elf.now f section.now) result) }
+    ensures refused { IfRefused (WasRefused (M.refuses memory.now) ⊎ IsTooLong readable.now) result }
     ensures most { ForBytes (S.all_bytes source.now) (λ f.
-        IfRefused (IsRefused (M.refuses memory.now) (length f + 2 ^ 32) ⊎ IsTooLong elf.now f section.now) result) }
+        IfRefused (IsRefused (M.refuses memory.now) (length f + 2 ^ 32) ⊎ IsTooLong readable.now) result) }
 {
+    let section = &readable.section;
     let Some(bytes) = read_bytes(memory, source, &section.header)? else {
         return Err(ElfFault::Damaged(Part::Section(section.name)));
     };
-    let Some(header) = compression_header(source, elf, section)? else {
+    let Some(header) = readable.stream else {
         return Ok(bytes);
     };
     inflate_whole(memory, bytes.as_slice(), section.name, &header)

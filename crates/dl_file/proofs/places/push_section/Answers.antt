@@ -1,8 +1,6 @@
-use Rattle.std.proofs.Common.{◌∙◌, ap, length, sym, Some}
+use Rattle.std.proofs.Common.{◌∙◌, ap, length, sym}
 use Rattle.std.proofs.Math.Nat.{div-le_self, le_refl}
 use Rattle.std.specs.Prelude.{option_map}
-use Rattle.dl_reloc.specs.Entries.{count, entry_size}
-use Rattle.dl_file.specs.Relocations.{class_of, form_of}
 use Rattle.dl_file.proofs.BoundLemmas.{entries_refused, few_pushed, section_most}
 use Rattle.dl_file.proofs.places.push_section.Goals as goal
 use Rattle.dl_file.proofs.places.push_section.Goals.{then-section-eq-CREL, else-section-eq-CREL}
