@@ -5,7 +5,6 @@ pub mod Finding
 pub mod Files
 pub mod WithMember
 pub mod NoTable
-pub mod Sinks
 pub mod Walking
 -- Of contracts inside the crate, and of proofs; no public contract reaches these.
 pub mod Parts

@@ -24,7 +24,7 @@ pub use file::{MemberFile, open_member};
 pub use finding::find_member;
 pub use line_table::has_no_table;
 pub use path::split_member;
-pub use sink::{MemberLines, MemberSink};
+pub use sink::MemberSink;
 pub use source::{MemberOrFile, WithMember};
 pub use step::{Step, at_member};
 pub use walk::{Walked, walk_members};

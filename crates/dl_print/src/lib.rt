@@ -9,4 +9,4 @@ mod text;
 pub use fault::WriteFault;
 pub use output::{Printer, StringSection, StringSections, text_in_section};
 pub use summary::Summary;
-pub use text::write_damage;
+pub use text::{write_bytes, write_damage, write_hexadecimal_number};

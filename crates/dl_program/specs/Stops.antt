@@ -1,5 +1,5 @@
 -- How the program stops: its text, its status, and the stops at an ELF file.
-use Rattle.std.specs.Prelude.{ℕ, ◌==◌, if◌then◌else◌, List, [], ◌++◌, codes, decimal, Option, Some, None, option_map, Result, Ok}
+use Rattle.std.specs.Prelude.{⊤, ℕ, ◌==◌, if◌then◌else◌, List, [], ◌++◌, codes, decimal, Option, Some, None, option_map, Result, Ok}
 use Rattle.std.specs.Prelude.{Err}
 use Rattle.dl_sections.specs.RunText.{run_fault_text, status}
 use Rattle.dl_sections.specs.declared.around.DamagedUnits.{DamagedUnits}
@@ -43,6 +43,12 @@ stop_text (NoSection path name) = Some (shown_word path.now ++ (codes ": no sect
 stop_text (Damaged units) = Some (damaged_text units)
 stop_text (NoAddress line) =
     Some (codes "line " ++ (decimal line.number ++ (codes ": " ++ (shown_bytes line.word ++ codes " is no address"))))
+
+-- when the line of a stop may not be written: of a fault of the section where a write of it may fail; of the others that isn't
+-- known, since the system words them, or a formatter that may fail of itself
+abbrev pub MayFail : (fails : Type 0) → Stop → Type 0
+MayFail fails (Run f) = fails
+MayFail fails stop = ⊤
 
 abbrev pub stop_status : Stop → ℕ
 stop_status NotUnderstood = 2

@@ -1,50 +1,49 @@
 //! What hears of the damaged units after which a command goes on.
-ghost use Rattle.dl_program.specs.Damages.{damage_line, unheard};
+ghost use Rattle.std.specs.Prelude.{◌≡◌, false};
+ghost use Rattle.dl_program.specs.Damages.{DamagesTold, StopTold, unheard};
 
 use crate::stop::Stop;
+use dl_output::Destination;
 use dl_sections::{Damage, DamageSink, RunFault};
-use std::io::Write;
 
-/// Writes the line of each damaged unit, as `Stop` writes that of the one at which a command ends.
+/// Writes the line of each stop that it is told of, and of each damaged unit that of the stop which would end there.
 ///
 /// Whether a write fails isn't told.
 #[derive(Drop)]
-pub struct DamageLines<E: Write> {
+pub struct StopLines<E: Destination> {
     errors: E,
     /// A write failed.
     failed: bool,
 }
 
-impl<E: Write> DamageLines<E> {
-    ghost use Rattle.std.specs.Prelude.{◌≡◌, false};
-
-    /// Of no unit a line was written.
-    pub fn new(errors: E) -> DamageLines<E>
+impl<E: Destination> StopLines<E> {
+    /// No line was written.
+    pub fn new(errors: E) -> StopLines<E>
         ensures errors { result.errors ≡ errors }
         ensures failed { result.failed ≡ false }
     {
-        DamageLines {
+        StopLines {
             errors,
             failed: false,
         }
     }
-}
 
-impl<E: Write> DamageSink for DamageLines<E> {
-    ghost use Rattle.std.specs.Prelude.{◌≡◌, false, flat_map};
-    ghost use Rattle.std.specs.Io.KnownBytes.{Appends};
-    ghost use Rattle.dl_program.specs.Damages.{damage_line};
-
-    /// Unless a write failed, exactly the lines of these were written, in order.
-    ghost hears = { λ first now damages. now.failed ≡ false
-        → Appends (E.contents first.errors) (E.contents now.errors) (flat_map damage_line damages) };
-
-    fn damaged(&mut self, damage: Damage) {
-        let Damage { offset, kind } = damage;
-        let stop = Stop::Run(RunFault::Damage { offset, kind });
+    /// Writes the line of a stop.
+    pub fn tell(&mut self, stop: &Stop<'_>)
+        ensures { StopTold E.contents E.fails self.old self.new stop.now }
+    {
         if stop.write_line(&mut self.errors).is_err() {
             self.failed = true;
         }
+    }
+}
+
+impl<E: Destination> DamageSink for StopLines<E> {
+    ghost hears = { DamagesTold E.contents E.fails };
+
+    fn damaged(&mut self, damage: Damage) {
+        let Damage { offset, kind } = damage;
+        self.tell(&Stop::Run(RunFault::Damage { offset, kind }));
     }
 }
 
@@ -53,8 +52,6 @@ impl<E: Write> DamageSink for DamageLines<E> {
 pub struct Unheard;
 
 impl DamageSink for Unheard {
-    ghost use Rattle.dl_program.specs.Damages.{unheard};
-
     ghost hears = { λ first now damages. unheard damages };
 
     fn damaged(&mut self, _damage: Damage) {}

@@ -7,6 +7,7 @@ mod code;
 mod command;
 mod compiled;
 mod damages;
+mod fault_line;
 mod indexing;
 pub mod laws;
 mod located;
@@ -20,7 +21,7 @@ mod stop;
 mod unit_words;
 mod working;
 
-pub use damages::DamageLines;
+pub use damages::StopLines;
 pub use indexing::index;
 pub use located::Located;
 pub use locating::locate;

@@ -1,14 +1,15 @@
 //! Why the program stops before its work is done.
-ghost use Rattle.std.specs.Prelude.{◌≡◌, IfSome, OnOk};
+ghost use Rattle.std.specs.Prelude.{◌≡◌, IfSome, OnErr, OnOk};
 ghost use Rattle.std.specs.Io.KnownBytes.{Appends};
 ghost use Rattle.dl_open.specs.Stops.{stop_line};
-ghost use Rattle.dl_program.specs.Stops.{index_status, over_file, stop_of, stop_status, stop_text};
+ghost use Rattle.dl_program.specs.Stops.{MayFail, index_status, over_file, stop_of, stop_status, stop_text};
 
+use crate::fault_line::write_fault_line;
 use dl_asked::OtherLine;
 use dl_index_file::OpenFault;
 use dl_open::{FileFault, FileStop, Shown, ShownBytes};
+use dl_output::Destination;
 use dl_sections::{Damage, DamagedUnits, RunFault, Survey};
-use std::io::Write;
 use std::{fmt, io};
 
 /// Why the program stops before its work is done.
@@ -52,11 +53,15 @@ impl<'a> Stop<'a> {
     }
 
     /// Writes the line that says why the program stopped.
-    pub fn write_line<W: Write>(&self, errors: &mut W) -> io::Result<()>
-        ensures { OnOk result (IfSome (stop_text self.now) (λ text.
+    pub fn write_line<W: Destination>(&self, errors: &mut W) -> io::Result<()>
+        ensures written { OnOk result (IfSome (stop_text self.now) (λ text.
             Appends (W.contents errors.old) (W.contents errors.new) (stop_line text))) }
+        ensures blames { OnErr result (MayFail W.fails self.now) }
     {
-        writeln!(errors, "dwline: {self}")
+        match self {
+            Stop::Run(fault) => write_fault_line(errors, *fault),
+            _ => writeln!(errors, "dwline: {self}"),
+        }
     }
 }
 

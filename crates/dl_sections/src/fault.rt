@@ -19,7 +19,7 @@ pub enum RunFault {
     Write { out: u128 },
     /// The section goes past the limit.
     SectionTooLong,
-    /// No row answers for the address. Only `find` answers it.
+    /// No row answers for the address, or for one of those that were asked for. Of the commands here only `find` answers it.
     NotFound,
     /// A unit isn't of version 5, or, of `copy_to_5`, of a version that is read. Its offset counts from the section's
     /// first byte. Only `copy` and `copy_to_5` answer it, and the next one.

@@ -3,10 +3,10 @@
 use crate::ending::{Ending, report};
 use dl_archive::archive_kind;
 use dl_cmd::Job;
-use dl_member::{MemberFault, MemberLines, WalkFault, split_member, walk_members};
+use dl_member::{MemberFault, WalkFault, split_member, walk_members};
 use dl_memory::System;
 use dl_open::{FileSource, Shown};
-use dl_program::Stop;
+use dl_program::{Stop, StopLines};
 use dl_sections::RunFault;
 use dl_system::{SystemFile, SystemFiles};
 use std::io::Write;
@@ -71,7 +71,7 @@ pub fn run_members(
         path,
         archive,
         &mut rt.stdout(),
-        &mut MemberLines::new(rt.stderr()),
+        &mut StopLines::new(rt.stderr()),
     );
     if is_verbose {
         let _ = writeln!(

@@ -6,7 +6,7 @@ use dl_addr::WhichFound;
 use dl_cmd::{AddrWords, IndexWords, Job};
 use dl_memory::System;
 use dl_open::{FileSource, FileUnits, units_not_read};
-use dl_program::{DamageLines, Stop, file_units, locate, looked_into, work};
+use dl_program::{Stop, StopLines, file_units, locate, looked_into, work};
 use dl_sections::RunFault;
 
 /// Says of the file at this path which units aren't read, where there is one.
@@ -90,7 +90,7 @@ fn run_work<'a, F: FileSource>(
     path: Option<&str>,
     read: FileUnits,
 ) -> Result<u8, Ending<'a>> {
-    let mut damages = DamageLines::new(rt.stderr());
+    let mut damages = StopLines::new(rt.stderr());
     let done = work(
         &System::new(rt.alloc()),
         Some(job),

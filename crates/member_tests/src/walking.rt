@@ -3,8 +3,9 @@ use crate::archives::{BSD, CUT, EMPTY, GNU, ODD, ONE, Pieces, THIN, TWICE, joine
 use crate::shelf::Shelf;
 use dl_archive::ArchiveFault;
 use dl_cmd::{Job, UnitWords};
-use dl_member::{MemberLines, WalkFault, Walked, walk_members};
+use dl_member::{WalkFault, Walked, walk_members};
 use dl_memory::System;
+use dl_program::StopLines;
 use std::alloc::Global;
 use std::io::Cursor;
 
@@ -90,7 +91,7 @@ fn walk(
         "out/lib.a",
         &archive,
         &mut room,
-        &mut MemberLines::new(errors),
+        &mut StopLines::new(errors),
     );
     (room.len(), walked)
 }

@@ -4,7 +4,7 @@ use crate::jobs::NOTHING_OF_UNITS;
 use crate::shelf::Shelf;
 use dl_cmd::{AddrWords, Job};
 use dl_memory::System;
-use dl_program::{DamageLines, Stop, locate, work};
+use dl_program::{Stop, StopLines, locate, work};
 use dl_sections::RunFault;
 use std::alloc::{AllocError, Global};
 use std::process::Abort;
@@ -118,7 +118,7 @@ fn told<'a>(
     };
     let mut input = section;
     let mut room = output;
-    let mut damages = DamageLines::new(errors);
+    let mut damages = StopLines::new(errors);
     let job = Some(job_of(checks));
     let survey = work(
         &System::new(alloc),

@@ -4,7 +4,7 @@ use crate::shelf::Shelf;
 use dl_cmd::{Job, UnitWords};
 use dl_memory::System;
 use dl_open::FileFault;
-use dl_program::{DamageLines, Stop, work};
+use dl_program::{Stop, StopLines, work};
 use std::alloc::Global;
 use std::process::Abort;
 use std::test::Fail;
@@ -86,7 +86,7 @@ pub fn told(
     let mut input: &[u8] = b"";
     let job = Some(job_of(command));
     let nothing: &mut [u8] = &mut [];
-    let mut damages = DamageLines::new(nothing);
+    let mut damages = StopLines::new(nothing);
     let (status, left) = match work(
         &System::new(alloc),
         job,
