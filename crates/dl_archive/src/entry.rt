@@ -4,12 +4,12 @@ ghost use Rattle.dl_elf.specs.Source.{ForBytes};
 ghost use Rattle.dl_archive.specs.Told.{IsBelow, entry_and_next, entry_seen, seen};
 ghost use Rattle.dl_archive.specs.Archive.{HasName, before_slash, long_text, body_of, end_of, entry_at, entry_of, long_name, names_after, stored, with_name, with_name_before};
 
-use crate::field::first_of;
 use crate::header::{Header, header_at};
 use crate::kind::Kind;
 use crate::member::{Member, NAME_LIMIT};
 use crate::name_field::NameField;
 use dl_elf::{Range, ReadAt, fill, lies_within};
+use dl_num::first_of;
 use std::io;
 
 /// What an entry of an archive is.

@@ -2,7 +2,7 @@
 ghost use Rattle.std.specs.Prelude.{◌≡◌, ◌≤◌, ◌<◌, ◌==◌, length, position, IfSome};
 ghost use Rattle.dl_archive.specs.Archive.{end_before, number_of, place_of, without_end};
 
-use memchr::memchr;
+use dl_num::first_of;
 
 /// How many bytes there are without those of this value at the end.
 fn end_before(bytes: &[u8], value: u8) -> usize
@@ -39,15 +39,6 @@ pub(crate) fn number_of(digits: &[u8]) -> Option<u64>
         number = number.checked_mul(10)?.checked_add(digit)?;
     }
     Some(number)
-}
-
-/// Where the first byte of this value stands; None where there is none.
-#[tactic(auto, using(crate::proofs::FirstByte::first_byte))]
-pub(crate) fn first_of(bytes: &[u8], value: u8) -> Option<usize>
-    ensures place { result ≡ position (λ x. x == value) bytes.now }
-    ensures within { IfSome result (λ place. place < length bytes.now) }
-{
-    memchr(value, bytes)
 }
 
 /// Where the first byte of this value stands; where there is none, how many bytes there are.

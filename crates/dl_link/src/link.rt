@@ -6,7 +6,7 @@ ghost use Rattle.dl_link.specs.Told.{link_seen};
 
 use arrayvec::ArrayVec;
 use dl_elf::{Elf, ReadAt, SectionHeader, Window, fill, section_at, section_number, section_range};
-use dl_num::{Order, number_of};
+use dl_num::{Order, first_of, number_of};
 use std::io;
 
 /// The section that has it.
@@ -67,14 +67,6 @@ fn link_in(order: Order, bytes: &[u8]) -> Option<DebugLink>
         Some(len) => link_with(order, bytes, len),
         None => None,
     }
-}
-
-/// Where the first byte of this value stands; None where there is none.
-fn first_of(bytes: &[u8], value: u8) -> Option<usize>
-    ensures place { result ≡ position (λ x. x == value) bytes.now }
-    ensures within { IfSome result (λ place. place < length bytes.now) }
-{
-    bytes.iter().position(|byte| *byte == value)
 }
 
 /// The debug link whose name has so many bytes.

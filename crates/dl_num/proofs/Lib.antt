@@ -1,3 +1,4 @@
+pub mod FirstByte
 pub mod FixedLaws
 pub mod FixedLemmas
 pub mod FrontLemmas

@@ -1,6 +1,7 @@
-//! Numbers of a line table: LEB128 both ways, and numbers of fixed size.
+//! Numbers of a line table: LEB128 both ways, and numbers of fixed size; and where the first byte of a value stands.
 #![tactic(auto)]
 
+pub mod first_byte;
 pub mod fixed;
 pub mod front;
 pub mod laws;
@@ -9,6 +10,7 @@ pub mod partial_bytes;
 pub mod partial_number;
 pub mod spell;
 
+pub use first_byte::first_of;
 pub use fixed::{Fixed, Order, fixed_at_front, fixed_bytes, number_of};
 pub use front::{
     short_sleb_at_front, short_uleb_at_front, sleb_at_front, sleb_read_back, uleb_at_front,

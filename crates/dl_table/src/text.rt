@@ -4,12 +4,14 @@ ghost use Rattle.std.specs.Prelude.{◌≡◌, ◌<◌, ◌==◌, length, positi
 ghost use Rattle.std.specs.Option.{option_copied};
 ghost use Rattle.dl_table.specs.Text.{text_at};
 
+use dl_num::first_of;
+
 /// Where the first zero byte stands; None where there is none.
 pub fn first_zero(bytes: &[u8]) -> Option<usize>
     ensures value { result ≡ position (λ b. b == 0) bytes.now }
     ensures within { IfSome result (λ n. n < length bytes.now) }
 {
-    bytes.iter().position(|byte| *byte == 0)
+    first_of(bytes, 0)
 }
 
 /// The bytes from `offset` up to the next zero byte. None at or past the section's end, or where no
