@@ -1,16 +1,13 @@
 -- A file that is opened step after step is opened as its faults say.
-use Rattle.std.proofs.Common.{◌≡◌, ◌∙◌, ℕ, ◌*◌, ◌==◌, Bool, true, false, not, nat_le, nat_lt, List, Option, None, Some, Result}
-use Rattle.std.proofs.Common.{inl, inr, refl, ap}
+use Rattle.std.proofs.Common.{◌≡◌, ◌∙◌, ℕ, ◌*◌, ◌==◌, Bool, true, false, nat_le, nat_lt, List, Option, None, Some}
+use Rattle.std.proofs.Common.{inl, inr, refl}
 use Rattle.std.proofs.lemmas.Bool.{cases_Bool}
-use Rattle.std.specs.Prelude.{Ok, Err, length, ◌+◌}
+use Rattle.std.specs.Prelude.{length, ◌+◌}
 use Rattle.dl_elf.specs.declared.header.FileHeader.{FileHeader}
-use Rattle.dl_elf.specs.declared.fault.ElfFault.{ElfFault}
-use Rattle.dl_elf.specs.declared.file.Elf.{Elf}
-use Rattle.dl_elf.specs.Elf.{file_header, section_header_size}
-use Rattle.dl_elf.specs.Answers.{Answers}
-use Rattle.dl_elf.specs.OpenedBySteps.{counted, from_first, opened_with, with_names}
-use Rattle.dl_elf.specs.Sections.{count_in, header_place, lies_within, names_in, names_range, opened, opened_by, range_within, reasons}
-use Rattle.dl_elf.specs.Sections.{section_header, section_in, section_range, unless}
+use Rattle.dl_elf.specs.Elf.{section_header_size}
+use Rattle.dl_elf.specs.OpenedBySteps.{opened_with}
+use Rattle.dl_elf.specs.Sections.{count_in, header_place, lies_within, names_in, opened_by, range_within}
+use Rattle.dl_elf.specs.Sections.{section_header, section_range}
 
 -- whether section header i lies in the file
 abbrev lies : FileHeader → List ℕ → ℕ → Bool

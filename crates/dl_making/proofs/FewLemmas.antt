@@ -1,6 +1,6 @@
 -- How many texts and files are added, and how long the texts are.
 use Rattle.std.proofs.Common.{◌≡◌, ◌≤◌, ℕ, ◌+◌, ◌*◌, Bool, true, false, ◌&&◌, eqb, List, [], ◌∷◌, ◌++◌, length, length-append}
-use Rattle.std.proofs.Common.{Option, Some, None, Result, Ok, Err, arith, refl, sym, ap, ◌∙◌, subst}
+use Rattle.std.proofs.Common.{Option, Some, None, Result, Ok, Err, arith, sym, ap, ◌∙◌, subst}
 use Rattle.std.specs.Prelude.{if◌then◌else◌, not, option_map, unwrap_or, IfSome, OnOk}
 use Rattle.std.specs.List.{All, AllByRecursion, list_any, sum_by}
 use Rattle.std.specs.Option.{option_map_or}
@@ -18,7 +18,7 @@ use Rattle.dl_table.specs.Value as value
 use Rattle.dl_path.specs.Paths.{beside_table, is_whole, slash_after}
 use Rattle.dl_path.specs.PathTexts.{folder, root_of}
 use Rattle.dl_pack.specs.declared.names.Names.{Names}
-use Rattle.dl_pack.specs.Named.{Named, with_text}
+use Rattle.dl_pack.specs.Named.{with_text}
 use Rattle.dl_pack.specs.Shown.{named_files, texts_of}
 use Rattle.dl_making.specs.Few.{AddsFew, TextsWithin}
 

@@ -1,6 +1,6 @@
 -- What is wanted for an index is within the room of its section.
-use Rattle.std.proofs.Common.{◌≡◌, ◌≤◌, ℕ, zero, suc, ◌+◌, ◌*◌, Bool, true, false, List, [], ◌∷◌, ◌++◌, length, length-append, map}
-use Rattle.std.proofs.Common.{Option, Some, None, arith, refl, ap}
+use Rattle.std.proofs.Common.{◌≡◌, ◌≤◌, ℕ, zero, suc, ◌+◌, ◌*◌, Bool, true, false, List, [], ◌∷◌, ◌++◌, length, length-append}
+use Rattle.std.proofs.Common.{Option, Some, None, arith, ap}
 use Rattle.std.specs.Prelude.{get_or, if◌then◌else◌, ◌==◌}
 use Rattle.std.specs.List.{All, flat_map}
 use Rattle.std.proofs.lemmas.List.Elements.{All-head, All-tail}
@@ -11,7 +11,7 @@ use Rattle.dl_stretch.specs.declared.stretch.Stretch.{Stretch}
 use Rattle.dl_pack.specs.declared.names.FileTexts.{FileTexts}
 use Rattle.dl_pack.specs.IndexOf.{file_order, file_places, files_told, text_order, text_place, told_files}
 use Rattle.dl_pack.specs.Numbering.{mentioned, number_in, with_mention}
-use Rattle.dl_pack.specs.Room.{index_room, tables_room}
+use Rattle.dl_pack.specs.Room.{index_room}
 use Rattle.dl_pack.specs.Tables.{no_file, texts_at, total_len}
 use Rattle.dl_making.specs.Few.{TextsWithin}
 use Rattle.dl_making.specs.Room.{longest_text, making_room}

@@ -13,7 +13,7 @@ use Rattle.dl_rows.specs.LineUnit.{ends_open, unit_rows}
 use Rattle.dl_sections.specs.Around.{Block, whole, damaged, block_bytes, bytes_of, block_visits, blocks_visits}
 use Rattle.dl_sections.specs.Around.{Rest, begun, cut_off, broken, rest_bytes, rest_visits, visits_around}
 use Rattle.dl_sections.specs.Copying.{row_count}
-use Rattle.dl_sections.specs.Section.{Visit, of_header, of_row, of_open, of_end, of_damage, end_visits, header_of, open_visit}
+use Rattle.dl_sections.specs.Section.{Visit, of_header, of_row, of_end, of_damage, end_visits, header_of, open_visit}
 use Rattle.dl_sections.specs.Section.{section_visits, unit_visits, units_visits, visits}
 use Rattle.dl_sections.specs.Visiting.{header_told}
 use Rattle.dl_sections.proofs.CopyingVisits.{Foreign, Own, Neither, one_of, foreign_visits, own_visits, no_visits}

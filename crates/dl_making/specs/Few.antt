@@ -2,7 +2,7 @@
 use Rattle.std.specs.Prelude.{◌≤◌, ℕ, ◌+◌, ◌*◌, List, [], ◌∷◌, length, Option}
 use Rattle.std.specs.List.{All}
 use Rattle.std.specs.Option.{option_copied, option_map_or}
-use Rattle.dl_field.specs.HeaderData.{HeaderData, header_cells}
+use Rattle.dl_field.specs.HeaderData.{header_cells}
 use Rattle.dl_print.specs.ValueText.{strings_of}
 use Rattle.dl_path.specs.TextRoom.{text_room}
 use Rattle.dl_sections.specs.Copying.{row_count}

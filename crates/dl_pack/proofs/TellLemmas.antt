@@ -11,7 +11,7 @@ use Rattle.std.proofs.lemmas.List.FromFn.{fill_by_all}
 use Rattle.std.proofs.lemmas.Option.{slice_get-map, slice_get-get_or}
 use Rattle.dl_index.specs.Layout.{count_in, texts_in, text_bytes_in, file_in}
 use Rattle.dl_index.specs.Layout.{text_number_in, text_place_in, text_len_in}
-use Rattle.dl_index.specs.Telling.{lies_within, text_bytes, text_in, with_text, told_in, stretch_in, stretches_in}
+use Rattle.dl_index.specs.Telling.{lies_within, text_bytes, text_in, told_in, stretch_in, stretches_in}
 use Rattle.dl_index.specs.Telling as index
 use Rattle.dl_index.specs.Stretches as index_stretches
 use Rattle.dl_index.proofs.TellLemmas.{texts_by, tells_nothing, tells_these}

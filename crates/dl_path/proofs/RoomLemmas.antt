@@ -1,11 +1,8 @@
 -- The parts of the path of a file are no longer than the string sections and the header's tables.
-use Rattle.std.proofs.Common.{◌≤◌, ℕ, suc, zero, ◌+◌, ◌-◌, Bool, true, false, ◌||◌, List, [], ◌∷◌, length, Option, Some, None}
-use Rattle.std.proofs.Common.{arith, length-drop, drop, sum_by}
+use Rattle.std.proofs.Common.{◌≤◌, ℕ, ◌+◌, ◌-◌, Bool, true, false, ◌||◌, List, [], ◌∷◌, length, Option, Some, None}
+use Rattle.std.proofs.Common.{arith, sum_by}
 use Rattle.std.specs.Prelude.{cond, ◌==◌, option_map, unwrap_or, slice_get, nat_lt, IfSome}
 use Rattle.std.specs.Option.{option_and_then, option_map_or}
-use Rattle.std.proofs.lemmas.List.Sums.{sum_by-cons}
-use Rattle.std.proofs.lemmas.Option.{IfSome_then}
-use Rattle.dl_table.specs.declared.table.Pair.{Pair}
 use Rattle.dl_table.specs.EntryData.{value_of, with_content}
 use Rattle.dl_table.specs.TableCells.{table_cells, value_cells}
 use Rattle.dl_table.specs.TableData.{TableData}

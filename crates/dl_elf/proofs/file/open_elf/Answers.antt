@@ -1,5 +1,4 @@
-use Rattle.std.proofs.Common.{◌≡◌, ◌∙◌, Option, Some, ap, arith, length, subst, sym, take}
-use Rattle.dl_elf.specs.declared.header.FileHeader.{FileHeader}
+use Rattle.std.proofs.Common.{◌≡◌, ◌∙◌, Some, ap, arith, length, subst, sym, take}
 use Rattle.dl_elf.specs.Answers.{Answers}
 use Rattle.dl_elf.specs.Elf.{file_header, header_in}
 use Rattle.dl_elf.specs.OpenedBySteps.{opened_with}

@@ -1,4 +1,4 @@
-use Rattle.std.proofs.Common.{arith, ap, length, ◌∙◌, ◌+◌}
+use Rattle.std.proofs.Common.{arith, length, ◌∙◌, ◌+◌}
 use Rattle.std.proofs.lemmas.Result.{on_err_weaker, on_ok_weaker}
 use Rattle.dl_memory.proofs.RefusalLemmas.{wants_fewer}
 use Rattle.dl_making.proofs.FewLemmas.{adds_less, folders_few}

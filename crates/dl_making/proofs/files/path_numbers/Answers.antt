@@ -5,7 +5,6 @@ use Rattle.dl_pack.specs.Shown.{texts_of}
 use Rattle.std.specs.Option.{option_copied}
 use Rattle.dl_path.specs.Parts.{path_seen}
 use Rattle.dl_making.specs.Few.{AddsFew, path_text}
-use Rattle.dl_memory.proofs.RefusalLemmas.{wants_fewer}
 use Rattle.dl_pack.proofs.FaultLemmas.{on_err}
 use Rattle.dl_making.proofs.FewLemmas.{adds_less, adds_more, adds_text, root_few}
 use Rattle.dl_making.proofs.TextNumbers.{more_texts, numbered_text, three_texts}

@@ -6,7 +6,6 @@ use Rattle.dl_stretch.specs.Runs.{held_in}
 use Rattle.dl_stretch.specs.Stands.{Stands}
 use Rattle.dl_making.specs.declared.files.UnitFiles.{UnitFiles}
 use Rattle.dl_memory.proofs.RefusalLemmas.{wants_fewer}
-use Rattle.dl_making.specs.Making.{end_room}
 use Rattle.dl_making.proofs.KeepLemmas.{unit_adds, unit_text_is}
 use Rattle.dl_making.proofs.MakerLemmas.{ended, file_is}
 use Rattle.dl_making.proofs.maker.Maker.end_unit.Goals as goal
