@@ -7,7 +7,7 @@ use Rattle.dl_memory.specs.declared.memory.NoMemory.{NoMemory}
 use Rattle.dl_program.specs.Blaming.{BlamesWriter}
 use Rattle.dl_cmd.specs.Job.{IndexTexts}
 use Rattle.dl_sections.specs.declared.around.Survey.{Survey}
-use Rattle.dl_program.specs.Indexing.{IndexesFile, IndexesFor}
+use Rattle.dl_locating.specs.Indexing.{IndexesFile, IndexesFor}
 use Rattle.dl_program.specs.declared.stop.Stop.{Stop}
 use Rattle.dl_building.specs.FileBuilding.{IsFileBuilt, IsIndexed, built_of, file_words}
 

@@ -10,7 +10,7 @@ use Rattle.dl_memory.specs.declared.memory.NoMemory as held
 use Rattle.dl_sections.specs.declared.around.Survey.{Survey}
 use Rattle.dl_sections.specs.declared.fault.RunFault.TheVariants.{NoMemory}
 use Rattle.dl_program.specs.Blaming.{BlamesWriter, IsBlamed}
-use Rattle.dl_program.specs.Indexing.{IndexesFile}
+use Rattle.dl_locating.specs.Indexing.{IndexesFile}
 use Rattle.dl_program.specs.declared.stop.Stop.{Stop}
 use Rattle.dl_program.specs.declared.stop.Stop.TheVariants.{Run}
 use Rattle.dl_building.specs.declared.file.Built.{Built}

@@ -3,7 +3,7 @@
 ghost use Rattle.std.specs.Prelude.{◌≡◌, ℕ, [], List, Some};
 ghost use Rattle.dl_cmd.specs.Job.{index_words_made};
 ghost use Rattle.dl_building.specs.FileBuilding.{BuildsFile, IsFileBuilt, IsIndexed, built_of, file_words};
-ghost use Rattle.dl_program.specs.Indexing.{IndexesFor};
+ghost use Rattle.dl_locating.specs.Indexing.{IndexesFor};
 
 use crate::faults::tell_stop;
 use crate::one_file::OneFile;
@@ -11,9 +11,10 @@ use crate::room::put;
 use dl_buffers::{FaultRecord, Status};
 use dl_cmd::{IndexWords, UnitWords};
 use dl_held::{Held, Refusing};
+use dl_locating::index;
 use dl_making::SetMemory;
 use dl_memory::NoMemory;
-use dl_program::{Stop, index};
+use dl_program::Stop;
 use dl_sections::{RunFault, Survey};
 use std::marker::Brand;
 

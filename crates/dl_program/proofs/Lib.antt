@@ -1,11 +1,5 @@
 pub mod TableLemmas
 pub mod EndLemmas
 pub mod WorkLemmas
-pub mod WordsLemmas
-pub mod LocateLemmas
-pub mod AnsweringLemmas
-pub mod ReadsLemmas
-pub mod IndexingLemmas
 pub mod DamageLemmas
 pub mod BlameLemmas
-pub mod RoomLemmas

@@ -1,30 +1,19 @@
-//! What the program does for a job, over files, an input and an output.
+//! What the program does for a job over the line table of a file, or over a section on its input.
 #![tactic(auto)]
 
-mod addr_words;
-mod answering;
-mod code;
 mod command;
-mod compiled;
 mod damages;
 mod fault_line;
-mod indexing;
-pub mod laws;
-mod located;
-mod locating;
-mod opening;
-mod over_elf_file;
 mod over_file;
-mod over_index;
 mod over_input;
 mod stop;
 mod unit_words;
 mod working;
 
-pub use damages::StopLines;
-pub use indexing::index;
-pub use located::Located;
-pub use locating::locate;
-pub use stop::Stop;
-pub use unit_words::file_units;
-pub use working::{followed_path, looked_into, work};
+pub use command::{Command, directory_said};
+pub use damages::{StopLines, Unheard};
+pub use over_file::on_file;
+pub use over_input::{Section, on_input};
+pub use stop::{Stop, answer_over_file};
+pub use unit_words::{are_sizes, file_units, is_size, units_of_file};
+pub use working::{INPUT, followed_path, looked_into, work};

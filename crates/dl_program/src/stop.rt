@@ -112,7 +112,7 @@ impl<'a> From<FileStop<'a>> for Stop<'a> {
 }
 
 /// What a command over a file answered, as the program answers.
-pub fn over_file<'a>(answer: Result<Survey, FileStop<'a>>) -> Result<Survey, Stop<'a>>
+pub fn answer_over_file<'a>(answer: Result<Survey, FileStop<'a>>) -> Result<Survey, Stop<'a>>
     ensures { result ≡ over_file answer.entry }
 {
     match answer {

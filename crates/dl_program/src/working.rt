@@ -2,26 +2,36 @@
 ghost use Rattle.std.specs.Prelude.{◌≡◌, ℕ, List, [], option_map};
 ghost use Rattle.std.specs.Io.KnownBytes.{Consumes};
 ghost use Rattle.dl_input.specs.Failing.{Blames};
-ghost use Rattle.dl_cmd.specs.Job.{request_made};
-ghost use Rattle.dl_program.specs.Asked.{file_of, followed_path, looked_into, part_name_of, section_of};
+ghost use Rattle.dl_cmd.specs.Job.{addr_words_made, request_made};
+ghost use Rattle.dl_program.specs.Asked.{file_of, followed_path, looked_into, part_name_of, section_of, unless_input};
 ghost use Rattle.dl_elf.specs.Source.{ForBytes};
 ghost use Rattle.dl_program.specs.Held.{section_seen};
 ghost use Rattle.dl_program.specs.Tables.{OnFile};
 ghost use Rattle.dl_program.specs.Blaming.{BlamesOver, BlamesWriter};
 ghost use Rattle.dl_program.specs.Work.{BlamesInput, Works};
 
-use crate::addr_words::file_of_words;
 use crate::command::Command;
 use crate::over_file::on_file;
 use crate::over_input::{Section, on_input};
-use crate::stop::{Stop, over_file};
+use crate::stop::{Stop, answer_over_file};
 use crate::unit_words::file_units;
-use dl_cmd::Job;
+use dl_cmd::{AddrWords, Job};
 use dl_input::Source;
 use dl_making::SetMemory;
 use dl_open::{FileSource, FileStop, FileUnits, open_file};
 use dl_output::Destination;
 use dl_sections::{DamageSink, Survey};
+
+/// The path that stands for a section on the input.
+pub const INPUT: &str = "-";
+
+/// The path of the ELF file that they name.
+fn file_of_words<'a>(words: &AddrWords<'a>) -> Option<&'a str>
+    ensures { option_map (λ s. s.now) result ≡ unless_input (addr_words_made words.now).file }
+{
+    let path = words.file?;
+    if path == INPUT { None } else { Some(path) }
+}
 
 /// The path of the ELF file that a job names.
 fn file<'a>(job: &Job<'a>) -> Option<&'a str>
@@ -178,7 +188,7 @@ pub fn work<'a, M: SetMemory, F: FileSource, R: Source, W: Destination, D: Damag
         return Err(Stop::NotUnderstood);
     };
     match file(&job) {
-        Some(path) => over_file(on_named(
+        Some(path) => answer_over_file(on_named(
             memory,
             files,
             path,

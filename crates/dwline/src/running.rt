@@ -4,9 +4,10 @@ use crate::ending::Ending;
 use crate::indices::{list_index, write_index};
 use dl_addr::WhichFound;
 use dl_cmd::{AddrWords, IndexWords, Job};
+use dl_locating::locate;
 use dl_memory::System;
 use dl_open::{FileSource, FileUnits, units_not_read};
-use dl_program::{Stop, StopLines, file_units, locate, looked_into, work};
+use dl_program::{Stop, StopLines, file_units, looked_into, work};
 use dl_sections::RunFault;
 
 /// Says of the file at this path which units aren't read, where there is one.

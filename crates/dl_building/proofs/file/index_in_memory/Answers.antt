@@ -1,6 +1,6 @@
 use Rattle.std.proofs.Common.{Some, subst}
 use Rattle.dl_cmd.specs.Job.{index_words_made}
-use Rattle.dl_program.specs.Indexing.{IndexesFor}
+use Rattle.dl_locating.specs.Indexing.{IndexesFor}
 use Rattle.dl_building.proofs.file.index_in_memory.Goals as goal
 
 pub returns : goal.returns

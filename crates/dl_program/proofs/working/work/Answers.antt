@@ -26,7 +26,7 @@ returns-in-Some-file-clause-ran g c = (
   λ untold. works_on_named (g.M.Memory.refuses c.args.memory.now) (g.F.FileSource.held c.args.files.now) (g.F.FileSource.fails_with c.args.files.now) _
       (request_made c.in-Some.job) c.in-Some-of.command c.file_units.result c.in-Some-file.path.now _ _ _ _ _ _ _
       (ap (option_map request_made) c.in-Some.is) (sym c.of.ensures ∙ ap (option_map command_seen) c.in-Some-of.is) (sym c.in-Some-file.ensures)
-      c.file_units.ensures c.part_name.ensures c.over_file.ensures (c.on_named.ensures.ran untold),
+      c.file_units.ensures c.part_name.ensures c.answer_over_file.ensures (c.on_named.ensures.ran untold),
 )
 
 pub returns-in_default-clause-ran : goal.returns-in_default-clause-ran
@@ -56,7 +56,7 @@ pub returns-in-Some-file-clause-blames : goal.returns-in-Some-file-clause-blames
 returns-in-Some-file-clause-blames g c first is = (
   is,
   λ e. absurd (file_named (g.M.Memory.refuses c.args.memory.now) (g.F.FileSource.held c.args.files.now)
-      (g.F.FileSource.fails_with c.args.files.now) (request_made c.in-Some.job) _ _ c.over_file.result
+      (g.F.FileSource.fails_with c.args.files.now) (request_made c.in-Some.job) _ _ c.answer_over_file.result
       (ap (option_map request_made) c.in-Some.is) (sym c.in-Some-file.ensures) e.1),
 )
 
@@ -78,4 +78,4 @@ returns-in_default-of-clause-blames g c first is = (
 
 pub returns-in-Some-file-clause-blames_writer : goal.returns-in-Some-file-clause-blames_writer
 returns-in-Some-file-clause-blames_writer g c untold =
-    rw c.over_file.ensures (over_writer g.W.Destination.fails c.on_named.result (c.on_named.ensures.blames untold))
+    rw c.answer_over_file.ensures (over_writer g.W.Destination.fails c.on_named.result (c.on_named.ensures.blames untold))

@@ -1,5 +1,0 @@
-use Rattle.dl_program.proofs.RoomLemmas.{directories_have_room}
-use Rattle.dl_program.proofs.laws.directories_have_room.Goals as goal
-
-pub returns : goal.returns
-returns c = directories_have_room

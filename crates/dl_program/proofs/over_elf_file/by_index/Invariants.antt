@@ -1,4 +1,0 @@
-use Rattle.dl_program.proofs.over_elf_file.by_index.Given as goal
-
-abbrev pub ghosts-make_index : goal.ghosts-make_index
-ghosts-make_index g a = record { refuses = g.M.Memory.refuses a.memory.now }
