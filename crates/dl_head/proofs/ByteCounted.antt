@@ -149,8 +149,12 @@ done {r} {fin} {b} m tail end f =
     let whole = header_whole m tail end in
     let c = f.1 in (
       rw f.0 (h, whole),
-      stands_so _ (ap ending c.phase) (h, c.header, subst (λ (d : Dialect). IsHeader d h b) (sym c.dialect) whole)
-          c.dialect (same_counts fin (moved_counts m) c.taken c.unit),
+      stands_so _ (ap ending c.phase) (record {
+        h = h;
+        header = c.header;
+        is = subst (λ (d : Dialect). IsHeader d h b) (sym c.dialect) whole;
+        start_is = rw (c.dialect, c.start, m.read.cut_is) m.start_is;
+      }) c.dialect (same_counts fin (moved_counts m) c.taken c.unit),
     )
 
 foreign : {r fin : HeadReader} {b : List ℕ} {result : HeadStep} (m : Moved r b) (v : ℕ) → r.phase ≡ phase.Foreign v

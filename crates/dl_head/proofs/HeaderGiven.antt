@@ -9,7 +9,7 @@ use Rattle.dl_field.specs.declared.params.Params.{Params}
 use Rattle.dl_head.specs.Header.{IsHeader}
 use Rattle.dl_head.specs.Cells.{cells}
 use Rattle.dl_head.specs.Place.{held_cells}
-use Rattle.dl_head.specs.Standing.{ending, Stands, StandsFor}
+use Rattle.dl_head.specs.Standing.{ending, IsDone, Stands, StandsFor}
 use Rattle.dl_head.specs.Reading.{Answers, Gives}
 use Rattle.dl_field.proofs.FieldLemmas.{none_some}
 use Rattle.dl_head.proofs.HeaderCells.{header_holds_its_cells}
@@ -24,7 +24,7 @@ pub made : (r : HeadReader) (b : List ℕ) (h : HeaderData) → StandsFor r b �
 made r b h s is = on (ending r.phase) s.stands where
   on : (o : Option HeadStep) → Stands r o b → IsHeader r.dialect h b
   on None t = absurd (none_some t.1.header is)
-  on (Some answer.Done) t = subst (λ (g : HeaderData). IsHeader r.dialect g b) (header_same t.0 h (sym t.1 ∙ is)) t.2
+  on (Some answer.Done) t = subst (λ (g : HeaderData). IsHeader r.dialect g b) (header_same t.h h (sym t.header ∙ is)) t.is
   on (Some (answer.Foreign v)) t = absurd (none_some t.1.header is)
   on (Some (answer.Fault f)) t = absurd (none_some t.1.header is)
   on (Some answer.More) t = absurd t
@@ -38,11 +38,25 @@ unmade r b h s is w = on (ending r.phase) refl s.stands where
 
   on : (o : Option HeadStep) → ending r.phase ≡ o → Stands r o b → ⊥
   on None e t = other answer.More (live_more r b e t.0) (λ d. cc)
-  on (Some answer.Done) e t = none_some is t.1
+  on (Some answer.Done) e t = none_some is t.header
   on (Some (answer.Foreign v)) e t = other (answer.Foreign v) t.0 (λ d. cc)
   on (Some (answer.Fault f)) e t = other (answer.Fault f) t.0 (λ d. cc)
   on (Some answer.More) e t = t
   on (Some answer.NoMemory) e t = t
+
+-- a header is complete
+pub done_at : (r : HeadReader) (b : List ℕ) (h : HeaderData) → StandsFor r b → IsHeader r.dialect h b → IsDone r b
+done_at r b h s w = on (ending r.phase) refl s.stands where
+  other : (a : HeadStep) → Answers r.dialect b a → answer.Done ≢ a → ⊥
+  other a t differs = differs (one_answer r.dialect b answer.Done a (h, w) t)
+
+  on : (o : Option HeadStep) → ending r.phase ≡ o → Stands r o b → IsDone r b
+  on None e t = absurd (other answer.More (live_more r b e t.0) (λ d. cc))
+  on (Some answer.Done) e t = t
+  on (Some (answer.Foreign v)) e t = absurd (other (answer.Foreign v) t.0 (λ d. cc))
+  on (Some (answer.Fault f)) e t = absurd (other (answer.Fault f) t.0 (λ d. cc))
+  on (Some answer.More) e t = absurd t
+  on (Some answer.NoMemory) e t = absurd t
 
 pub gives_of : (r : HeadReader) (o : Option HeaderData) → r.header ≡ o → Gives r.dialect r o
 gives_of r (Some h) e = λ b s. made r b h s e
@@ -58,7 +72,7 @@ pub held_so_far : (r : HeadReader) (b : List ℕ) → StandsFor r b → r.header
 held_so_far r b s is = on (ending r.phase) s.stands where
   on : (o : Option HeadStep) → Stands r o b → held_cells r ≡ cells r.dialect b
   on None t = t.1.cells_are
-  on (Some answer.Done) t = absurd (none_some is t.1)
+  on (Some answer.Done) t = absurd (none_some is t.header)
   on (Some (answer.Foreign v)) t = t.1.cells_are
   on (Some (answer.Fault f)) t = t.1.cells_are
   on (Some answer.More) t = absurd t

@@ -1,6 +1,6 @@
 -- A header is what is cut off the front of bytes: the laws of headers.
 use Rattle.std.proofs.Common.{◌≡◌, ℕ, ◌+◌, ◌-◌, ◌≤◌, Bool, true, false, nat_le, ◌&&◌, if◌then◌else◌, List, [], ◌∷◌}
-use Rattle.std.proofs.Common.{◌++◌, length, take, drop, Option, Some, None, Ok, Err, refl, sym, ap, subst, ◌∙◌, arith}
+use Rattle.std.proofs.Common.{◌++◌, length, take, drop, Option, Some, None, Ok, Err, refl, sym, ap, subst, unwrap_or, ◌∙◌, arith}
 use Rattle.std.proofs.Common.{inl, inr, length-append, append_assoc, append-nil}
 use Rattle.std.proofs.lemmas.Bool.{cases_lt, le-leb, lt-leb}
 use Rattle.std.proofs.lemmas.List.{take-append-drop, length-take-le}
@@ -14,8 +14,9 @@ use Rattle.dl_num.proofs.LebFrontLemmas.{true_false, and_left, and_right}
 use Rattle.dl_field.specs.HeaderData.{HeaderData}
 use Rattle.dl_table.specs.declared.fault.FaultKind.{FaultKind}
 use Rattle.dl_table.specs.Value.{Judgement, good, bad}
-use Rattle.dl_head.specs.HeaderLayout.{header_layout}
-use Rattle.dl_head.specs.Header.{Cut, cut_after, cut, header_made, header_end, header_up_to, IsHeader, IsFieldCut}
+use Rattle.dl_head.specs.HeaderLayout.{fixed_part, header_layout, initial_size}
+use Rattle.dl_head.specs.declared.header.HeaderLengths.{HeaderLengths}
+use Rattle.dl_head.specs.Header.{Cut, cut_after, cut, header_made, header_end, header_up_to, IsHeader, IsFieldCut, lengths_by, lengths_in, unit_len}
 use Rattle.dl_head.specs.Laws.{OneHeader, HeaderIsFound, FoundIsHeader, CutIsComputed, HeaderIsNotForeign}
 use Rattle.dl_field.proofs.FieldLemmas.{field_empty, none_some}
 use Rattle.dl_head.proofs.CutLemmas.{cut_of, cut_on, cut_fields, cut_last, cut_sound, Sound}
@@ -241,3 +242,39 @@ cut_is_computed dialect b items rest = (to, from) where
 
 pub header_is_not_foreign : HeaderIsNotForeign
 header_is_not_foreign dialect h w v is = rw (header_cut dialect h w v is, made_last _ h is.made) refl
+
+-- ---- how long a header is
+
+-- by what was cut off
+abbrev lengths_of : HeaderData → List ℕ → Cut → HeaderLengths
+lengths_of h b c = lengths_by h c.items (length b - length c.rest)
+
+-- what follows a header doesn't change its lengths
+pub lengths_stay : (dialect : Dialect) (h g : HeaderData) (w y : List ℕ) → IsHeader dialect h w
+    → lengths_in dialect (w ++ y) g ≡ lengths_in dialect w g
+lengths_stay dialect h g w y is =
+    let fields : length (w ++ y) - length (is.padding ++ y) ≡ length w - length (is.padding ++ []) =
+    omega (
+      arith,
+      length-append w y,
+      length-append is.padding y,
+      length-append is.padding [],
+      ap length is.whole,
+      length-append is.fields is.padding,
+    ) in
+    ap (lengths_of g (w ++ y)) (header_cut dialect h w y is) ∙ ap (lengths_by g is.items) fields
+    ∙ sym (ap (lengths_of g w) (ap (cut dialect) (sym (append-nil w)) ∙ header_cut dialect h w [] is))
+
+-- of a header's bytes alone, whose fields end at `start`
+pub lengths_are : (dialect : Dialect) (h : HeaderData) (b : List ℕ) (start : ℕ) → IsHeader dialect h b
+    → start + length (cut dialect b).rest ≡ length b
+    → lengths_in dialect b h ≡ record {
+      unit_length = unwrap_or (unit_len dialect b) 0 - initial_size h.params.format;
+      header_length = length b - (initial_size h.params.format + fixed_part h.params.format h.params.version);
+      padding = length b - start;
+    }
+lengths_are dialect h b start is at =
+    let end : header_end (cut dialect b).items ≡ Some (length b) =
+    ap (λ (c : Cut). header_end c.items) (ap (cut dialect) (sym (append-nil b)) ∙ header_cut dialect h b [] is) ∙ is.end in
+    let fields : length b - length (cut dialect b).rest ≡ start = omega (arith, at) in
+    rw (end, fields) refl

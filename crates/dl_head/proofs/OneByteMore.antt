@@ -40,7 +40,7 @@ pub by_dialect : {d e : Dialect} {fin : HeadReader} {c : List ℕ} (result : Hea
 by_dialect {d} {e} {fin} {c} result dialect p = (subst (λ (d : Dialect). Answers d c result) dialect p.0, p.1)
 
 answers_of : (r : HeadReader) (b : List ℕ) (a : HeadStep) → Stands r (Some a) b → Answers r.dialect b a
-answers_of r b answer.Done t = (t.0, t.2)
+answers_of r b answer.Done t = (t.h, t.is)
 answers_of r b (answer.Foreign v) t = t.0
 answers_of r b (answer.Fault f) t = t.0
 answers_of r b answer.More t = absurd t

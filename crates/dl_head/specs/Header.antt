@@ -1,8 +1,9 @@
 -- The spelling of a header, and the header that bytes begin with. DWARF 5, sections 6.2.4 and 7.4.
 use Rattle.std.specs.Prelude.{◌≡◌, ℕ, ◌+◌, ◌-◌, ◌&&◌, List, [], ◌∷◌, ◌++◌, length, drop, Option, Some, None, Ok, Err}
-use Rattle.std.specs.Prelude.{nat_le, ◌==◌, if◌then◌else◌}
+use Rattle.std.specs.Prelude.{nat_le, ◌==◌, if◌then◌else◌, unwrap_or}
 use Rattle.dl_num.specs.declared.fixed.Order.{Order}
 use Rattle.dl_head.specs.declared.dialect.Dialect.{Dialect}
+use Rattle.dl_head.specs.declared.header.HeaderLengths.{HeaderLengths}
 use Rattle.dl_table.specs.declared.form.Format.{Format}
 use Rattle.dl_field.specs.HeaderData.{HeaderData}
 use Rattle.dl_table.specs.Value.{good}
@@ -111,3 +112,18 @@ header_in dialect b =
     let c = cut dialect b in
     header_up_to b (length b - length c.rest) (header_made (following_all (header_layout dialect) c.items))
     (header_end c.items)
+
+-- by the values of the header's fields, which have so many bytes
+abbrev pub lengths_by : HeaderData → List Item → (fields : ℕ) → HeaderLengths
+lengths_by h items fields =
+    let end = unwrap_or (header_end items) 0 in
+    record {
+      unit_length = unwrap_or (unit_end items) 0 - initial_size h.params.format;
+      header_length = end - (initial_size h.params.format + fixed_part h.params.format h.params.version);
+      padding = end - fields;
+    }
+
+-- how many bytes the unit has after unit_length, and the header after header_length, and how many of these stand between
+-- the last entry and the program; h: the header that b begins with
+abbrev pub lengths_in : Dialect → List ℕ → HeaderData → HeaderLengths
+lengths_in dialect b h = let c = cut dialect b in lengths_by h c.items (length b - length c.rest)

@@ -7,7 +7,8 @@ use Rattle.dl_head.specs.declared.reader.HeadStep.{HeadStep}
 use Rattle.dl_head.specs.declared.reader.HeadStep.TheVariants as answer
 use Rattle.dl_head.specs.declared.reader.HeadReader.{HeadReader}
 use Rattle.dl_field.specs.HeaderData.{HeaderData}
-use Rattle.dl_head.specs.Header.{IsHeader, foreign_in}
+use Rattle.dl_head.specs.declared.header.HeaderLengths.{HeaderLengths}
+use Rattle.dl_head.specs.Header.{IsHeader, foreign_in, lengths_in}
 use Rattle.dl_head.specs.Refusal.{HeaderRefused}
 use Rattle.dl_head.specs.Cells.{cells}
 use Rattle.dl_head.specs.Standing.{StandsFor}
@@ -40,6 +41,12 @@ pub record Steps (dialect : Dialect) (b : List ℕ) (byte : ℕ) (result : HeadS
 abbrev pub Gives : Dialect → HeadReader → Option HeaderData → Type 0
 Gives dialect r (Some h) = (b : List ℕ) → StandsFor r b → IsHeader dialect h b
 Gives dialect r None = (b : List ℕ) → StandsFor r b → (h : HeaderData) → IsHeader dialect h b → ⊥
+
+-- how long the header that it has read, and its unit, are; some exactly where the bytes taken are one
+abbrev pub GivesLengths : Dialect → HeadReader → Option HeaderLengths → Type 0
+GivesLengths dialect r (Some lengths) = (b : List ℕ) → StandsFor r b
+    → (h : HeaderData) × IsHeader dialect h b × (lengths ≡ lengths_in dialect b h)
+GivesLengths dialect r None = (b : List ℕ) → StandsFor r b → (h : HeaderData) → IsHeader dialect h b → ⊥
 
 -- Law: bytes come to one thing alone.
 abbrev pub OneAnswer : Type 0

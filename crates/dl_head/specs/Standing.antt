@@ -49,9 +49,16 @@ ending (phase.Foreign v) = Some (answer.Foreign v)
 ending (phase.Failed f) = Some (answer.Fault f)
 ending p = None
 
+-- b is the header, and the padding begins where the reader says
+pub record IsDone (r : HeadReader) (b : List ℕ) : Type 0 where
+  pub h : HeaderData
+  pub header : r.header ≡ Some h
+  pub is : IsHeader r.dialect h b
+  pub start_is : r.start + length (cut r.dialect b).rest ≡ length b
+
 abbrev pub Stands : HeadReader → Option HeadStep → List ℕ → Type 0
 Stands r None b = Live r b × Unmade r b
-Stands r (Some answer.Done) b = (h : HeaderData) × (r.header ≡ Some h) × IsHeader r.dialect h b
+Stands r (Some answer.Done) b = IsDone r b
 Stands r (Some (answer.Foreign v)) b = (foreign_in r.dialect b ≡ Some v) × Unmade r b
 Stands r (Some (answer.Fault f)) b = HeaderRefused r.dialect b f.offset f.kind × Unmade r b
 Stands r (Some other) b = ⊥
@@ -88,6 +95,7 @@ pub record Completes (old new : HeadReader) : Type 0 where
   pub header : new.header ≡ Some (record { params = old.params; directories = old.directories; files = old.files })
   pub dialect : new.dialect ≡ old.dialect
   pub taken : new.taken ≡ old.taken
+  pub start : new.start ≡ old.start
   pub unit : SameUnit old new
 
 -- `settle`, by the phase: where the bytes end, an end or a fault, else nothing

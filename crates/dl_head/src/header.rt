@@ -64,6 +64,17 @@ impl Eq for Header {
     ghost laws = { same_header_laws };
 }
 
+/// How long a unit and its header are. Section 6.2.4.
+#[derive(Clone, Copy, Debug, PartialEq, Eq)]
+pub struct HeaderLengths {
+    /// unit_length: how many bytes the unit has after this field.
+    pub unit_length: u64,
+    /// header_length: how many bytes the header has after this field.
+    pub header_length: u64,
+    /// How many bytes stand between the last entry of the tables and the program.
+    pub padding: u64,
+}
+
 /// Why the parts of a header were refused, and all of them.
 #[derive(Debug, Drop, Error)]
 #[error("no header: {fault}")]

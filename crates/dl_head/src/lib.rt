@@ -16,6 +16,6 @@ pub use dl_table::{
     form, table, text, text_at,
 };
 pub use fault::{Fault, ParamFault};
-pub use header::{Header, Refused};
+pub use header::{Header, HeaderLengths, Refused};
 pub use reader::{HeadReader, HeadStep};
 pub use write::{TooLong, header_len, write_header};

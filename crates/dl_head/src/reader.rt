@@ -21,8 +21,8 @@ mod tables;
 
 use crate::dialect::Dialect;
 use crate::fault::Fault;
-use crate::header::Header;
-use crate::sizes::initial_size;
+use crate::header::{Header, HeaderLengths};
+use crate::sizes::{fixed_part, initial_size};
 use byte_field::ByteField;
 use dl_field::{FieldStep, ListKind, ListReader, Params, TableReader};
 use dl_num::PartialNumber;
@@ -127,7 +127,7 @@ impl HeadReader {
     ghost use Rattle.dl_head.specs.declared.reader.HeadStep.TheVariants as answer;
     ghost use Rattle.dl_head.specs.Place.{Keeps, PushFollows};
     ghost use Rattle.dl_head.specs.Standing.{StandsFor, Settles, Fails, Completes, ending};
-    ghost use Rattle.dl_head.specs.Reading.{Answers, Steps, Gives};
+    ghost use Rattle.dl_head.specs.Reading.{Answers, Steps, Gives, GivesLengths};
     ghost use Rattle.dl_head.specs.Whole.{in_table, IsFront, Pushed, Advances};
 
     /// No byte yet of a header of this dialect. It takes no memory.
@@ -224,6 +224,23 @@ impl HeadReader {
         ensures { Gives self.dialect self result }
     {
         self.header
+    }
+
+    /// How long the unit and its header are, from Done on.
+    pub fn lengths(&self) -> Option<HeaderLengths>
+        ensures { GivesLengths self.now.dialect self.now result }
+    {
+        let Some(header) = self.header() else {
+            return None;
+        };
+        let params = header.params();
+        let initial = initial_size(params.format);
+        let fixed = fixed_part(params.format, params.version);
+        Some(HeaderLengths {
+            unit_length: self.unit_len().unwrap_or(0).saturating_sub(initial),
+            header_length: self.taken.saturating_sub(initial).saturating_sub(fixed),
+            padding: self.taken.saturating_sub(self.start),
+        })
     }
 
     /// What the bytes come to that were taken.

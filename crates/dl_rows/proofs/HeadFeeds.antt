@@ -12,14 +12,15 @@ use Rattle.dl_head.specs.declared.reader.HeadStep.{HeadStep}
 use Rattle.dl_head.specs.declared.reader.HeadStep.TheVariants as answer
 use Rattle.dl_head.specs.Cells.{cells}
 use Rattle.dl_field.specs.HeaderData.{HeaderData}
-use Rattle.dl_head.specs.Header.{IsHeader, foreign_in, header_in, unit_len}
+use Rattle.dl_head.specs.declared.header.HeaderLengths.{HeaderLengths}
+use Rattle.dl_head.specs.Header.{IsHeader, foreign_in, header_in, lengths_in, unit_len}
 use Rattle.dl_head.specs.Refusal.{HeaderRefused}
-use Rattle.dl_head.specs.Reading.{Answers, Gives}
+use Rattle.dl_head.specs.Reading.{Answers, Gives, GivesLengths}
 use Rattle.dl_head.specs.Runs.{so_far, Took, Offered}
 use Rattle.dl_head.specs.Standing.{StandsFor as HeadStands}
 use Rattle.dl_field.proofs.FieldLemmas.{none_some}
 use Rattle.dl_head.proofs.OneAnswer.{one_answer}
-use Rattle.dl_head.proofs.HeaderLaws.{header_is_found, found_is_header}
+use Rattle.dl_head.proofs.HeaderLaws.{header_is_found, found_is_header, one_header}
 use Rattle.std.proofs.lemmas.Bool.{cases_eq}
 use Rattle.dl_rows.specs.declared.reader.Event.{Event}
 use Rattle.dl_rows.specs.declared.reader.Event.TheVariants as event
@@ -320,6 +321,22 @@ pub header_given : (head : HeadReader) (o : Option HeaderData) → ∥ HasHeader
 header_given head o has gives none =
     ∥∥₁_elim has (hlevel props)
     (λ k. (let n : Gives head.dialect head None = rw none at gives in n k.0 k.1 k.2.0 k.2.1))
+
+-- and its lengths
+pub lengths_given : (head : HeadReader) (o : Option HeaderLengths) → ∥ HasHeader head ∥₁
+    → GivesLengths head.dialect head o → o ≡ None → ⊥
+lengths_given head o has gives none =
+    ∥∥₁_elim has (hlevel props)
+    (λ k. (let n : GivesLengths head.dialect head None = rw none at gives in n k.0 k.1 k.2.0 k.2.1))
+
+pub lengths_taken : (head : HeadReader) (o : Option HeaderLengths) (l : HeaderLengths) → GivesLengths head.dialect head o
+    → o ≡ Some l → (b : List ℕ) (h : HeaderData) → HeadStands head b → IsHeader head.dialect h b
+    → l ≡ lengths_in head.dialect b h
+lengths_taken head o l gives some b h stands is =
+    let g : GivesLengths head.dialect head (Some l) = rw some at gives in
+    let own = g b stands in
+    let same = (one_header head.dialect own.0 h b [] own.1 (rw (append-nil b) is)).1 in
+    own.2 ∙ ap (lengths_in head.dialect b) same
 
 -- a piece was offered to the reader of a header
 module _ {old new : HeadReader} {piece : List ℕ} {used : ℕ} {step : HeadStep} (begun : ∥ GoesOn old ∥₁)

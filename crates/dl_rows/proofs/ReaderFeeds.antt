@@ -1,5 +1,5 @@
 -- What a reader of a unit answers, by what it stands for.
-use Rattle.std.proofs.Common.{◌≡◌, ◌≢◌, inr, ℕ, List, [], ◌∷◌, ◌++◌, length, length-append, map, IfOk, Result, Ok}
+use Rattle.std.proofs.Common.{◌≡◌, ◌≢◌, inr, ℕ, List, [], ◌∷◌, ◌++◌, length, take, length-append, map, IfOk, Result, Ok}
 use Rattle.std.proofs.Common.{Err, refl, sym, ap, ◌∙◌, arith, append-nil}
 use Rattle.std.proofs.lemmas.List.{nil_from_length}
 use Rattle.dl_head.specs.declared.dialect.Dialect.{Dialect}
@@ -9,6 +9,7 @@ use Rattle.dl_head.specs.declared.reader.HeadReader.{HeadReader}
 use Rattle.dl_head.specs.declared.reader.HeadStep.TheVariants as answer
 use Rattle.dl_head.specs.Reading.{Answers}
 use Rattle.dl_field.specs.HeaderData.{HeaderData}
+use Rattle.dl_head.specs.declared.header.HeaderLengths.{HeaderLengths}
 use Rattle.dl_head.specs.Standing.{StandsFor as HeadStands}
 use Rattle.dl_field.proofs.FieldLemmas.{none_some}
 use Rattle.dl_head.proofs.HeaderLaws.{header_is_found}
@@ -28,10 +29,12 @@ use Rattle.dl_rows.specs.LineUnit.{events}
 use Rattle.dl_rows.specs.Reading.{Feeds, SinkAt, SinkAfter, FinishIs}
 use Rattle.dl_rows.specs.ReaderStands.{StandsFor}
 use Rattle.dl_rows.specs.ReaderAnswers.{ReaderFed, FedAfter, RowsFed}
-use Rattle.dl_rows.specs.ReaderStates.{InHeader, StandsAt}
-use Rattle.dl_rows.specs.UnitBodies.{InForeign, BodyFedAfter, BodyTells}
+use Rattle.dl_rows.specs.ReaderStates.{InHeader, StandsAfter, StandsAt}
+use Rattle.dl_rows.specs.UnitBodies.{InForeign, BodyFedAfter, BodyStands, BodyTells}
 use Rattle.dl_rows.proofs.UnitBodyFeeds.{fails_again, sink_goes_on}
 use Rattle.dl_rows.proofs.HeadFeeds.{no_unit}
+use Rattle.dl_rows.proofs.ReaderLemmas.{at_of}
+use Rattle.dl_rows.proofs.UnitBodyLemmas.{lengths_more}
 use Rattle.dl_rows.proofs.UnitWhole.{NoneRefused}
 
 -- ---- `feed_rows`, by the state
@@ -46,23 +49,36 @@ feeds_foreign r new is dialect made s feeds =
     let f = feeds at.0 at.1 in
     record { answered = f.answered; stands = rw (dialect, made) (at.0, f.stands) }
 
--- after the header
-body_fed : (dialect : Dialect) (h : HeaderData) (before : List Event) (b piece : List ℕ) (result : Result Fed Fault)
-    (now : BodyState) (new : Reader) → new.dialect ≡ dialect → new.state ≡ state.AfterHeader h now
-    → BodyFedAfter dialect h before b piece result now → FedAfter dialect before b piece result new
-body_fed dialect h before b piece (Ok fed) now new same made f =
-    record { answered = f.answered; stands = rw (same, made) f.stands }
-body_fed dialect h before b piece (Err fault) now new same made f = (f.0, f.1, rw (same, made) f.2)
+-- after the header, with more bytes
+after_more : {dialect : Dialect} {h : HeaderData} {lengths : HeaderLengths} {old now : BodyState} {b : List ℕ}
+    → StandsAfter dialect h lengths old b → (v : List ℕ) → BodyStands dialect h now (b ++ v)
+    → StandsAfter dialect h lengths now (b ++ v)
+after_more {old = old} s v stands =
+    record { in_body = stands; lengths_are = s.lengths_are ∙ sym (lengths_more (at_of old s.in_body) v) }
 
-pub feeds_body : {S : Type 0} {story : Story S} (r new : Reader) {h : HeaderData} {old now : BodyState}
-    {b piece : List ℕ} {before : List Row} {result : Result Fed Fault} {sink : S} → r.state ≡ state.AfterHeader h old
-    → new.dialect ≡ r.dialect → new.state ≡ state.AfterHeader h now → StandsFor r b
-    → (StandsAt r.dialect (state.AfterHeader h old) b → BodyTells story r.dialect h b piece before result now sink)
+body_fed : (dialect : Dialect) (h : HeaderData) (lengths : HeaderLengths) (old : BodyState) (before : List Event)
+    (b piece : List ℕ) (result : Result Fed Fault) (now : BodyState) (new : Reader) → new.dialect ≡ dialect
+    → new.state ≡ state.AfterHeader h lengths now → StandsAfter dialect h lengths old b
+    → BodyFedAfter dialect h before b piece result now → FedAfter dialect before b piece result new
+body_fed dialect h lengths old before b piece (Ok fed) now new same made s f =
+    record { answered = f.answered; stands = rw (same, made) (after_more s (take fed.used piece) f.stands) }
+body_fed dialect h lengths old before b piece (Err fault) now new same made s f =
+    (f.0, f.1, rw (same, made) (after_more s (take f.0 piece) f.2))
+
+pub feeds_body : {S : Type 0} {story : Story S} (r new : Reader) {h : HeaderData} {lengths : HeaderLengths}
+    {old now : BodyState} {b piece : List ℕ} {before : List Row} {result : Result Fed Fault} {sink : S}
+    → r.state ≡ state.AfterHeader h lengths old → new.dialect ≡ r.dialect → new.state ≡ state.AfterHeader h lengths now
+    → StandsFor r b → (BodyStands r.dialect h old b → BodyTells story r.dialect h b piece before result now sink)
     → RowsFed story r.dialect b piece before result new sink
-feeds_body r new {h} {now = now} {b = b} {piece = piece} {result = result} is same made s tells =
-    let f = tells (rw is at s) in
+feeds_body r new {h} {lengths} {old} {now} {b = b} {piece = piece} {result = result} is same made s tells =
+    let at : StandsAfter r.dialect h lengths old b = rw is at s in
+    let f = tells at.in_body in
     let es = events r.dialect b ++ map event.Row f.rows in
-    record { rows = f.rows; fed = body_fed r.dialect h es b piece result now new same made f.fed; sink = f.sink }
+    record {
+      rows = f.rows;
+      fed = body_fed r.dialect h lengths old es b piece result now new same made at f.fed;
+      sink = f.sink;
+    }
 
 -- ---- a new reader
 

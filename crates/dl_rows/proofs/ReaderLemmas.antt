@@ -44,7 +44,7 @@ pub no_rows : (dialect : Dialect) (b : List ℕ) → header_in dialect b ≡ Non
 no_rows dialect b none = ap (rows_later dialect.order) none
 
 -- the header that a reader after it has
-at_of : {dialect : Dialect} {h : HeaderData} {b : List ℕ} (s : BodyState) → BodyStands dialect h s b
+pub at_of : {dialect : Dialect} {h : HeaderData} {b : List ℕ} (s : BodyState) → BodyStands dialect h s b
     → AfterHeader dialect h b
 at_of (body.InProgram t) is = is.at
 at_of (body.Stopped stop) is = is.at
@@ -67,8 +67,8 @@ module _ (dialect : Dialect) (b : List ℕ) where
       (ap (λ (d : Dialect). unit_len d b) s.same_dialect ∙ len)
   within_here (state.StoppedInHeader stop) s = s.in_unit
   within_here (state.Foreign bytes) s = counts_within s.1.counts
-  within_here (state.AfterHeader h (body.InProgram t)) s = counts_within s.counts
-  within_here (state.AfterHeader h (body.Stopped stop)) s = counts_within s.counts
+  within_here (state.AfterHeader h lengths (body.InProgram t)) s = counts_within s.in_body.counts
+  within_here (state.AfterHeader h lengths (body.Stopped stop)) s = counts_within s.in_body.counts
 
 -- the cells that a reader of the header holds
 pub cells_at : (dialect : Dialect) (head : HeadReader) (b : List ℕ) (n : ℕ) → head.dialect ≡ dialect

@@ -3,7 +3,8 @@ use Rattle.std.specs.Prelude.{◌≡◌, ℕ, List, ◌++◌, map, take, Option,
 use Rattle.dl_head.specs.declared.dialect.Dialect.{Dialect}
 use Rattle.dl_head.specs.declared.fault.Fault.{Fault}
 use Rattle.dl_field.specs.HeaderData.{HeaderData}
-use Rattle.dl_head.specs.Header.{header_in}
+use Rattle.dl_head.specs.declared.header.HeaderLengths.{HeaderLengths}
+use Rattle.dl_head.specs.Header.{header_in, lengths_in}
 use Rattle.dl_rows.specs.declared.reader.Fed.{Fed}
 use Rattle.dl_rows.specs.declared.reader.Reader.{Reader}
 use Rattle.dl_rows.specs.declared.row.Row.{Row}
@@ -37,3 +38,9 @@ pub record RowsFed {S : Type 0} (story : Story S) (dialect : Dialect) (b piece :
 abbrev pub HeaderIs : Reader → Option HeaderData → Type 0
 HeaderIs r (Some h) = (b : List ℕ) → StandsFor r b → (program : List ℕ) × (header_in r.dialect b ≡ Some (h, program))
 HeaderIs r None = (b : List ℕ) → StandsFor r b → header_in r.dialect b ≡ None
+
+-- `lengths`: how long the unit and the header that b begins with are
+abbrev pub LengthsAre : Reader → Option HeaderLengths → Type 0
+LengthsAre r (Some lengths) = (b : List ℕ) → StandsFor r b → (h : HeaderData) × (program : List ℕ)
+    × (header_in r.dialect b ≡ Some (h, program)) × (lengths ≡ lengths_in r.dialect b h)
+LengthsAre r None = (b : List ℕ) → StandsFor r b → header_in r.dialect b ≡ None

@@ -7,7 +7,9 @@ use Rattle.dl_head.specs.declared.reader.HeadReader.{HeadReader}
 use Rattle.dl_head.specs.declared.reader.HeadStep.TheVariants as answer
 use Rattle.dl_head.specs.Cells.{cells}
 use Rattle.dl_field.specs.HeaderData.{HeaderData}
-use Rattle.dl_head.specs.Header.{IsHeader, header_in, unit_len}
+use Rattle.dl_head.specs.declared.header.HeaderLengths.{HeaderLengths}
+use Rattle.dl_head.specs.Header.{IsHeader, header_in, lengths_in, unit_len}
+use Rattle.dl_rows.specs.declared.unit_body.BodyState.{BodyState}
 use Rattle.dl_head.specs.Reading.{Answers}
 use Rattle.dl_head.specs.Standing.{StandsFor as HeadStands}
 use Rattle.dl_rows.specs.declared.reader.HeaderStop.{HeaderStop}
@@ -35,19 +37,25 @@ pub record StoppedInHeader (dialect : Dialect) (stop : HeaderStop) (b : List ℕ
   pub incomplete : header_in dialect b ≡ None
   pub cells : stop.cells ≡ min (cells dialect b) (2 ^ 64 - 1)
 
+-- the reader has taken b, which begins with the header h; the lengths are those of the unit and of h
+pub record StandsAfter (dialect : Dialect) (h : HeaderData) (lengths : HeaderLengths) (body : BodyState) (b : List ℕ)
+    : Type 0 where
+  pub in_body : BodyStands dialect h body b
+  pub lengths_are : lengths ≡ lengths_in dialect b h
+
 -- in this state a reader has taken the bytes b
 abbrev pub StandsAt : Dialect → UnitStage → List ℕ → Type 0
 StandsAt dialect (state.InHeader head) b = InHeader dialect head b
 StandsAt dialect (state.StoppedInHeader stop) b = StoppedInHeader dialect stop b
 StandsAt dialect (state.Foreign bytes) b = (version : ℕ) × InForeign dialect version bytes b
-StandsAt dialect (state.AfterHeader h body) b = BodyStands dialect h body b
+StandsAt dialect (state.AfterHeader h lengths body) b = StandsAfter dialect h lengths body b
 
 -- how many bytes were taken
 abbrev pub taken_in : UnitStage → ℕ
 taken_in (state.InHeader head) = head.taken
 taken_in (state.StoppedInHeader stop) = stop.taken
 taken_in (state.Foreign bytes) = bytes.taken
-taken_in (state.AfterHeader h body) = taken_in_body body
+taken_in (state.AfterHeader h lengths body) = taken_in_body body
 
 abbrev pub is_in_header : UnitStage → Bool
 is_in_header (state.InHeader head) = true

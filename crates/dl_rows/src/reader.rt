@@ -6,7 +6,8 @@ ghost use Rattle.std.specs.Option.{option_copied};
 ghost use Rattle.dl_num.specs.Laws.{AllBytes};
 ghost use Rattle.dl_head.specs.Cells.{cells};
 ghost use Rattle.dl_head.specs.Dialect.{version_5};
-ghost use Rattle.dl_head.specs.Header.{unit_len};
+ghost use Rattle.dl_field.specs.HeaderData.{HeaderData};
+ghost use Rattle.dl_head.specs.Header.{IsHeader, lengths_in, unit_len};
 ghost use Rattle.dl_head.specs.Standing.{StandsFor as HeadStands};
 ghost use Rattle.dl_rows.specs.LineUnit.{unit_rows, ends_open};
 ghost use Rattle.dl_rows.specs.Reading.{FinishIs};
@@ -19,7 +20,7 @@ use crate::program::Program;
 use crate::row::Row;
 use crate::sink::{EachRow, RowSink};
 use crate::unit_body::{BodyState, UnitBody, UnitBytes};
-use dl_head::{Dialect, Fault, FaultKind, HeadReader, HeadStep, Header};
+use dl_head::{Dialect, Fault, FaultKind, HeadReader, HeadStep, Header, HeaderLengths};
 use dl_num::Order;
 pub use run::{Listener, Run};
 use std::alloc::Global;
@@ -80,7 +81,7 @@ enum UnitStage {
     /// The version is complete, and isn't read.
     Foreign(UnitBytes),
     /// The header is complete.
-    AfterHeader(Header, BodyState),
+    AfterHeader(Header, HeaderLengths, BodyState),
 }
 
 /// A reader of one unit.
@@ -96,7 +97,7 @@ impl Reader {
     ghost use Rattle.dl_rows.specs.Progress.{taken_of};
     ghost use Rattle.dl_rows.specs.Reading.{IsPause};
     ghost use Rattle.dl_rows.specs.ReaderStands.{StandsFor};
-    ghost use Rattle.dl_rows.specs.ReaderAnswers.{HeaderIs, ReaderFed, RowsFed};
+    ghost use Rattle.dl_rows.specs.ReaderAnswers.{HeaderIs, LengthsAre, ReaderFed, RowsFed};
     ghost use Rattle.dl_rows.specs.declared.row.Row.{Row};
 
     /// No byte yet of a unit whose numbers stand in this order; units of other versions than 5 aren't read. It takes no
@@ -152,7 +153,7 @@ impl Reader {
             UnitStage::InHeader(_) => self.feed_head(piece),
             UnitStage::StoppedInHeader(stop) => Err(stop.fault),
             UnitStage::Foreign(bytes) => Ok(bytes.pass_over(piece)),
-            UnitStage::AfterHeader(header, body) => {
+            UnitStage::AfterHeader(header, _, body) => {
                 body.feed(self.dialect, header.params(), piece, sink)
             }
         }
@@ -162,7 +163,7 @@ impl Reader {
     pub fn header(&self) -> Option<&Header>
         ensures { HeaderIs self.now (option_copied result) }
     {
-        let UnitStage::AfterHeader(header, _) = &self.state else {
+        let UnitStage::AfterHeader(header, _, _) = &self.state else {
             return None;
         };
         Some(header)
@@ -178,9 +179,19 @@ impl Reader {
             state,
         } = self;
         match state {
-            UnitStage::AfterHeader(header, _) => Some(header),
+            UnitStage::AfterHeader(header, _, _) => Some(header),
             UnitStage::InHeader(_) | UnitStage::StoppedInHeader(_) | UnitStage::Foreign(_) => None,
         }
+    }
+
+    /// How long the unit and its header are, from the Header event on. Section 6.2.4.
+    pub fn lengths(&self) -> Option<HeaderLengths>
+        ensures { LengthsAre self.now result }
+    {
+        let UnitStage::AfterHeader(_, lengths, _) = &self.state else {
+            return None;
+        };
+        Some(*lengths)
     }
 
     /// How many bytes were taken, none of them after the unit.
@@ -194,7 +205,7 @@ impl Reader {
             UnitStage::InHeader(head) => head.taken(),
             UnitStage::StoppedInHeader(stop) => stop.taken,
             UnitStage::Foreign(bytes) => bytes.taken,
-            UnitStage::AfterHeader(_, body) => body.taken(),
+            UnitStage::AfterHeader(_, _, body) => body.taken(),
         }
     }
 
@@ -207,7 +218,7 @@ impl Reader {
             UnitStage::InHeader(head) => head.unit_len(),
             UnitStage::StoppedInHeader(stop) => stop.unit_len,
             UnitStage::Foreign(bytes) => Some(bytes.unit_len()),
-            UnitStage::AfterHeader(_, body) => Some(body.unit_len()),
+            UnitStage::AfterHeader(_, _, body) => Some(body.unit_len()),
         }
     }
 
@@ -220,7 +231,7 @@ impl Reader {
             UnitStage::InHeader(head) => head.cells(),
             UnitStage::StoppedInHeader(stop) => stop.cells,
             UnitStage::Foreign(_) => 0,
-            UnitStage::AfterHeader(header, _) => header.cells(),
+            UnitStage::AfterHeader(header, _, _) => header.cells(),
         }
     }
 
@@ -230,7 +241,7 @@ impl Reader {
     {
         match &self.state {
             UnitStage::InHeader(_) | UnitStage::StoppedInHeader(_) | UnitStage::Foreign(_) => false,
-            UnitStage::AfterHeader(_, body) => body.in_sequence(),
+            UnitStage::AfterHeader(_, _, body) => body.in_sequence(),
         }
     }
 
@@ -242,7 +253,7 @@ impl Reader {
             UnitStage::InHeader(head) => finish_in_header(head),
             UnitStage::StoppedInHeader(stop) => Err(stop.fault),
             UnitStage::Foreign(bytes) => bytes.finish(),
-            UnitStage::AfterHeader(_, body) => body.finish(),
+            UnitStage::AfterHeader(_, _, body) => body.finish(),
         }
     }
 
@@ -304,6 +315,18 @@ fn bytes_of(head: &HeadReader) -> UnitBytes
     }
 }
 
+/// How long the header that this reader has read, and its unit, are.
+fn lengths_of(head: &HeadReader) -> HeaderLengths
+    requires { ∥ HasHeader head.now ∥₁ }
+    ensures { (b : List ℕ) (h : HeaderData) → HeadStands head.now b → IsHeader head.now.dialect h b
+        → result ≡ lengths_in head.now.dialect b h }
+{
+    let Some(lengths) = head.lengths() else {
+        unreachable!()
+    };
+    lengths
+}
+
 /// The state after the header that this reader has read.
 fn after_header(head: HeadReader) -> UnitStage
     requires { ∥ HasHeader head ∥₁ }
@@ -311,11 +334,13 @@ fn after_header(head: HeadReader) -> UnitStage
     ensures begun { ∥ IsBegun result ∥₁ }
 {
     let bytes = bytes_of(&head);
+    let lengths = lengths_of(&head);
     let Some(header) = head.into_header() else {
         unreachable!()
     };
     let program = Program::new(header.params().default_is_stmt != 0);
-    UnitStage::AfterHeader(header, BodyState::InProgram(UnitBody { program, bytes }))
+    let body = BodyState::InProgram(UnitBody { program, bytes });
+    UnitStage::AfterHeader(header, lengths, body)
 }
 
 /// How a unit stands whose header isn't complete, where no more bytes come.

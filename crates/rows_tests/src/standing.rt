@@ -1,6 +1,6 @@
 //! How a reader stands after pieces of a unit.
 
-use dl_head::{Fault, FaultKind};
+use dl_head::{Fault, FaultKind, HeaderLengths};
 use dl_num::Order;
 use dl_rows::{Event, Finish, Reader, Row};
 use std::alloc::Global;
@@ -18,6 +18,13 @@ const TWO_ROWS: &[u8] = &[
     0x22, 0x00, 0x00, 0x00, 0x05, 0x00, 0x08, 0x00, 0x16, 0x00, 0x00, 0x00, 0x01, 0x01, 0x01, 0xfb,
     0x0e, 0x0d, 0x00, 0x01, 0x01, 0x01, 0x01, 0x00, 0x00, 0x00, 0x01, 0x00, 0x00, 0x01, 0x00, 0x00,
     0x00, 0x00, 0x01, 0x00, 0x01, 0x01, 0x05,
+];
+
+/// A unit without rows, whose header has three bytes after the last entry of its tables.
+const PADDED: &[u8] = &[
+    0x21, 0x00, 0x00, 0x00, 0x05, 0x00, 0x08, 0x00, 0x19, 0x00, 0x00, 0x00, 0x01, 0x01, 0x01, 0xfb,
+    0x0e, 0x0d, 0x00, 0x01, 0x01, 0x01, 0x01, 0x00, 0x00, 0x00, 0x01, 0x00, 0x00, 0x01, 0x00, 0x00,
+    0x00, 0x00, 0xff, 0x00, 0x80,
 ];
 
 /// A unit of version 4, and a byte.
@@ -93,6 +100,13 @@ const AFTER_HEADER: Standing = Standing {
 const WHOLE: Standing = Standing {
     finish: Ok(Finish::Whole),
     ..AFTER_HEADER
+};
+
+/// The same after three bytes of padding.
+const WHOLE_PADDED: Standing = Standing {
+    answer: Ok((37, Event::Header)),
+    taken: 37,
+    ..WHOLE
 };
 
 const ENDED: Standing = Standing {
@@ -179,15 +193,31 @@ const REFUSED: Standing = Standing {
     ..AFTER_HEADER
 };
 
+/// How long a unit without rows and its header without directories and files are.
+const LENGTHS: HeaderLengths = HeaderLengths {
+    unit_length: 30,
+    header_length: 22,
+    padding: 0,
+};
+
 /// The bytes of a unit and any after it; the places from which they are given one after the other, with how the reader
-/// stands then; and whether it gives a header in the end.
-type Case<'a> = (&'a [u8], &'a [(usize, Standing)], bool);
+/// stands then; and how long the unit and its header are, where it gives a header in the end.
+type Case<'a> = (&'a [u8], &'a [(usize, Standing)], Option<HeaderLengths>);
 
 const CASES: &[Case<'static>] = &[
     (
         EMPTY_PROGRAM,
         &[(34, NEW), (0, WHOLE), (34, ENDED), (34, ENDED)],
-        true,
+        Some(LENGTHS),
+    ),
+    (
+        PADDED,
+        &[(0, WHOLE_PADDED)],
+        Some(HeaderLengths {
+            unit_length: 33,
+            header_length: 25,
+            padding: 3,
+        }),
     ),
     (
         TWO_ROWS,
@@ -198,7 +228,10 @@ const CASES: &[Case<'static>] = &[
             (38, AFTER_ROWS),
             (38, AFTER_ROWS),
         ],
-        true,
+        Some(HeaderLengths {
+            unit_length: 34,
+            ..LENGTHS
+        }),
     ),
     (
         FOREIGN,
@@ -208,7 +241,7 @@ const CASES: &[Case<'static>] = &[
             (10, AFTER_FOREIGN),
             (10, AFTER_FOREIGN),
         ],
-        false,
+        None,
     ),
     (
         DAMAGED,
@@ -218,7 +251,10 @@ const CASES: &[Case<'static>] = &[
             (35, REFUSED),
             (36, REFUSED),
         ],
-        true,
+        Some(HeaderLengths {
+            unit_length: 32,
+            ..LENGTHS
+        }),
     ),
 ];
 
@@ -236,10 +272,11 @@ fn assert_standings(
 }
 
 fn assert_case(rt: &impl Abort, alloc: Global, case: &Case<'_>) {
-    let (bytes, standings, has_header) = *case;
+    let (bytes, standings, lengths) = *case;
     let mut reader = Reader::new(alloc, Order::Little);
     assert_standings(rt, &mut reader, bytes, standings);
-    assert!(rt; reader.into_header().is_some() == has_header);
+    assert!(rt; reader.lengths() == lengths);
+    assert!(rt; reader.into_header().is_some() == lengths.is_some());
 }
 
 fn assert_cases(rt: &impl Abort, alloc: Global, cases: &[Case<'_>]) {

@@ -11,6 +11,7 @@ returns c = record {
       ∙ header_parts c.replace-params.ensures.value c.replace-directories.ensures.value c.replace-files.ensures.value);
   dialect = refl;
   taken = refl;
+  start = refl;
   unit = record {
     end = refl;
     unit_length = refl;

@@ -10,4 +10,4 @@ pub returns-in-AfterHeader : goal.returns-in-AfterHeader
 returns-in-AfterHeader c b s =
     c.cells-in-AfterHeader.ensures
     ∙ ap (λ (n : ℕ). min n (2 ^ 64 - 1)) (sym (cells_here c.args.self.now.dialect c.in-AfterHeader.header
-    c.in-AfterHeader.field-1 b (rw c.in-AfterHeader.is at s)))
+    c.in-AfterHeader.field-2 b (rw c.in-AfterHeader.is at s).in_body))

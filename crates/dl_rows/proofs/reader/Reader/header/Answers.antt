@@ -3,4 +3,4 @@ use Rattle.dl_rows.proofs.reader.Reader.header.Goals as goal
 
 pub returns : goal.returns
 returns c b s =
-    header_here c.args.self.now.dialect c.in-AfterHeader.header c.in-AfterHeader.field-1 b (rw c.in-AfterHeader.is at s)
+    header_here c.args.self.now.dialect c.in-AfterHeader.header c.in-AfterHeader.field-2 b (rw c.in-AfterHeader.is at s).in_body
