@@ -2,10 +2,8 @@
 ghost use Rattle.std.specs.Prelude.{◌≡◌, ◌+◌, ◌<◌, ◌↔◌, IsTrue};
 ghost use Rattle.std.specs.IoError.{error_kind};
 
+use dl_output::INTERRUPTIONS;
 use std::io::{Error, ErrorKind};
-
-/// How often a read that was interrupted is repeated; the next interruption is a failure.
-const REPEATS: u32 = 1000;
 
 /// The interruptions of a read that were borne, one after the other. Each is an error that was given up for it.
 #[derive(Drop)]
@@ -25,7 +23,7 @@ impl Borne {
     pub fn bears(&self, error: &Error) -> bool
         ensures { IsTrue result ↔ (error_kind error.now ≡ ErrorKind.Interrupted) × (self.now.count < 1000) }
     {
-        error.kind() == ErrorKind::Interrupted && self.count < REPEATS
+        error.kind() == ErrorKind::Interrupted && self.count < INTERRUPTIONS
     }
 
     /// One interruption more.

@@ -5,10 +5,8 @@ ghost use Rattle.dl_input.specs.Ending.{Ends};
 ghost use Rattle.dl_input.specs.Failing.{Blames};
 
 use crate::source::Source;
+use dl_output::INTERRUPTIONS;
 use std::io::ErrorKind;
-
-/// How many interruptions of a read in a row are borne; the next one is a failure.
-pub const INTERRUPTIONS: u32 = 1000;
 
 /// How many bytes one read gives at most.
 const READ: usize = 4096;

@@ -5,5 +5,6 @@
 mod input;
 mod source;
 
-pub use input::{INTERRUPTIONS, Input, ReadFailed};
+pub use dl_output::INTERRUPTIONS;
+pub use input::{Input, ReadFailed};
 pub use source::Source;

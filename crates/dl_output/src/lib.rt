@@ -5,3 +5,6 @@
 mod destination;
 
 pub use destination::Destination;
+
+/// How many interruptions in a row of a write, or of a read, are borne; the next one is a failure.
+pub const INTERRUPTIONS: u32 = 1000;

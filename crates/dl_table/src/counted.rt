@@ -6,7 +6,7 @@ ghost use Rattle.dl_num.specs.Fixed.{fixed_bytes as fixed_bytes_of};
 ghost use Rattle.dl_table.specs.Writing.{Writes};
 
 use dl_num::{Order, fixed_bytes};
-use dl_output::Destination;
+use dl_output::{Destination, INTERRUPTIONS};
 use std::io::ErrorKind;
 use thiserror::Error;
 
@@ -20,9 +20,6 @@ pub enum HeadWrite {
     #[error("cannot write the header")]
     Write { out: u64 },
 }
-
-/// How many interruptions in a row a write is repeated after.
-const INTERRUPTIONS: u32 = 1000;
 
 /// One write, which is repeated where it was interrupted. None is a failed write.
 fn write_some<W: Destination>(output: &mut W, bytes: &[u8]) -> Option<usize>
