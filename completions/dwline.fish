@@ -20,6 +20,7 @@ complete -c dwline -n "__fish_seen_subcommand_from addr" -l stop -d "Stop at the
 complete -c dwline -n "__fish_seen_subcommand_from addr index find" -s j -l section -x -d "Section of an object file to look into"
 complete -c dwline -n "__fish_seen_subcommand_from addr" -s e -l exe -r -F -d "The file to read, in place of the first word"
 complete -c dwline -n "__fish_seen_subcommand_from index dump check" -l keep-going -d "After a damaged unit go on with the next one"
+complete -c dwline -n "__fish_seen_subcommand_from dump" -l header -d "Print the fields of each header too"
 complete -c dwline -n "__fish_seen_subcommand_from addr dump check find copy" -l older -x -a "1 2 4 8" -d "Size of an address in units of versions 2 to 4 on standard input"
 complete -c dwline -n "__fish_seen_subcommand_from addr index dump check find copy" -l address-size -x -a "1 2 4 8" -d "Size of an address in units of versions 2 to 4 of FILE"
 complete -c dwline -n "__fish_seen_subcommand_from addr index dump check find" -l version-5 -d "Read units of version 5 alone of FILE"

@@ -41,7 +41,7 @@ def over_file(name, count, words, files, status=0, **bounds):
 def sections():
     """Each command over a section on the input."""
     for words, status in [
-        (["dump"], 0), (["check"], 0), (["find", NONE], 1), (["copy"], 0), (["addr", "-", FIRST, NONE], 1),
+        (["dump"], 0), (["dump", "--header"], 0), (["check"], 0), (["find", NONE], 1), (["copy"], 0), (["addr", "-", FIRST, NONE], 1),
     ]:
         yield over_input("a section", 1500, words, units, status)
     yield over_input("a section of version 4", 1500, ["copy", "--to-5", "--older", "8"], older_units)

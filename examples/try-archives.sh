@@ -30,12 +30,13 @@ says() {
     fi
 }
 
-# of_members COMMAND ARCHIVE MEMBER..: what the command prints of the members, which are files by their names too.
+# of_members COMMAND ARCHIVE MEMBER..: what the command, of one word or several, prints of the members, which are files by their names too.
 of_members() {
-    local member
+    local member words
+    read -ra words <<< "$1"
     for member in "${@:3}"; do
         echo "$2($member):"
-        "$dwline" "$1" "$member"
+        "$dwline" "${words[@]}" "$member"
     done
 }
 
@@ -78,6 +79,9 @@ for command in dump check; do
     : > wanted
     says 1 $'dwline: cut.a: damaged archive\n' /dev/null $command cut.a
 done
+
+of_members "dump --header" lib.a gcc.o $long > wanted
+says 0 "" /dev/null dump --header lib.a
 
 nl=$'\n'
 # alike MEMBER ARCHIVE INPUT WORD..: what `dwline WORD..` answers of a member, `@` among the words being its path, is what it answers

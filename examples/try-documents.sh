@@ -31,7 +31,7 @@ commands=$("$dwline" --help | sed -n '/^Commands:/,/^$/s/^  \([a-z]*\) .*/\1/p')
 help=$("$dwline" --help; for command in addr index dump check find copy; do "$dwline" "$command" --help; done)
 options=$(grep -oE -e '^ *(-[A-Za-z0-9], )?--[a-z0-9-]+' <<< "$help" | grep -oE -e '-[-A-Za-z0-9]+' | sort -u)
 values=$(grep -oE -e '[<[][A-Z]+[]>]' <<< "$help" | tr -d '[]<>' | sort -u)
-[ "$(echo "$options" | wc -w)" = 38 ]
+[ "$(echo "$options" | wc -w)" = 39 ]
 [ "$(echo "$values" | wc -w)" = 9 ]
 for word in $commands $options; do
     has docs/dwline.1 "$word"

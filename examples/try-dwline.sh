@@ -488,6 +488,21 @@ for folder in gcc-O2 gcc-dwarf64 gcc-s390x; do
     wants 0 "$(< $folder/expected.dump)"$'\n' "" / dump --keep-going $folder/program
     wants 0 "$("$dwline" check $folder/program) damaged 0"$'\n' "" / check --keep-going $folder/program
 done
+# The fields of each header behind the line of its unit; without them the text is the same. Versions 2 and 3 say no maximum of operations, and versions 2 to
+# 4 no formats. compare-headers.py compares each field of every program with other tools.
+is_field='^(unit_length|header_length|minimum_instruction_length|maximum_operations_per_instruction|default_is_stmt|line_base|line_range|opcode_base|lengths|directory_format|file_format) ?'
+for folder in gcc-O2 gcc-dwarf4-64 gcc-mixed gcc-s390x clang-O2 clang-dwarf2 object-gcc operations; do
+    "$dwline" dump --header $folder/program > "$work/fields"
+    grep -Ev "$is_field" "$work/fields" > "$work/without" || true
+    checks_same "$work/without" $folder/expected.dump
+done
+{
+    head -n 1 clang-dwarf2/expected.dump
+    printf '%s\n' "unit_length 458" "header_length 50" "minimum_instruction_length 1" "default_is_stmt 1" "line_base -5" "line_range 14" \
+        "opcode_base 13" "lengths 0 1 1 1 1 0 0 0 1 0 0 1" 'dir 1 path="include"'
+} > "$work/wanted"
+"$dwline" dump --header clang-dwarf2/program | sed 10q > "$work/fields"
+checks_same "$work/fields" "$work/wanted"
 # addr goes on without being asked: the whole units answer, with the offsets that they have. With --stop those before the
 # first damaged one do.
 second=$("$dwline" addr $program 0x4010b0)$'\n'
@@ -616,7 +631,7 @@ conflict="unrecognized subcommand"
 refuses walk
 conflict="unexpected argument"
 for command in "copy --str a" "check --str a" "dump --version" "find 1 --op -1" "find 1 --keep-going" "copy --keep-going" \
-    "addr --keep-going -"; do
+    "addr --keep-going -" "check --header" "find 1 --header" "copy --header" "addr --header -" "index --header -o a b"; do
     refuses $command
 done
 conflict="invalid value"
@@ -626,6 +641,7 @@ refuses addr -e
 conflict="cannot be used multiple times"
 refuses addr -e a -e b
 refuses check --keep-going --keep-going
+refuses dump --header --header
 refuses addr --stop --stop -
 conflict="requires a subcommand"
 refuses

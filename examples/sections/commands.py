@@ -1,10 +1,10 @@
 """Worked sections of several units, and places that are looked up."""
 from sections.cases import UNIT, TRUNCATED, Run, counts_of, damage, error, row, text
-from sections.headers import DWARF64_DUMP
+from sections.headers import DWARF64_DUMP, EACH_FORM_DUMP
 from sections.programs import THREE_DUMP
 from sections.units import (
-    BIG_OPERATIONS, DWARF64_WITH_MD5, FOREIGN, PADDED, PADDED_COPIED, SMALLEST, THREE_ROWS, THREE_ROWS_AND_A_BYTE,
-    WITH_FILE)
+    BIG_DWARF64_WITH_MD5, BIG_OPERATIONS, DWARF64_WITH_MD5, EACH_FORM, EMPTY_PROGRAM, FOREIGN, OPCODE_BASE_10, PADDED,
+    PADDED_COPIED, PADDING_OF_THREE_BYTES, SMALLEST, THREE_ROWS, THREE_ROWS_AND_A_BYTE, WITH_FILE)
 
 NOT_FOUND = error("no line for this address")
 
@@ -56,6 +56,43 @@ OTHERS = [
     ("2^32 + 1 bytes", with_length(2 ** 32 + 1), (), DWARF64_DUMP, damage(78, TRUNCATED)),
     ("1 byte, 64-bit", bytes.fromhex("ff ff ff ff 01 00 00 00 00 00 00 00"), (), "", damage(12, TRUNCATED)),
     ("the last length", bytes.fromhex("ef ff ff ff"), (), "", damage(4, TRUNCATED)),
+]
+
+
+TWELVE_LENGTHS = "0 1 1 1 1 0 0 0 1 0 0 1"
+
+
+def fields(unit_length, header_length, directories="", files="", opcode_base=13, lengths=TWELVE_LENGTHS, padding=""):
+    """The lines of the fields of a header."""
+    return (f"unit_length {unit_length}\nheader_length {header_length}\nminimum_instruction_length 1\n"
+            "maximum_operations_per_instruction 1\ndefault_is_stmt 1\nline_base -5\nline_range 14\n"
+            f"opcode_base {opcode_base}\nlengths {lengths}\ndirectory_format{directories}\nfile_format{files}\n{padding}")
+
+
+def with_fields(dump, lines):
+    """A dump with these lines behind that of its unit."""
+    unit, end, rest = dump.partition("\n")
+    return unit + end + lines + rest
+
+
+OF_MD5 = fields(66, 54, " path=string", " path=string dir=udata md5=data16")
+OF_EACH_FORM = fields(
+    156, 148, " path=block2 dir=block4 time=data2 size=data4 md5=data8 0x6=string 0x7=block 0x8=block1 0x9=data1 0xa=strp"
+    " 0xb=udata 0xc=strp_sup 0xd=data16 0xe=line_strp", " path=udata dir=block")
+
+# A section, and what `dump --header` prints of it. Section 6.2.4.
+HEADERS = [
+    ("no program", EMPTY_PROGRAM, (), UNIT + fields(30, 22), b""),
+    ("padding of three bytes", PADDING_OF_THREE_BYTES, (), UNIT + fields(33, 25, padding="padding 3\n"), b""),
+    ("the 64-bit format", DWARF64_WITH_MD5, (), with_fields(DWARF64_DUMP, OF_MD5), b""),
+    ("the 64-bit format, big-endian", BIG_DWARF64_WITH_MD5, ("--big",), with_fields(DWARF64_DUMP, OF_MD5), b""),
+    ("each form", EACH_FORM, (), with_fields(EACH_FORM_DUMP, OF_EACH_FORM), b""),
+    ("nine lengths", OPCODE_BASE_10[:-3], (), UNIT + fields(30, 19, opcode_base=10, lengths="0 1 1 1 1 0 0 0 1"),
+     damage(31, TRUNCATED)),
+    ("two units", EMPTY_PROGRAM * 2, (), UNIT + fields(30, 22) + at(34, UNIT) + fields(30, 22), b""),
+    ("a unit of version 4", FOREIGN + EMPTY_PROGRAM, (),
+     "unit 0x0 version 4 skipped\n" + at(10, UNIT) + fields(30, 22), b""),
+    ("a header that is cut off", EMPTY_PROGRAM[:33], (), "", damage(33, TRUNCATED)),
 ]
 
 
@@ -111,6 +148,14 @@ def runs_of_sections():
         yield Run(name, ("dump", *order), section, 1 if fault else 0, text(dump), (fault,))
 
 
+def runs_of_headers():
+    """The fields are printed where they are asked for alone, also around damaged units."""
+    for name, section, order, dump, fault in HEADERS:
+        for going_on in ((), ("--keep-going",)):
+            words = ("dump", "--header", *going_on, *order)
+            yield Run(f"{name}: {' '.join(words)}", words, section, 1 if fault else 0, text(dump), (fault,))
+
+
 def runs_of_places():
     for name, section, address, lines in PLACES:
         yield run_of_place(name, section, ("find", address), lines)
@@ -136,5 +181,6 @@ def runs_of_fronts():
 
 def runs():
     yield from runs_of_sections()
+    yield from runs_of_headers()
     yield from runs_of_fronts()
     yield from runs_of_places()

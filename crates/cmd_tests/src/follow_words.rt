@@ -173,6 +173,10 @@ const MOVED: &[(&[&str], &[&str])] = &[
         &["dwline", "dump", "--keep-going", "--version-5", "b"],
     ),
     (
+        &["dwline", "dump", "--header", "a"],
+        &["dwline", "dump", "--header", "b"],
+    ),
+    (
         &["dwline", "check", "--address-size", "4", "a"],
         &["dwline", "check", "--address-size", "4", "b"],
     ),

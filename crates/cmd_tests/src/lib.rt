@@ -6,6 +6,8 @@ mod addr_words;
 #[cfg(test)]
 mod addresses;
 #[cfg(test)]
+mod dump_words;
+#[cfg(test)]
 mod files_words;
 #[cfg(test)]
 mod follow_words;

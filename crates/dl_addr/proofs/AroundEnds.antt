@@ -15,7 +15,7 @@ use Rattle.dl_sections.specs.Around.{Block, whole, damaged, block_bytes, bytes_o
 use Rattle.dl_sections.specs.Around.{Rest, begun, cut_off, broken, rest_visits, visits_around}
 use Rattle.dl_sections.specs.Copying.{offset_after}
 use Rattle.dl_sections.specs.RowsTold.{rows_after}
-use Rattle.dl_sections.specs.Section.{Visit, of_damage, of_end, header_of, visits}
+use Rattle.dl_sections.specs.Section.{header_read, Visit, of_damage, of_end, header_of, visits}
 use Rattle.dl_sections.proofs.Fronts.{fronts_of, or_none}
 use Rattle.dl_sections.proofs.VisitLemmas.{rows_after-append}
 use Rattle.dl_addr.specs.AroundCommands.{located_along, located_around, located_in_block}
@@ -41,7 +41,7 @@ module _ (dialect : Dialect) where
   init_last offset (damaged front back at kind) = refl
 
   none_visits : (offset : ℕ) (b : List ℕ) → list_any is_end (visits dialect offset b) ≡ false
-  none_visits offset b = none_in offset (header_of dialect b) (events dialect b)
+  none_visits offset b = none_in offset (header_read dialect b) (events dialect b)
 
   none_init : (offset : ℕ) (block : Block) → list_any is_end (init_of offset block) ≡ false
   none_init offset (whole u) = none_own dialect offset u

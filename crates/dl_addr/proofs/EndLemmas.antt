@@ -9,7 +9,7 @@ use Rattle.dl_field.specs.HeaderData.{HeaderData}
 use Rattle.dl_rows.specs.declared.reader.Event.{Event}
 use Rattle.dl_rows.specs.declared.reader.Event.TheVariants as event
 use Rattle.dl_rows.specs.LineUnit.{ends_open, events, unit_rows}
-use Rattle.dl_sections.specs.Section.{Visit, of_header, of_version, of_row, of_open, of_end, of_damage, header_of}
+use Rattle.dl_sections.specs.Section.{header_read, HeaderRead, Visit, of_header, of_version, of_row, of_open, of_end, of_damage, header_of}
 use Rattle.dl_sections.specs.Section.{header_visit, event_visits, visits, open_visit, unit_visits, units_visits}
 use Rattle.dl_sections.specs.Section.{section_visits}
 use Rattle.dl_sections.specs.Copying.{offset_after}
@@ -34,18 +34,18 @@ any_mid (v ∷ a) h b = or_true (is_end v) (list_any is_end (a ++ of_end h ∷ b
 pub none_both : (a b : List Visit) → list_any is_end a ≡ false → list_any is_end b ≡ false
     → list_any is_end (a ++ b) ≡ false
 none_both [] b e e' = e'
-none_both (of_header n h ∷ a) b e e' = none_both a b e e'
+none_both (of_header n l h ∷ a) b e e' = none_both a b e e'
 none_both (of_version n v ∷ a) b e e' = none_both a b e e'
 none_both (of_row r ∷ a) b e e' = none_both a b e e'
 none_both (of_open ∷ a) b e e' = none_both a b e e'
 none_both (of_end h ∷ a) b e e' = absurd (true≢false e)
 none_both (of_damage n k ∷ a) b e e' = none_both a b e e'
 
-none_header : (offset : ℕ) (h : Option HeaderData) → list_any is_end (header_visit offset h) ≡ false
+none_header : (offset : ℕ) (h : Option HeaderRead) → list_any is_end (header_visit offset h) ≡ false
 none_header offset None = refl
 none_header offset (Some h) = refl
 
-pub none_in : (offset : ℕ) (h : Option HeaderData) (es : List Event)
+pub none_in : (offset : ℕ) (h : Option HeaderRead) (es : List Event)
     → list_any is_end (flat_map (event_visits offset h) es) ≡ false
 none_in offset h [] = refl
 none_in offset h (event.More ∷ es) = none_in offset h es
@@ -68,7 +68,7 @@ module _ (dialect : Dialect) where
   pub none_own : (offset : ℕ) (u : List ℕ) → list_any is_end (own offset u) ≡ false
   none_own offset u =
       none_both (visits dialect offset u) (open_visit (ends_open (unit_rows dialect u)))
-      (none_in offset (header_of dialect u) (events dialect u)) (none_open (ends_open (unit_rows dialect u)))
+      (none_in offset (header_read dialect u) (events dialect u)) (none_open (ends_open (unit_rows dialect u)))
 
   pub own_end : (offset : ℕ) (u : List ℕ)
       → own offset u ++ of_end (header_of dialect u) ∷ [] ≡ unit_visits dialect offset u
@@ -93,7 +93,7 @@ module _ (dialect : Dialect) where
   pub none_located : (live : ℕ → Bool) (x : Place) (rows : List Row) (n : ℕ) (vs : List Visit)
       → list_any is_end vs ≡ false → located_after live x rows n vs ≡ None
   none_located live x rows n [] e = refl
-  none_located live x rows n (of_header m h ∷ vs) e = none_located live x rows m vs e
+  none_located live x rows n (of_header m l h ∷ vs) e = none_located live x rows m vs e
   none_located live x rows n (of_version m v ∷ vs) e = none_located live x rows n vs e
   none_located live x rows n (of_row r ∷ vs) e = none_located live x (rows ++ r ∷ []) n vs e
   none_located live x rows n (of_open ∷ vs) e = none_located live x rows n vs e
@@ -205,4 +205,4 @@ module _ (dialect : Dialect) where
       (more : List Visit) → section_visits dialect units b ≡ before ++ of_end h ∷ more → SplitsAt 0 n units before h
   splits_section n units b before h more e =
       splits 0 n units (visits dialect (length (concat units)) b) before h more
-      (none_in (length (concat units)) (header_of dialect b) (events dialect b)) e
+      (none_in (length (concat units)) (header_read dialect b) (events dialect b)) e

@@ -6,7 +6,8 @@ use Rattle.std.specs.List.{concat}
 use Rattle.std.specs.Option.{option_or}
 use Rattle.dl_head.specs.declared.dialect.Dialect.{Dialect}
 use Rattle.dl_field.specs.HeaderData.{HeaderData}
-use Rattle.dl_head.specs.Header.{foreign_in, header_in}
+use Rattle.dl_head.specs.declared.header.HeaderLengths.{HeaderLengths}
+use Rattle.dl_head.specs.Header.{foreign_in, header_in, lengths_in}
 use Rattle.dl_rows.specs.declared.row.Row.{Row}
 use Rattle.dl_rows.specs.declared.reader.Event.{Event}
 use Rattle.dl_rows.specs.declared.reader.Event.TheVariants as event
@@ -19,7 +20,7 @@ use Rattle.dl_look.specs.Units.{answer_of_units}
 use Rattle.dl_look.proofs.LiveLemmas.{of_live_rows}
 use Rattle.dl_sections.specs.Copying.{offset_after}
 use Rattle.dl_sections.specs.RowsTold.{rows_after}
-use Rattle.dl_sections.specs.Section.{Visit, of_header, of_version, of_row, of_open, of_end, of_damage, header_of}
+use Rattle.dl_sections.specs.Section.{header_read, HeaderRead, read_by, Visit, of_header, of_version, of_row, of_open, of_end, of_damage, header_of}
 use Rattle.dl_sections.specs.Section.{header_visit, event_visits, visits, open_visit, end_visits, unit_visits, units_visits}
 use Rattle.dl_sections.specs.Section.{section_visits}
 use Rattle.dl_sections.proofs.EventLemmas.{rows_visited}
@@ -31,7 +32,7 @@ use Rattle.dl_addr.specs.Locating.{ended_rows, located_after, located_under}
 
 pub offset_after-append : (n : ℕ) (a b : List Visit) → offset_after n (a ++ b) ≡ offset_after (offset_after n a) b
 offset_after-append n [] b = refl
-offset_after-append n (of_header m h ∷ a) b = offset_after-append m a b
+offset_after-append n (of_header m l h ∷ a) b = offset_after-append m a b
 offset_after-append n (of_version m v ∷ a) b = offset_after-append n a b
 offset_after-append n (of_row r ∷ a) b = offset_after-append n a b
 offset_after-append n (of_open ∷ a) b = offset_after-append n a b
@@ -42,7 +43,7 @@ module _ (live : ℕ → Bool) where
   pub ended_rows-append : (rows : List Row) (a b : List Visit)
       → ended_rows live rows (a ++ b) ≡ ended_rows live rows a ++ ended_rows live (rows_after rows a) b
   ended_rows-append rows [] b = refl
-  ended_rows-append rows (of_header m h ∷ a) b = ended_rows-append rows a b
+  ended_rows-append rows (of_header m l h ∷ a) b = ended_rows-append rows a b
   ended_rows-append rows (of_version m v ∷ a) b = ended_rows-append rows a b
   ended_rows-append rows (of_row r ∷ a) b = ended_rows-append (rows ++ r ∷ []) a b
   ended_rows-append rows (of_open ∷ a) b = ended_rows-append rows a b
@@ -62,7 +63,7 @@ module _ (live : ℕ → Bool) where
         → located_after live x rows n (a ++ b)
         ≡ option_or (located_after live x rows n a) (located_after live x (rows_after rows a) (offset_after n a) b)
     located_after-append rows n [] b = refl
-    located_after-append rows n (of_header m h ∷ a) b = located_after-append rows m a b
+    located_after-append rows n (of_header m l h ∷ a) b = located_after-append rows m a b
     located_after-append rows n (of_version m v ∷ a) b = located_after-append rows n a b
     located_after-append rows n (of_row r ∷ a) b = located_after-append (rows ++ r ∷ []) n a b
     located_after-append rows n (of_open ∷ a) b = located_after-append rows n a b
@@ -85,7 +86,7 @@ module _ (live : ℕ → Bool) where
         → answer_of_units (ended_rows live rows visits) x
         ≡ option_map (λ (l : Located). l.row) (located_after live x rows n visits)
     rows_located rows n [] = refl
-    rows_located rows n (of_header m h ∷ a) = rows_located rows m a
+    rows_located rows n (of_header m l h ∷ a) = rows_located rows m a
     rows_located rows n (of_version m v ∷ a) = rows_located rows n a
     rows_located rows n (of_row r ∷ a) = rows_located (rows ++ r ∷ []) n a
     rows_located rows n (of_open ∷ a) = rows_located rows n a
@@ -96,13 +97,13 @@ module _ (live : ℕ → Bool) where
 
     -- ---- the units of a section
 
-    none_of_header : (offset : ℕ) (h : Option HeaderData) (rows : List Row) (n : ℕ) (more : List Visit)
+    none_of_header : (offset : ℕ) (h : Option HeaderRead) (rows : List Row) (n : ℕ) (more : List Visit)
         → ((m : ℕ) → located_after live x rows m more ≡ None)
         → located_after live x rows n (header_visit offset h ++ more) ≡ None
     none_of_header offset None rows n more none = none n
     none_of_header offset (Some h) rows n more none = none offset
 
-    none_of_visits : (offset : ℕ) (h : Option HeaderData) (rows : List Row) (n : ℕ) (es : List Event)
+    none_of_visits : (offset : ℕ) (h : Option HeaderRead) (rows : List Row) (n : ℕ) (es : List Event)
         → located_after live x rows n (flat_map (event_visits offset h) es) ≡ None
     none_of_visits offset h rows n [] = refl
     none_of_visits offset h rows n (event.More ∷ es) = none_of_visits offset h rows n es
@@ -131,28 +132,28 @@ module _ (live : ℕ → Bool) where
         ap (λ (l : List Row). option_map {U = Located} (λ r. record { row = r; header = h; unit = n }) (answer l x))
         no_live_rows
 
-    of_unit : (dialect : Dialect) (n offset : ℕ) (is_open : Bool) (version : Option ℕ) (parts : Option (HeaderData
-        × List ℕ)) → ((v : ℕ) → version ≡ Some v → parts ≡ None)
-        → located_after live x [] n (flat_map (event_visits offset (option_map (λ p. p.0) parts))
+    of_unit : (dialect : Dialect) (n offset : ℕ) (is_open : Bool) (lengths : HeaderData → HeaderLengths)
+        (version : Option ℕ) (parts : Option (HeaderData × List ℕ)) → ((v : ℕ) → version ≡ Some v → parts ≡ None)
+        → located_after live x [] n (flat_map (event_visits offset (read_by lengths parts))
         (events_of dialect.order version parts) ++ (open_visit is_open ++ of_end (option_map (λ p. p.0) parts) ∷ []))
         ≡ located_under live x (rows_later dialect.order parts) offset (option_map (λ p. p.0) parts)
-    of_unit dialect n offset is_open (Some v) None only =
+    of_unit dialect n offset is_open lengths (Some v) None only =
         located_of_end [] n is_open None ∙ nothing_under n None ∙ sym (nothing_under offset None)
-    of_unit dialect n offset is_open (Some v) (Some (h, program)) only =
+    of_unit dialect n offset is_open lengths (Some v) (Some (h, program)) only =
         absurd (let e = only v refl in Rattle.dl_addr.proofs.TextLemmas.none_is_some (sym e))
-    of_unit dialect n offset is_open None None only =
+    of_unit dialect n offset is_open lengths None None only =
         located_of_end [] n is_open None ∙ nothing_under n None ∙ sym (nothing_under offset None)
-    of_unit dialect n offset is_open None (Some (h, program)) only =
+    of_unit dialect n offset is_open lengths None (Some (h, program)) only =
         let rows = rows_in dialect.order h.params program in
         let end = open_visit is_open ++ of_end (Some h) ∷ [] in
-        ap (λ (l : List Visit). located_after live x [] offset (l ++ end)) (rows_visited offset (Some h) rows)
+        ap (λ (l : List Visit). located_after live x [] offset (l ++ end)) (rows_visited offset (read_by lengths (Some (h, program))) rows)
         ∙ located_of_rows [] rows offset end
         ∙ located_of_end rows offset is_open (Some h)
 
     pub located_of_unit : (dialect : Dialect) (n offset : ℕ) (u : List ℕ)
         → located_after live x [] n (unit_visits dialect offset u) ≡ located_in dialect live offset u x
     located_of_unit dialect n offset u =
-        of_unit dialect n offset (ends_open (unit_rows dialect u)) (foreign_in dialect u) (header_in dialect u)
+        of_unit dialect n offset (ends_open (unit_rows dialect u)) (lengths_in dialect u) (foreign_in dialect u) (header_in dialect u)
         (λ v. foreign_no_header dialect u v)
         ∙ ap (option_map {U = Located} (λ r. record { row = r; header = header_of dialect u; unit = offset }))
         (of_live_rows live (unit_rows dialect u) x)
@@ -187,4 +188,4 @@ module _ (live : ℕ → Bool) where
         → located_after live x [] n (section_visits dialect units b) ≡ located dialect live units x
     located_of_section dialect n units b =
         located_of_units dialect n 0 units (visits dialect (length (concat units)) b)
-        (λ m. none_of_visits (length (concat units)) (header_of dialect b) [] m (events dialect b))
+        (λ m. none_of_visits (length (concat units)) (header_read dialect b) [] m (events dialect b))

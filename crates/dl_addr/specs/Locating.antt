@@ -44,7 +44,7 @@ located_under live x rows offset h =
 -- the answer of the first unit that ended and has one
 abbrev pub located_after : (live : ℕ → Bool) → Place → List Row → (offset : ℕ) → List Visit → Option Located
 located_after live x rows offset [] = None
-located_after live x rows offset (of_header n h ∷ visits) = located_after live x rows n visits
+located_after live x rows offset (of_header n l h ∷ visits) = located_after live x rows n visits
 located_after live x rows offset (of_row r ∷ visits) = located_after live x (rows ++ r ∷ []) offset visits
 located_after live x rows offset (of_end h ∷ visits) =
     option_or (located_under live x rows offset h) (located_after live x [] offset visits)

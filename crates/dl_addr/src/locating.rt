@@ -9,7 +9,7 @@ use crate::kept::{FilePath, KeptPath, Paths};
 use crate::style::Style;
 use crate::texts::{UnitFiles, keep_all};
 use dl_dirs::CompilationDirectories;
-use dl_head::Header;
+use dl_head::{Header, HeaderLengths};
 use dl_look::{CodeRanges, Finders, LiveRows, Place};
 use dl_memory::{Memory, NoMemory};
 use dl_output::Destination;
@@ -42,7 +42,13 @@ impl<W: Destination, M: Memory> Visitor<W> for Locator<'_, '_, '_, M> {
 
     ghost story = { locate_story M.refuses };
 
-    fn header(&mut self, _output: &mut W, offset: u64, _header: &Header) -> Result<(), RunFault> {
+    fn header(
+        &mut self,
+        _output: &mut W,
+        offset: u64,
+        _lengths: HeaderLengths,
+        _header: &Header,
+    ) -> Result<(), RunFault> {
         self.unit = offset;
         Ok(())
     }

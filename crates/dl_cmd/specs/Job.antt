@@ -65,7 +65,7 @@ pub record FilesTexts : Type 0 where
 -- a job, by the texts of its words
 pub data Request : Type 0 where
   dump : (file : Option Text) (big : Bool) (units : UnitTexts) (line_str strings : Option Text)
-      (keep_going : Bool) → Request
+      (keep_going header : Bool) → Request
   check : (file : Option Text) (big : Bool) (units : UnitTexts) (keep_going : Bool) → Request
   find : (file : Option Text) (big : Bool) (units : UnitTexts) (address : Option Text) (op : ℕ)
       (section line_str strings : Option Text) → Request
@@ -81,8 +81,8 @@ pub record WordTexts : Type 0 where
 
 -- the same job over the file at this path
 abbrev pub with_file : Request → (path : Text) → Request
-with_file (dump file big units line_str strings keep_going) path =
-    dump (Some path) big units line_str strings keep_going
+with_file (dump file big units line_str strings keep_going header) path =
+    dump (Some path) big units line_str strings keep_going header
 with_file (check file big units keep_going) path = check (Some path) big units keep_going
 with_file (find file big units address op section line_str strings) path =
     find (Some path) big units address op section line_str strings
@@ -130,9 +130,9 @@ index_words_made w = record {
 }
 
 abbrev pub request_made : Job → Request
-request_made (Dump file big units line_str strings keep_going) =
+request_made (Dump file big units line_str strings keep_going header) =
     dump (option_map (λ s. s.now) file) big (unit_words_made units) (option_map (λ s. s.now) line_str)
-    (option_map (λ s. s.now) strings) keep_going
+    (option_map (λ s. s.now) strings) keep_going header
 request_made (Check file big units keep_going) =
     check (option_map (λ s. s.now) file) big (unit_words_made units) keep_going
 request_made (Find file big units address op section line_str strings) =

@@ -40,8 +40,8 @@ IsRefused r = (follow : FollowTexts) (files : FilesTexts)
 -- FILE may not stand beside `--big` or `--older`
 abbrev pub FileExcludesInput : Type 0
 FileExcludesInput = (file : Text) (big : Bool) (units : UnitTexts) → says_of_input big units ≡ true
-    → ((line_str strings : Option Text) (keep_going : Bool)
-    → IsRefused (dump (Some file) big units line_str strings keep_going))
+    → ((line_str strings : Option Text) (keep_going header : Bool)
+    → IsRefused (dump (Some file) big units line_str strings keep_going header))
     × ((keep_going : Bool) → IsRefused (check (Some file) big units keep_going))
     × ((address : Option Text) (op : ℕ) (section line_str strings : Option Text)
     → IsRefused (find (Some file) big units address op section line_str strings))

@@ -50,7 +50,7 @@ has_files file files = is_some file || is_some files.files_from
 
 -- words of a job stand together that may not
 abbrev pub job_conflicts : Request → FollowTexts → FilesTexts → Bool
-job_conflicts (dump file big units line_str strings keep_going) follow files =
+job_conflicts (dump file big units line_str strings keep_going header) follow files =
     says_two_versions units || (is_some file && (says_of_input big units || says_strings line_str strings))
 job_conflicts (check file big units keep_going) follow files =
     says_two_versions units || (has_files file files && says_of_input big units)
@@ -66,7 +66,7 @@ has_conflict w = says_both_follow w.follow || job_conflicts w.request w.follow w
 
 -- a word of a job isn't there that has to be beside others: FILE, `--files-from`, `--to-5` or `--output`
 abbrev pub job_lacks : Request → FollowTexts → FilesTexts → Bool
-job_lacks (dump file big units line_str strings keep_going) follow files =
+job_lacks (dump file big units line_str strings keep_going header) follow files =
     not (is_some file) && (says_of_file units || says_follow follow)
 job_lacks (check file big units keep_going) follow files =
     (not (has_files file files) && (says_of_file units || says_follow follow))

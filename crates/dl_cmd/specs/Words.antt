@@ -79,9 +79,10 @@ request_of name rows =
     let line_str = text_of (codes "line-str") rows in
     let strings = text_of (codes "str") rows in
     let keep_going = flag_of (codes "keep-going") rows in
+    let header = flag_of (codes "header") rows in
     if bytes_eq name (codes "addr") then Some (addr (addr_words_of rows)) else
     if bytes_eq name (codes "index") then Some (index (index_words_of rows)) else
-    if bytes_eq name (codes "dump") then Some (dump file big units line_str strings keep_going) else
+    if bytes_eq name (codes "dump") then Some (dump file big units line_str strings keep_going header) else
     if bytes_eq name (codes "check") then Some (check file big units keep_going) else
     if bytes_eq name (codes "find")
     then Some (find file big units (text_of (codes "address") rows) (byte_of (codes "op") rows)

@@ -34,6 +34,8 @@ pub enum Job<'a> {
         strings: Option<&'a str>,
         /// After a unit that is damaged the next one is read.
         keep_going: bool,
+        /// The fields of headers are printed.
+        header: bool,
     },
     /// Count units, sequences and rows.
     Check {

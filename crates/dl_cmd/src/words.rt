@@ -155,6 +155,7 @@ fn job_of<'a>(
             line_str: text(matches, "line-str"),
             strings: text(matches, "str"),
             keep_going: flag(matches, "keep-going"),
+            header: flag(matches, "header"),
         },
         "check" => Job::Check {
             file: text(matches, "file"),

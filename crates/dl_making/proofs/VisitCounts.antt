@@ -23,7 +23,7 @@ use Rattle.dl_making.specs.Few.{AreFew, cells_told}
 
 cells_told-append : (a b : List Visit) → cells_told (a ++ b) ≡ cells_told a + cells_told b
 cells_told-append [] b = omega arith
-cells_told-append (of_header n h ∷ a) b = omega (arith, cells_told-append a b)
+cells_told-append (of_header n l h ∷ a) b = omega (arith, cells_told-append a b)
 cells_told-append (v ∷ a) b = cells_told-append a b
 
 -- ---- visits one after the other
@@ -50,7 +50,7 @@ few_none = record { rows = omega arith; cells = omega arith }
 pub header_counted : (before : Option HeaderData) (visits : List Visit) (h : HeaderData)
     → header_told before visits ≡ Some h → header_cells h ≤ option_map_or header_cells before 0 + cells_told visits
 header_counted before [] h is = omega (arith, ap (λ (o : Option HeaderData). option_map_or header_cells o 0) is)
-header_counted before (of_header n g ∷ visits) h is = omega (arith, header_counted (Some g) visits h is)
+header_counted before (of_header n l g ∷ visits) h is = omega (arith, header_counted (Some g) visits h is)
 header_counted before (of_end g ∷ visits) h is = omega (arith, header_counted None visits h is)
 header_counted before (of_damage n kind ∷ visits) h is = omega (arith, header_counted None visits h is)
 header_counted before (v ∷ visits) h is = header_counted before visits h is

@@ -36,7 +36,7 @@ names_room most names runs = most + length (texts_of names) + length (named_file
 -- how many cells the headers hold that visits tell
 abbrev pub cells_told : List Visit → ℕ
 cells_told [] = 0
-cells_told (of_header offset h ∷ visits) = cells_told visits + header_cells h
+cells_told (of_header offset l h ∷ visits) = cells_told visits + header_cells h
 cells_told (visit ∷ visits) = cells_told visits
 
 -- they tell no more rows and cells than there are bytes

@@ -7,7 +7,7 @@ ghost use Rattle.dl_addr.specs.Code.{is_code};
 use crate::files::UnitFiles;
 use crate::numbers::numbers_of;
 use dl_dirs::CompilationDirectories;
-use dl_head::Header;
+use dl_head::{Header, HeaderLengths};
 use dl_look::CodeRanges;
 use dl_memory::NoMemory;
 use dl_output::Destination;
@@ -39,7 +39,13 @@ impl<W: Destination, M: SetMemory> Visitor<W> for Maker<'_, '_, '_, M> {
 
     ghost story = { making_story M.refuses };
 
-    fn header(&mut self, _output: &mut W, offset: u64, _header: &Header) -> Result<(), RunFault> {
+    fn header(
+        &mut self,
+        _output: &mut W,
+        offset: u64,
+        _lengths: HeaderLengths,
+        _header: &Header,
+    ) -> Result<(), RunFault> {
         self.unit = offset;
         Ok(())
     }

@@ -13,6 +13,7 @@ pub(crate) fn job_over<'a>(job: &Job<'a>, path: &'a str) -> Option<Job<'a>>
         Job::Dump {
             units,
             keep_going,
+            header,
             ..
         } => Some(Job::Dump {
             file: Some(path),
@@ -21,6 +22,7 @@ pub(crate) fn job_over<'a>(job: &Job<'a>, path: &'a str) -> Option<Job<'a>>
             line_str: None,
             strings: None,
             keep_going: *keep_going,
+            header: *header,
         }),
         Job::Check {
             units,

@@ -102,6 +102,10 @@ with_to_5 a =
 abbrev pub with_keep_going : App → App
 with_keep_going a = with_rule a (switch_rule (codes "keep-going"))
 
+-- what is printed of each unit beside its directories, files and rows
+abbrev pub with_shown : App → App
+with_shown a = with_rule a (switch_rule (codes "header"))
+
 -- which files are read in place of one without a line table
 abbrev pub with_follow : App → App
 with_follow a =
@@ -159,10 +163,10 @@ index_app =
     with_rule (with_rule (with_rule (with_making (new_app (codes "index"))) (switch_rule (codes "list"))) output_rule)
     index_file_rule
 
--- `dump [--keep-going] [--older SIZE] [--address-size SIZE] [--version-5] [--debug-dir DIR].. [--no-follow] [--verbose]
--- [--big] [--line-str PATH] [--str PATH] [FILE]`
+-- `dump [--keep-going] [--header] [--older SIZE] [--address-size SIZE] [--version-5] [--debug-dir DIR].. [--no-follow]
+-- [--verbose] [--big] [--line-str PATH] [--str PATH] [FILE]`
 abbrev pub dump_app : App
-dump_app = with_strings (with_follow (with_units (with_keep_going (new_app (codes "dump")))))
+dump_app = with_strings (with_follow (with_units (with_shown (with_keep_going (new_app (codes "dump"))))))
 
 -- `check [--keep-going] [--older SIZE] [--address-size SIZE] [--version-5] [--debug-dir DIR].. [--no-follow] [--verbose]
 -- [--big] [--files-from PATH] [-0] [--progress] [FILE]..`

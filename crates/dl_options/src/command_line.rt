@@ -3,7 +3,7 @@ ghost use Rattle.std.specs.Prelude.{IfOk, OnErr, codes};
 ghost use Rattle.clap.specs.Words.{AddsArg, AddsSubcommand, App, Rule, with_rule, with_subcommand};
 ghost use Rattle.dl_options.specs.CommandLine.{IsApp, IsRule, addr_app, check_app, command_line, copy_app, dump_app, find_app};
 ghost use Rattle.dl_options.specs.CommandLine.{index_app, top_app, with_addresses, with_files, with_follow, with_input, with_keep_going, with_making};
-ghost use Rattle.dl_options.specs.CommandLine.{with_printing, with_settings, with_strings, with_to_5, with_units};
+ghost use Rattle.dl_options.specs.CommandLine.{with_printing, with_settings, with_shown, with_strings, with_to_5, with_units};
 ghost use Rattle.dl_options.specs.CommandLine.{with_units_of_file};
 ghost use Rattle.dl_options.specs.Memory.{LibraryRefused};
 
@@ -135,6 +135,18 @@ fn add_keep_going<'a>(
     with_arg(command, keep_going)
 }
 
+/// What `dump` prints of each unit beside its directories, files and rows.
+fn add_shown<'a>(
+    alloc: Global,
+    command: Result<Command<'a>, AllocError>,
+) -> Result<Command<'a>, AllocError>
+    ensures app { (a : App) → IfOk command.entry (IsApp a) → IfOk result (IsApp (with_shown a)) }
+    ensures refused { OnErr command.entry LibraryRefused → OnErr result LibraryRefused }
+{
+    let header = switch(alloc, "header", "Print the fields of each header too");
+    with_arg(command, header)
+}
+
 /// Which files are read in place of one without a line table.
 fn add_follow<'a>(
     alloc: Global,
@@ -213,6 +225,7 @@ pub fn dump<'a>(alloc: Global) -> Result<Command<'a>, AllocError>
             "Examples:\n  dwline dump program\n  dwline dump --line-str debug_line_str < debug_line",
         );
     let command = add_keep_going(alloc, Ok(command));
+    let command = add_shown(alloc, command);
     let command = add_units(alloc, command);
     add_strings(alloc, add_follow(alloc, command))
 }

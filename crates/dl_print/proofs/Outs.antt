@@ -8,7 +8,7 @@ use Rattle.std.specs.Prelude.{MatchResult, OnOk}
 use Rattle.std.specs.Io.KnownBytes.{Appends, Keeps}
 use Rattle.std.proofs.KnownBytes.{Appends-trans}
 use Rattle.dl_print.specs.Printed.{Printed}
-use Rattle.dl_print.specs.Output.{HasOut, HasPrinted, PrintsMore, TellsOut}
+use Rattle.dl_print.specs.Output.{HasOut, HasPrinted, Prints, PrintsMore, TellsOut}
 use Rattle.dl_print.specs.declared.fault.WriteFault.{WriteFault}
 
 module _ (start a b : Option (List ℕ)) (text : List ℕ) (out : ℕ) where
@@ -77,6 +77,20 @@ pub PrintsMore-then : (old mid new : Option (List ℕ)) (before between after : 
 PrintsMore-then old mid new before between after a b c e first second start text h =
     subst (λ t. HasPrinted start new t after) (append_assoc text a b ∙ ap (λ (l : List ℕ). text ++ l) (sym e))
     (second start (text ++ a) (first start text h))
+
+-- one text was printed, and then another, or a write failed
+pub Prints-both : {A : Type 0} (old mid new : Option (List ℕ)) (before between after : Printed) (result : Result A WriteFault)
+    (a b : List ℕ) → PrintsMore old mid before between a → Prints mid new between after b result
+    → Prints old new before after (a ++ b) result
+Prints-both old mid new before between after result a b first second = λ start text h.
+    subst (λ l. MatchResult result (λ _. HasPrinted start new l after) (λ f. TellsOut start new l f))
+    (append_assoc text a b) (second start (text ++ a) (first start text h))
+
+-- what is said of the first part of a text holds of the text
+pub TellsOut-first : (start now : Option (List ℕ)) (text a rest c : List ℕ) (f : WriteFault) → c ≡ a ++ rest
+    → TellsOut start now (text ++ a) f → TellsOut start now (text ++ c) f
+TellsOut-first start now text a rest c f e t =
+    subst (λ l. TellsOut start now l f) (ap (λ (l : List ℕ). text ++ l) (sym e)) (TellsOut-front start now text a rest f t)
 
 -- what is said of two parts of a text holds of the text
 pub TellsOut-part : (start now : Option (List ℕ)) (text a b rest c : List ℕ) (f : WriteFault) → c ≡ a ++ b ++ rest

@@ -28,6 +28,12 @@ entry_lines s name pairs first (e ∷ entries) =
 abbrev pub table_text : Strings → List ℕ → (first : ℕ) → TableData → List ℕ
 table_text s name first t = entry_lines s name t.pairs first t.entries
 
+-- the tables of a header: its directories, its files
+abbrev pub tables_text : Strings → HeaderData → List ℕ
+tables_text s h =
+    table_text s (codes "dir ") (first_number h.params) h.directories
+    ++ table_text s (codes "file ") (first_number h.params) h.files
+
 -- the header of a unit at that offset of the section: the unit, its directories, its files
 abbrev pub header_text : Strings → ℕ → HeaderData → List ℕ
 header_text s offset h =

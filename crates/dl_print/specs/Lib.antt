@@ -4,6 +4,7 @@ pub mod Counts
 pub mod Text
 pub mod ValueText
 pub mod HeaderText
+pub mod HeaderFields
 pub mod Printed
 pub mod Output
 -- Of contracts inside the crate, and of proofs; no public contract reaches these.

@@ -1,4 +1,5 @@
 //! The output, printed through one buffer.
+mod fields;
 mod lines;
 mod string_sections;
 mod tables;

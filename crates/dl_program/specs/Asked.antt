@@ -12,6 +12,7 @@ use Rattle.dl_head.specs.Dialect.{version_5}
 use Rattle.dl_dirs.specs.declared.compilation.CompilationDirectories.{CompilationDirectories}
 use Rattle.dl_dirs.specs.Compilation.{directory_by}
 use Rattle.dl_look.specs.declared.place.Place.{Place}
+use Rattle.dl_sections.specs.declared.options.Detail.{Detail}
 use Rattle.dl_sections.specs.declared.options.TheConstants.{SECTION_LIMIT}
 use Rattle.dl_sections.specs.declared.fault.RunFault.{RunFault}
 use Rattle.dl_sections.specs.declared.around.Damage.{Damage}
@@ -48,8 +49,8 @@ place_of address op = option_map (λ n. record { address = n; op_index = op }) (
 
 -- a command, by the text of its word
 pub data CommandData : Type 0 where
-  dumps : CommandData
-  dumps_around : CommandData
+  dumps : Detail → CommandData
+  dumps_around : Detail → CommandData
   checks : CommandData
   checks_around : CommandData
   finds : Place → CommandData
@@ -63,8 +64,8 @@ pub data CommandData : Type 0 where
   indexes_until_around : Table → CommandData
 
 abbrev pub command_seen : Command → CommandData
-command_seen Dump = dumps
-command_seen DumpAround = dumps_around
+command_seen (Dump detail) = dumps detail
+command_seen (DumpAround detail) = dumps_around detail
 command_seen Check = checks
 command_seen CheckAround = checks_around
 command_seen (Find place) = finds place
@@ -80,8 +81,8 @@ command_seen (IndexUntilAround table) = indexes_until_around table
 -- the command; none where ADDRESS is no address, where a section of an object file is named without FILE, of `addr`,
 -- which asks for many, and of `index`, which is made with what the file tells
 abbrev pub command_asked : Request → Option CommandData
-command_asked (dump file big units line_str str true) = Some dumps_around
-command_asked (dump file big units line_str str false) = Some dumps
+command_asked (dump file big units line_str str true header) = Some (dumps_around (record { header = header }))
+command_asked (dump file big units line_str str false header) = Some (dumps (record { header = header }))
 command_asked (check file big units true) = Some checks_around
 command_asked (check file big units false) = Some checks
 command_asked (find None big units address op (Some section) line_str str) = None
@@ -97,7 +98,7 @@ command_of request = if are_sizes (units_of request) then command_asked request 
 
 -- the path of the ELF file
 abbrev pub file_of : Request → Option Text
-file_of (dump file big units line_str str keep_going) = file
+file_of (dump file big units line_str str keep_going header) = file
 file_of (check file big units keep_going) = file
 file_of (find file big units address op section line_str str) = file
 file_of (copy file big units to_5 comp_dir) = file
@@ -118,7 +119,7 @@ looked_into other = None
 
 -- the path of the ELF file in whose place one with its debug information may be read
 abbrev pub followed_path : Request → Option Text
-followed_path (dump file big units line_str str keep_going) = file
+followed_path (dump file big units line_str str keep_going header) = file
 followed_path (check file big units keep_going) = file
 followed_path other = looked_into other
 
@@ -137,7 +138,7 @@ pub record SectionWords : Type 0 where
   pub strings : Option Text
 
 abbrev pub section_of : Request → SectionWords
-section_of (dump file big units line_str str keep_going) =
+section_of (dump file big units line_str str keep_going header) =
     record { big = big; older = units.older; line_str = line_str; strings = str }
 section_of (check file big units keep_going) =
     record { big = big; older = units.older; line_str = None; strings = None }
@@ -219,8 +220,10 @@ GoesOn Answers hears result = hears [] × Answers result
 -- what the command answers, writes and tells. bytes: what was read of a section, which has `left` left. refuses: for how
 -- many items memory is refused
 abbrev pub Does : (refuses : ℕ → Type 0) → Command → Dialect → Strings → (limit : ℕ) (bytes : List ℕ) (left : Option (List ℕ)) → Outcome RunFault
-Does refuses Dump dialect s limit bytes left start now = EndsThere (Dumps dialect s limit bytes left start now)
-Does refuses DumpAround dialect s limit bytes left start now = DumpsAround dialect s limit bytes left start now
+Does refuses (Dump detail) dialect s limit bytes left start now =
+    EndsThere (Dumps dialect (record { detail = detail; strings = s }) limit bytes left start now)
+Does refuses (DumpAround detail) dialect s limit bytes left start now =
+    DumpsAround dialect (record { detail = detail; strings = s }) limit bytes left start now
 Does refuses Check dialect s limit bytes left start now = EndsThere (Checks dialect limit bytes left start now)
 Does refuses CheckAround dialect s limit bytes left start now = ChecksAround dialect limit bytes left start now
 Does refuses (Find place) dialect s limit bytes left start now = EndsThere (Finds dialect s place limit bytes left start now)

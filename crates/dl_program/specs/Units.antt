@@ -37,7 +37,7 @@ file_units w = if w.version_5 then Version5 else option_map_or Sized (option_and
 
 -- what a request says of them
 abbrev pub units_of : Request → UnitTexts
-units_of (dump file big units line_str str keep_going) = units
+units_of (dump file big units line_str str keep_going header) = units
 units_of (check file big units keep_going) = units
 units_of (find file big units address op section line_str str) = units
 units_of (copy file big units to_5 comp_dir) = units

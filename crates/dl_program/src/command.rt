@@ -26,8 +26,8 @@ use dl_num::Order;
 use dl_open::Sections;
 use dl_output::Destination;
 use dl_sections::{
-    DamageSink, Options, RunFault, SECTION_LIMIT, Summary, Survey, check, check_around, copy,
-    copy_to_5, dump, dump_around, find,
+    DamageSink, Detail, Options, RunFault, SECTION_LIMIT, Summary, Survey, check, check_around,
+    copy, copy_to_5, dump_around, dump_with, find,
 };
 
 /// What `addr` counts.
@@ -52,10 +52,10 @@ const NO_STRINGS: Options<'static> = Options {
 /// What is asked of a line table.
 #[derive(Clone, Copy)]
 pub enum Command<'a> {
-    /// Print all units.
-    Dump,
+    /// Print all units, and what is shown besides.
+    Dump(Detail),
     /// Print all units, those that are damaged as far as they are not, and tell of these.
-    DumpAround,
+    DumpAround(Detail),
     /// Count units, sequences and rows.
     Check,
     /// Count them, and the units that are damaged, and tell of these.
@@ -158,9 +158,10 @@ impl<'a> Command<'a> {
         match job {
             Job::Dump {
                 keep_going: true,
+                header,
                 ..
-            } => Some(Command::DumpAround),
-            Job::Dump { .. } => Some(Command::Dump),
+            } => Some(Command::DumpAround(Detail { header: *header })),
+            Job::Dump { header, .. } => Some(Command::Dump(Detail { header: *header })),
             Job::Check {
                 keep_going: true,
                 ..
@@ -187,8 +188,8 @@ impl<'a> Command<'a> {
         ensures { result ≡ sections_of self.entry }
     {
         match self {
-            Command::Dump
-            | Command::DumpAround
+            Command::Dump(_)
+            | Command::DumpAround(_)
             | Command::Find(_)
             | Command::Addr(_)
             | Command::AddrAround(_)
@@ -259,9 +260,11 @@ impl<'a> Command<'a> {
     {
         let alloc = memory.alloc();
         match self {
-            Command::DumpAround => dump_around(alloc, input, output, options, damages),
+            Command::DumpAround(detail) => {
+                dump_around(alloc, input, output, options, detail, damages)
+            }
             Command::CheckAround => check_around(alloc, input, output, options, damages),
-            Command::Dump => all_whole(dump(alloc, input, output, options)),
+            Command::Dump(detail) => all_whole(dump_with(alloc, input, output, options, detail)),
             Command::Check => all_whole(check(alloc, input, output, options)),
             Command::Find(place) => all_whole(find(alloc, input, output, place, options)),
             Command::Copy => all_whole(copy(memory, input, output, options)),

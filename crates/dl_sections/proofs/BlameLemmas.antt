@@ -87,7 +87,7 @@ none_copied made order p none (visit ∷ visits) = none_copied made order (visit
     one : (p : Progress) (visit : Visit) → ¬ (stop_in p ≡ Some fault.Read)
         → ¬ (stop_in (visited made order p visit) ≡ Some fault.Read)
     one (stopped text f) visit none e = none e
-    one (goes offset rows text) (of_header n h) none e = absurd cc
+    one (goes offset rows text) (of_header n l h) none e = absurd cc
     one (goes offset rows text) (of_version n version) none e = absurd cc
     one (goes offset rows text) (of_row r) none e = absurd cc
     one (goes offset rows text) of_open none e = absurd cc

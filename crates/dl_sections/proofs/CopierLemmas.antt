@@ -5,7 +5,7 @@ use Rattle.dl_emit.specs.declared.program.TheConstants.{ROW}
 use Rattle.dl_sections.proofs.Names.{◌*◌, ◌≤◌, ◌++◌, ◌+◌, ◌<◌, ◌∙◌, ◌∷◌, ◌≡◌, [], ap, Appends, Appends-nil, arith, bytes_of_rows}
 use Rattle.dl_sections.proofs.Names.{Copier, copy_story, Copying, EmitFault, Err, fold-append, goes, HasOut-pending}
 use Rattle.dl_sections.proofs.Names.{HasPrinted, HasPrinted-flushed, HasPrinted-more, HasPrinted-nothing, header_bytes}
-use Rattle.dl_sections.proofs.Names.{header_told, HeaderData, IsGrown, IsGrowth, length, length-append, length-drop, List}
+use Rattle.dl_sections.proofs.Names.{header_told, HeaderData, HeaderLengths, IsGrown, IsGrowth, length, length-append, length-drop, List}
 use Rattle.dl_sections.proofs.Names.{made_by, None, of_end, of_header, of_open, of_row, of_version, Ok, Option, option_map, Order}
 use Rattle.dl_sections.proofs.Names.{Params, Printed, PrintsPart, program_len, ProgramData, refl, refusal, Result, Row, row_count}
 use Rattle.dl_sections.proofs.Names.{rows_refusal, RunFault, Some, StopsIn, sym, take, TellsOut, TellsOut-front, told_to}
@@ -33,10 +33,10 @@ own_order p order h rows g = record {
 }
 
 -- a header was told
-pub grows_from : {M : Type 0} (visits : List Visit) (offset : ℕ) (g : HeaderData) (c : Copier M) (order : Order)
-    → IsGrown c.program order (made_by c.becomes c.unit g).params [] → Grows c (visits ++ of_header offset g ∷ []) []
-grows_from visits offset g c order grown h told =
-    let same : g ≡ h = value_same g h (sym (header_told-append None visits (of_header offset g ∷ [])) ∙ told) in
+pub grows_from : {M : Type 0} (visits : List Visit) (offset : ℕ) (l : HeaderLengths) (g : HeaderData) (c : Copier M) (order : Order)
+    → IsGrown c.program order (made_by c.becomes c.unit g).params [] → Grows c (visits ++ of_header offset l g ∷ []) []
+grows_from visits offset l g c order grown h told =
+    let same : g ≡ h = value_same g h (sym (header_told-append None visits (of_header offset l g ∷ [])) ∙ told) in
     rw (← same) (own_order c.program order (made_by c.becomes c.unit g).params [] grown)
 
 -- a row was told

@@ -3,7 +3,7 @@ use Rattle.dl_sections.proofs.Names.{◌++◌, ◌+◌, ◌∙◌, ◌∷◌, �
 use Rattle.dl_sections.proofs.Names.{AreMade, arith, Bool, comes_to, concat, Dialect, EmitFault, ended_as, ends_open}
 use Rattle.dl_sections.proofs.Names.{false, fold-append, foreign_in, foreign_of, goes, header_in, header_is_found}
 use Rattle.dl_sections.proofs.Names.{Becomes, header_of, HeaderData, inl, inr, IsGrowth, IsMade, IsUnit, length, length-append, map, of_row, RenewsTables, true}
-use Rattle.dl_sections.proofs.Names.{length_of_unit, List, Made, None, of_end, of_header, of_version, open_visit, Option}
+use Rattle.dl_sections.proofs.Names.{length_of_unit, lengths_in, List, Made, None, of_end, of_header, of_version, open_visit, Option}
 use Rattle.dl_sections.proofs.Names.{Progress, refl, refusal, Row, RunFault, Some, some_same, Sound, stopped, sym, unit_as}
 use Rattle.dl_sections.proofs.Names.{unit_is_not_refused, unit_of, unit_rows, units_as, units_visits, Visit, visited}
 use Rattle.dl_sections.proofs.Names.{visits, WithinUnit, ℕ}
@@ -104,7 +104,7 @@ module _ (Refused : Type 0) (refuses : ℕ → Type 0) (becomes : Becomes) (dial
 
     by : Foreign dialect n c ⊎ (Own dialect n c ⊎ Neither dialect n c) → ⊥
     by (inl v) = alone (of_version n v.0) heard (sym (foreign_visits dialect n c v) ∙ at)
-    by (inr (inl own)) = alone (of_header n own.0) heard (rw none at (sym (own_visits dialect n c own) ∙ at))
+    by (inr (inl own)) = alone (of_header n (lengths_in dialect c own.0) own.0) heard (rw none at (sym (own_visits dialect n c own) ∙ at))
     by (inr (inr neither)) =
         let e = sym (no_visits dialect n c neither) ∙ at in
         omega (arith, ap length e, length-append heard (visit ∷ others))

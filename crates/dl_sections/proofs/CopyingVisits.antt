@@ -1,7 +1,7 @@
 -- What is copied of visits one after the other, and of those of a unit.
 use Rattle.dl_sections.proofs.Names.{◌++◌, ◌∙◌, ◌∷◌, ◌≡◌, ◌⊎◌, [], ap, append-nil, append_assoc, Bool, comes_to, Dialect}
-use Rattle.dl_sections.proofs.Names.{false, fold_stays, foreign_in, foreign_no_header, goes, header_in, header_of}
-use Rattle.dl_sections.proofs.Names.{HeaderData, inl, inr, List, Made, map, None, of_header, of_open, of_row, of_version}
+use Rattle.dl_sections.proofs.Names.{false, fold_stays, foreign_in, foreign_no_header, goes, header_in, header_of, header_read}
+use Rattle.dl_sections.proofs.Names.{HeaderData, inl, inr, lengths_in, List, Made, map, None, of_header, of_open, of_row, of_version}
 use Rattle.dl_sections.proofs.Names.{open_visit, Option, Order, parts, refl, Row, rows_in, RunFault, Some, stopped, sym}
 use Rattle.dl_sections.proofs.Names.{true, unit_rows, Visit, visited, visits, ℕ}
 use Rattle.dl_sections.proofs.Names.fault
@@ -77,10 +77,10 @@ module _ (dialect : Dialect) (n : ℕ) (c : List ℕ) where
   pub foreign_visits : (f : Foreign) → visits dialect n c ≡ of_version n f.0 ∷ []
   foreign_visits f = rw f.1 refl
 
-  pub own_visits : (own : Own) → visits dialect n c ≡ of_header n own.0 ∷ map of_row (unit_rows dialect c)
+  pub own_visits : (own : Own) → visits dialect n c ≡ of_header n (lengths_in dialect c own.0) own.0 ∷ map of_row (unit_rows dialect c)
   own_visits own =
-      rw (not_foreign own, own.2) (ap (λ (l : List Visit). of_header n own.0 ∷ l)
-      (rows_visited n (Some own.0) (rows_in dialect.order own.0.params own.1)))
+      rw (not_foreign own, own.2) (ap (λ (l : List Visit). of_header n (lengths_in dialect c own.0) own.0 ∷ l)
+      (rows_visited n (Some (record { lengths = lengths_in dialect c own.0; header = own.0 })) (rows_in dialect.order own.0.params own.1)))
 
   pub no_visits : Neither → visits dialect n c ≡ []
   no_visits none = rw (none.0, none.1) refl
@@ -105,7 +105,7 @@ module _ (made : Made) (dialect : Dialect) (n : ℕ) (c : List ℕ) (is_open : B
   pub front_of : (heard x : List Visit) → visits dialect n c ++ open_visit is_open ≡ heard ++ x
       → Front made dialect n c m text heard x
   front_of heard x e = by (one_of dialect n c) heard e where
-    from_header : (own : Own dialect n c) (w : Visit) (heard : List Visit) → w ≡ of_header n own.0
+    from_header : (own : Own dialect n c) (w : Visit) (heard : List Visit) → w ≡ of_header n (lengths_in dialect c own.0) own.0
         → (now : List Row) × (comes_to made dialect.order (goes n [] text) heard ≡ goes n now text)
         → Front made dialect n c m text (w ∷ heard) x
     from_header own w heard first later = goes_on n later.0 (rw first later.1) (not_foreign dialect n c own)

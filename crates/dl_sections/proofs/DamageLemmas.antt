@@ -11,12 +11,12 @@ use Rattle.dl_sections.specs.Around.{Block, whole, damaged, bytes_of, faults_in,
 use Rattle.dl_sections.specs.Around.{Rest, begun, cut_off, broken, faults_of, rest_faults, rest_visits, visits_around}
 use Rattle.dl_table.specs.declared.fault.FaultKind.TheVariants.{Truncated}
 use Rattle.dl_sections.specs.DamageTold.{damage_of_visit, damages_told}
-use Rattle.dl_sections.specs.Section.{Visit, of_damage, of_end, end_visits, event_visits, header_of, open_visit, unit_visits, visits}
+use Rattle.dl_sections.specs.Section.{HeaderRead, Visit, of_damage, of_end, end_visits, event_visits, header_of, header_read, open_visit, unit_visits, visits}
 
 told-append : (a b : List Visit) → damages_told (a ++ b) ≡ damages_told a ++ damages_told b
 told-append a b = flat_map-append damage_of_visit a b
 
-none_in_event : (offset : ℕ) (h : Option HeaderData) (e : Event) (es : List Visit)
+none_in_event : (offset : ℕ) (h : Option HeaderRead) (e : Event) (es : List Visit)
     → damages_told (event_visits offset h e ++ es) ≡ damages_told es
 none_in_event offset None event.Header es = refl
 none_in_event offset (Some h) event.Header es = refl
@@ -26,7 +26,7 @@ none_in_event offset h event.More es = refl
 none_in_event offset h event.End es = refl
 none_in_event offset h event.NoMemory es = refl
 
-none_in_events : (offset : ℕ) (h : Option HeaderData) (es : List Event)
+none_in_events : (offset : ℕ) (h : Option HeaderRead) (es : List Event)
     → damages_told (flat_map (event_visits offset h) es) ≡ []
 none_in_events offset h [] = refl
 none_in_events offset h (e ∷ es) =
@@ -38,7 +38,7 @@ none_open false h = refl
 
 module _ (dialect : Dialect) where
   none_in_visits : (offset : ℕ) (b : List ℕ) → damages_told (visits dialect offset b) ≡ []
-  none_in_visits offset b = none_in_events offset (header_of dialect b) (events dialect b)
+  none_in_visits offset b = none_in_events offset (header_read dialect b) (events dialect b)
 
   none_in_unit : (offset : ℕ) (u : List ℕ) → damages_told (unit_visits dialect offset u) ≡ []
   none_in_unit offset u =

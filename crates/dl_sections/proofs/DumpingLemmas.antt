@@ -1,7 +1,7 @@
 -- How a dump goes on, and what it comes to.
 use Rattle.dl_sections.proofs.Names.{◌++◌, ◌∷◌, ◌≡◌, [], append-nil, Dialect, dump_story, Dumper, Dumps, ends, Err}
 use Rattle.dl_sections.proofs.Names.{flat_map, flat_map-append, HasDumped, inl, inr, List, Ok, Option, Prints}
-use Rattle.dl_sections.proofs.Names.{Ran, refl, Result, RunFault, StopsIn, strings_of, Summary, Visit, visit_text}
+use Rattle.dl_sections.proofs.Names.{Ran, refl, Result, RunFault, StopsIn, style_of, Summary, Visit, visit_text}
 use Rattle.dl_sections.proofs.Names.{visits_text, Write, WriteFault, ℕ, ⊤}
 use Rattle.dl_sections.proofs.Names.{◌∙◌, sym}
 use Rattle.dl_sections.proofs.Names.fault
@@ -15,42 +15,42 @@ use Rattle.dl_sections.proofs.OutLemmas.{TellsOut-more}
 
 module _ {D : Type 0} {hears : D → D → List Damage → Type 0} {first old : Dumper D} {start before : Option (List ℕ)}
     {visits : List Visit} (dumped : HasDumped hears first old start before visits) (new : Dumper D) (after : Option (List ℕ)) (v : Visit) where
-  text_more : visits_text (strings_of first.strings.now) (visits ++ v ∷ [])
-      ≡ visits_text (strings_of first.strings.now) visits ++ visit_text (strings_of first.strings.now) v
-  text_more = rw (flat_map-append (visit_text (strings_of first.strings.now)) visits (v ∷ []), append-nil) refl
+  text_more : visits_text (style_of first) (visits ++ v ∷ [])
+      ≡ visits_text (style_of first) visits ++ visit_text (style_of first) v
+  text_more = rw (flat_map-append (visit_text (style_of first)) visits (v ∷ []), append-nil) refl
 
   -- the text of a visit is printed
-  pub prints_visit : Prints {A = ⊤} before after old.printer.now new.printer.now (visit_text (strings_of old.strings.now) v)
-      (Ok tt) → new.strings.now ≡ old.strings.now → new.damages ≡ old.damages → damage_of_visit v ≡ []
+  pub prints_visit : Prints {A = ⊤} before after old.printer.now new.printer.now (visit_text (style_of old) v)
+      (Ok tt) → style_of new ≡ style_of old → new.damages ≡ old.damages → damage_of_visit v ≡ []
       → HasDumped hears first new start after (visits ++ v ∷ [])
-  prints_visit prints strings damages quiet = record {
-    strings = strings ∙ dumped.strings;
+  prints_visit prints style damages quiet = record {
+    style = style ∙ dumped.style;
     damages = rw damages dumped.damages;
     heard = rw (damages, flat_map-append damage_of_visit visits (v ∷ []), quiet, append-nil) dumped.heard;
     printed = rw text_more
-        (rw dumped.strings at (prints start (visits_text (strings_of first.strings.now) visits) dumped.printed));
+        (rw dumped.style at (prints start (visits_text (style_of first) visits) dumped.printed));
   }
 
   -- or a write failed
   pub loses_visit : (f : WriteFault)
-      → Prints {A = ⊤} before after old.printer.now new.printer.now (visit_text (strings_of old.strings.now) v) (Err f)
+      → Prints {A = ⊤} before after old.printer.now new.printer.now (visit_text (style_of old) v) (Err f)
       → StopsIn (dump_story hears) first new start after visits (v ∷ []) (fault.Write f.out)
   loses_visit f loses = (
     v ∷ [],
     [],
     refl,
-    rw text_more (rw dumped.strings at (loses start (visits_text (strings_of first.strings.now) visits) dumped.printed)),
+    rw text_more (rw dumped.style at (loses start (visits_text (style_of first) visits) dumped.printed)),
   )
 
 module _ {D : Type 0} (hears : D → D → List Damage → Type 0) (dialect : Dialect) (limit : ℕ) (bytes : List ℕ)
     (left : Option (List ℕ)) (first new : Dumper D) (start now : Option (List ℕ)) where
   -- what is out of the text of some visits is out of that of all
   pub dumps : (result : Result Summary RunFault) → Ran (dump_story hears) dialect limit bytes left first new start now result
-      → Dumps dialect (strings_of first.strings.now) limit bytes left start now result
+      → Dumps dialect (style_of first) limit bytes left start now result
   dumps (Ok summary) (inl (units, ends, settled)) = (units, [], [], ends, settled.out)
   dumps (Ok summary) (inr done) = absurd done.4.tells
   dumps (Err (fault.Write out)) ran =
-      let text = visit_text (strings_of first.strings.now) in (
+      let text = visit_text (style_of first) in (
         ran.0,
         ran.1,
         ran.2,
@@ -69,12 +69,12 @@ module _ {D : Type 0} (hears : D → D → List Damage → Type 0) (dialect : Di
 
     pub dumps_around : (result : Result Survey RunFault)
         → RanAround (dump_story hears) dialect limit bytes left first new start now result
-        → DumpsAround dialect (strings_of first.strings.now) limit bytes left start now (hears first.damages.now w) result
+        → DumpsAround dialect (style_of first) limit bytes left start now (hears first.damages.now w) result
     dumps_around (Ok survey) (inl (blocks, rest, ends, settled)) =
         (blocks, rest, ends, settled.out, told_of blocks rest settled.tells)
     dumps_around (Ok survey) (inr done) = absurd done.4.tells
     dumps_around (Err (fault.Write out)) ran =
-        let text = visit_text (strings_of first.strings.now) in (
+        let text = visit_text (style_of first) in (
           ran.0,
           ran.1,
           ran.2,

@@ -1,7 +1,7 @@
 -- Events of a unit, and the visits, rows and versions that they tell.
-use Rattle.dl_sections.proofs.Names.{◌++◌, ◌∷◌, ◌≡◌, [], ap, append_assoc, Dialect, Event, event_visits, events, events_of}
-use Rattle.dl_sections.proofs.Names.{false, flat_map, flat_map-append, foreign_in, foreign_no_header, header_in, header_of}
-use Rattle.dl_sections.proofs.Names.{header_on, HeaderData, is_foreign, is_some, List, map, no_rows, None, of_row, Option}
+use Rattle.dl_sections.proofs.Names.{◌++◌, ◌∙◌, ◌∷◌, ◌≡◌, [], ap, append_assoc, Dialect, Event, event_visits, events, events_of}
+use Rattle.dl_sections.proofs.Names.{false, flat_map, flat_map-append, foreign_in, foreign_no_header, found_is_header, header_in, header_of, header_read}
+use Rattle.dl_sections.proofs.Names.{header_on, HeaderData, HeaderRead, is_foreign, is_some, lengths_in, lengths_stay, List, map, no_rows, None, of_row, Option}
 use Rattle.dl_sections.proofs.Names.{option_map, Order, own_events, refl, Row, row_told, rows_in, rows_later, rows_told}
 use Rattle.dl_sections.proofs.Names.{Some, sym, told, unit_rows, Visit, visits, ℕ}
 use Rattle.dl_sections.proofs.Names.event
@@ -38,7 +38,7 @@ none_told (event.Row r) none = none
 none_told e none = refl
 
 -- rows are visits of their own, whatever the header
-pub rows_visited : (offset : ℕ) (h : Option HeaderData) (rows : List Row)
+pub rows_visited : (offset : ℕ) (h : Option HeaderRead) (rows : List Row)
     → flat_map (event_visits offset h) (map event.Row rows) ≡ map of_row rows
 rows_visited offset h [] = refl
 rows_visited offset h (r ∷ rows) = ap (λ (l : List Visit). of_row r ∷ l) (rows_visited offset h rows)
@@ -65,29 +65,38 @@ foreign_of_events dialect b = foreign_by dialect.order (foreign_in dialect b) (h
 -- ---- visits
 
 -- the header makes no difference where none was told
-headerless : (offset : ℕ) (h : Option HeaderData) (order : Order) (version : Option ℕ)
+headerless : (offset : ℕ) (h : Option HeaderRead) (order : Order) (version : Option ℕ)
     → flat_map (event_visits offset h) (events_of order version None)
     ≡ flat_map (event_visits offset None) (events_of order version None)
 headerless offset h order None = refl
 headerless offset h order (Some v) = refl
 
+-- more bytes don't change how long a unit and its header are
+lengths_on : (dialect : Dialect) (b x : List ℕ) (h : HeaderData) (program : List ℕ)
+    → header_in dialect b ≡ Some (h, program) → lengths_in dialect (b ++ x) h ≡ lengths_in dialect b h
+lengths_on dialect b x h program is =
+    let f = found_is_header dialect h b program is in
+    ap (λ (w : List ℕ). lengths_in dialect w h) (ap (λ (w : List ℕ). w ++ x) f.1 ∙ append_assoc f.0 program x)
+    ∙ lengths_stay dialect h h f.0 (program ++ x) f.2
+    ∙ sym (ap (λ (w : List ℕ). lengths_in dialect w h) f.1 ∙ lengths_stay dialect h h f.0 program f.2)
+
 same_visits : (dialect : Dialect) (offset : ℕ) (b x : List ℕ) (parts : Option (HeaderData × List ℕ))
     → header_in dialect b ≡ parts
-    → flat_map (event_visits offset (header_of dialect (b ++ x))) (events dialect b) ≡ visits dialect offset b
+    → flat_map (event_visits offset (header_read dialect (b ++ x))) (events dialect b) ≡ visits dialect offset b
 same_visits dialect offset b x None is =
-    rw is (headerless offset (header_of dialect (b ++ x)) dialect.order (foreign_in dialect b))
+    rw is (headerless offset (header_read dialect (b ++ x)) dialect.order (foreign_in dialect b))
 same_visits dialect offset b x (Some (h, program)) is =
-    rw (header_on dialect b x h program is, is) refl
+    rw (header_on dialect b x h program is, is, lengths_on dialect b x h program is) refl
 
 -- where the events grow, so do the visits
 pub visits_grow : (dialect : Dialect) (offset : ℕ) (b x : List ℕ) (told : List Event)
     → events dialect (b ++ x) ≡ events dialect b ++ told
     → visits dialect offset (b ++ x) ≡ visits dialect offset b
-    ++ flat_map (event_visits offset (header_of dialect (b ++ x))) told
+    ++ flat_map (event_visits offset (header_read dialect (b ++ x))) told
 visits_grow dialect offset b x told grows =
     rw (
       grows,
-      flat_map-append (event_visits offset (header_of dialect (b ++ x))) (events dialect b) told,
+      flat_map-append (event_visits offset (header_read dialect (b ++ x))) (events dialect b) told,
       same_visits dialect offset b x (header_in dialect b) refl,
     ) refl
 

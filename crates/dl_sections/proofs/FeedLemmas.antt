@@ -23,7 +23,7 @@ use Rattle.dl_rows.specs.declared.sink.Flow.{Flow}
 use Rattle.dl_rows.specs.declared.sink.Flow.TheVariants as flow
 use Rattle.dl_sections.specs.declared.section.SectionUnits.{SectionUnits}
 use Rattle.dl_print.specs.Counts.{add}
-use Rattle.dl_sections.specs.Section.{Visit, of_row, HasUnits, HasBegun, end_visits, header_of, event_visits}
+use Rattle.dl_sections.specs.Section.{Visit, of_row, HasUnits, HasBegun, end_visits, header_of, header_read, event_visits}
 use Rattle.dl_sections.specs.Told.{RowsOf, StopsAtRow}
 use Rattle.dl_sections.specs.Visiting.{Story, StopsIn, GoesOn, header_told}
 use Rattle.dl_sections.specs.UnitsRead.{Before, UnitsAre, counted, end_of, row_told, UnitsFed, visits_since}
@@ -61,7 +61,7 @@ pub record Turn {S : Type 0} {dialect : Dialect} (story : Story S) (past : Befor
   pub visits : List Visit
   pub tells : story.tells first w start after visits
   pub visited : visits_since past units (old ++ take fed.used rest)
-      ≡ visits ++ event_visits v.offset (header_of v.reader.dialect (old ++ take fed.used rest)) fed.event
+      ≡ visits ++ event_visits v.offset (header_read v.reader.dialect (old ++ take fed.used rest)) fed.event
 
 -- the event was the end of a unit
 pub record Ended {dialect : Dialect} (past : Before dialect) (read : List ℕ) (units : List (List ℕ)) (b : List ℕ) (v : SectionUnits)
@@ -79,7 +79,7 @@ dropped xs i x at =
     ∙ ap (λ (y : ℕ). y ∷ drop (i + 1) xs) (get_or_from_slice_get xs i x x at)
 
 told_visits : (offset : ℕ) (b : List ℕ) (dialect : Dialect) (e : Event)
-    → flat_map (event_visits offset (header_of dialect b)) (told e) ≡ event_visits offset (header_of dialect b) e
+    → flat_map (event_visits offset (header_read dialect b)) (told e) ≡ event_visits offset (header_read dialect b) e
 told_visits offset b dialect event.More = refl
 told_visits offset b dialect event.End = refl
 told_visits offset b dialect event.NoMemory = refl
@@ -99,7 +99,7 @@ cut dialect s read rest units b k whole has = record {
 visits_more : {dialect : Dialect} (past : Before dialect) (units : List (List ℕ)) (b x : List ℕ) (rows : List Row)
     (more : List Event) → events dialect (b ++ x) ≡ (events dialect b ++ map event.Row rows) ++ more
     → visits_since past units (b ++ x) ≡ (visits_since past units b ++ map of_row rows)
-    ++ flat_map (event_visits (end_of past units) (header_of dialect (b ++ x))) more
+    ++ flat_map (event_visits (end_of past units) (header_read dialect (b ++ x))) more
 visits_more {dialect} past units b x rows more grows =
     rw (visits_grow dialect (end_of past units) b x (map event.Row rows ++ more) (grows
     ∙ append_assoc (events dialect b) (map event.Row rows) more))
@@ -216,7 +216,7 @@ module _ {S : Type 0} {story : Story S} {dialect : Dialect} {past : Before diale
 
   -- the visitor was told the event
   pub goes_on : {x : SectionUnits} {new : S} {now : Option (List ℕ)} → story.tells first new start now (t.visits
-      ++ event_visits v.offset (header_of v.reader.dialect bytes) fed.event) → x ≡ counted fed.event v
+      ++ event_visits v.offset (header_read v.reader.dialect bytes) fed.event) → x ≡ counted fed.event v
       → FedUpTo story past s first start x new now (take (length rest - fed.used) (drop fed.used rest))
   goes_on tells same = record {
     read = t.read;
@@ -235,7 +235,7 @@ module _ {S : Type 0} {story : Story S} {dialect : Dialect} {past : Before diale
 
   -- the visitor stopped at the event
   pub stops_told : (x : SectionUnits) {new : S} {now : Option (List ℕ)} (f : RunFault)
-      → StopsIn story first new start now t.visits (event_visits v.offset (header_of v.reader.dialect bytes) fed.event) f
+      → StopsIn story first new start now t.visits (event_visits v.offset (header_read v.reader.dialect bytes) fed.event) f
       → UnitsFed story past s first new start now x (Err f)
   stops_told x f stops =
       stopped story past s first start _ _ x f t.units bytes (drop fed.used rest) t.visits _ t.begun t.answered.sound

@@ -12,7 +12,7 @@ use Rattle.dl_sections.proofs.CopyingVisits.{header_is}
 pub header_told-append : (h : Option HeaderData) (a b : List Visit)
     → header_told h (a ++ b) ≡ header_told (header_told h a) b
 header_told-append h [] b = refl
-header_told-append h (of_header n g ∷ a) b = header_told-append (Some g) a b
+header_told-append h (of_header n l g ∷ a) b = header_told-append (Some g) a b
 header_told-append h (of_end g ∷ a) b = header_told-append None a b
 header_told-append h (of_damage n kind ∷ a) b = header_told-append None a b
 header_told-append h (v ∷ a) b = header_told-append h a b

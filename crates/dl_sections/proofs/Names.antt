@@ -41,12 +41,12 @@ pub use Rattle.dl_field.specs.declared.params.Params.{Params}
 pub use Rattle.dl_head.proofs.CutLemmas.{cut_sound}
 pub use Rattle.dl_head.proofs.ForeignLemmas.{foreign_on}
 pub use Rattle.dl_head.proofs.FrontLemmas.{fronts}
-pub use Rattle.dl_head.proofs.HeaderLaws.{found_is_header, header_is_found, header_is_not_foreign}
+pub use Rattle.dl_head.proofs.HeaderLaws.{found_is_header, header_is_found, header_is_not_foreign, lengths_stay}
 pub use Rattle.dl_head.proofs.HeaderSound.{standard_fault, usable}
 pub use Rattle.dl_head.proofs.QuietLemmas.{foreign_is_not_refused, header_is_not_refused}
 pub use Rattle.dl_head.proofs.ReadSound.{header_is_sound}
 pub use Rattle.dl_head.specs.Built.{with_standard_opcodes}
-pub use Rattle.dl_head.specs.Header.{cut, foreign_in, header_in, IsHeader, SpellsFields}
+pub use Rattle.dl_head.specs.Header.{cut, foreign_in, header_in, IsHeader, lengths_in, SpellsFields}
 pub use Rattle.dl_head.specs.Header.{unit_end, unit_len}
 pub use Rattle.dl_head.specs.HeaderLayout.{header_layout, initial_size}
 pub use Rattle.dl_head.specs.Refusal.{HeaderRefused}
@@ -54,6 +54,7 @@ pub use Rattle.dl_head.specs.Sound.{IsSoundHeader}
 pub use Rattle.dl_head.specs.Written.{header_bytes, is_within_limit}
 pub use Rattle.dl_head.specs.declared.dialect.Dialect.{Dialect}
 pub use Rattle.dl_head.specs.declared.fault.Fault.{Fault}
+pub use Rattle.dl_head.specs.declared.header.HeaderLengths.{HeaderLengths}
 pub use Rattle.dl_rows.proofs.HeaderParams.{header_is_usable}
 pub use Rattle.dl_rows.proofs.JoinLemmas.{no_events}
 pub use Rattle.dl_rows.proofs.OperandRanges.{bytes_back, bytes_front}
@@ -115,19 +116,19 @@ pub use Rattle.dl_sections.specs.Commands.{NoneAnswers, to_5, unit_as, units_as,
 pub use Rattle.dl_sections.specs.CopyLaws.{AreNewer, CopiesAreNewer, CopiesAreUnits, IsAnew, IsNewer}
 pub use Rattle.dl_sections.specs.Copying.{comes_to, copy_story, Copying, ended_as, goes, IsGrowth, made_by, Progress, RenewsTables}
 pub use Rattle.dl_sections.specs.Copying.{row_count, stop_in, stopped, StopsAt, text_in, told_to, visited}
-pub use Rattle.dl_sections.specs.Dumping.{dump_story, HasDumped}
+pub use Rattle.dl_sections.specs.Dumping.{dump_story, HasDumped, style_of}
 pub use Rattle.dl_sections.specs.Finding.{answer_under, find_story, finds, HasFound, Search, search_of, Seeks, seeks, seen}
 pub use Rattle.dl_sections.specs.Finding.{text_found}
 pub use Rattle.dl_sections.specs.PassedOver.{AreTold, IsGreatest, IsLeast, other_versions, PassesOver}
 pub use Rattle.dl_sections.specs.PassingOver.{IsPassedOver, Spans, version_story, version_told, versions_told}
 pub use Rattle.dl_sections.specs.RunOutput.{TellsOut}
-pub use Rattle.dl_sections.specs.Section.{end_visits, EndsAs, event_visits, HasBegun, HasUnits, header_of, NoUnitBegins}
+pub use Rattle.dl_sections.specs.Section.{end_visits, EndsAs, event_visits, HasBegun, HasUnits, header_of, header_read, HeaderRead, NoUnitBegins}
 pub use Rattle.dl_sections.specs.Section.{of_end, of_header, of_open, of_row, of_version, open_visit, section_visits}
 pub use Rattle.dl_sections.specs.Section.{summary_of, unit_visits, units_visits, Visit, visits}
 pub use Rattle.dl_sections.specs.SectionLaws.{CopyIsFront, CopyTo5IsFront, DumpIsFront, IsOfBytes, MoreIsTold, OneChecking}
 pub use Rattle.dl_sections.specs.SectionLaws.{OneCopy, OneCopying, OneCopyingTo5, OneCopyTo5, OneCut, OneDump, OneDumping}
 pub use Rattle.dl_sections.specs.SectionLaws.{OneEnd, OneFinding, OneFound, OnePassingOver}
-pub use Rattle.dl_sections.specs.SectionText.{section_text, visit_text, visits_text}
+pub use Rattle.dl_sections.specs.SectionText.{DumpStyle, section_text, visit_text, visits_text}
 pub use Rattle.dl_sections.specs.Told.{Counted, ends, HeardRows, NoRow, RowsOf, StopsAtRow, told_story}
 pub use Rattle.dl_sections.specs.UnitPrinted.{PrintsPart}
 pub use Rattle.dl_sections.specs.UnitsRead.{counted, is_foreign, row_told, rows_told, UnitsAre}

@@ -1,6 +1,6 @@
 -- What `check`, `dump`, `passed_over` and `find` answer of bytes is one thing alone.
 use Rattle.dl_sections.proofs.Names.{◌++◌, ◌∙◌, ◌∷◌, ◌≡◌, [], answer, ap, Appends, AreTold, arith, Checks, concat, Dialect}
-use Rattle.dl_sections.proofs.Names.{Dumps, EndsAs, Err, Finds, header_of, HeaderData, IsFound, IsGreatest, IsLeast}
+use Rattle.dl_sections.proofs.Names.{Dumps, DumpStyle, EndsAs, Err, Finds, header_of, HeaderData, IsFound, IsGreatest, IsLeast}
 use Rattle.dl_sections.proofs.Names.{IsOfBytes, length, List, None, NoneAnswers, Ok, OneChecking, OneDump, OneDumping}
 use Rattle.dl_sections.proofs.Names.{OneFinding, OneFound, OnePassingOver, Option, other_versions, PassedOver, PassesOver}
 use Rattle.dl_sections.proofs.Names.{Place, refl, Result, Row, RunFault, section_text, Some, Strings, Summary}
@@ -33,25 +33,25 @@ one_checking dialect limit bytes left left2 start start2 now now2 result result2
 -- ---- `dump`
 
 -- the section ends so, and the text is out
-pub dumped : (dialect : Dialect) (strings : Strings) (limit : ℕ) (bytes : List ℕ) (left start now : Option (List ℕ))
-    (result : Result Summary RunFault) → IsOfBytes result → Dumps dialect strings limit bytes left start now result
+pub dumped : (dialect : Dialect) (style : DumpStyle) (limit : ℕ) (bytes : List ℕ) (left start now : Option (List ℕ))
+    (result : Result Summary RunFault) → IsOfBytes result → Dumps dialect style limit bytes left start now result
     → (units : List (List ℕ)) × (b : List ℕ) × (back : List ℕ) × EndsAs dialect limit bytes left units b back result
-    × Appends start now (section_text dialect strings units b)
-dumped dialect strings limit bytes left start now (Err (fault.Write n)) of dumps = absurd of
-dumped dialect strings limit bytes left start now result of dumps = dumps
+    × Appends start now (section_text dialect style units b)
+dumped dialect style limit bytes left start now (Err (fault.Write n)) of dumps = absurd of
+dumped dialect style limit bytes left start now result of dumps = dumps
 
 pub one_dumping : OneDumping
-one_dumping dialect strings strings2 limit bytes left left2 start start2 now now2 result result2 of of2 dumps dumps2 =
-    let d = dumped dialect strings limit bytes left start now result of dumps in
-    let d2 = dumped dialect strings2 limit bytes left2 start2 now2 result2 of2 dumps2 in
+one_dumping dialect style style2 limit bytes left left2 start start2 now now2 result result2 of of2 dumps dumps2 =
+    let d = dumped dialect style limit bytes left start now result of dumps in
+    let d2 = dumped dialect style2 limit bytes left2 start2 now2 result2 of2 dumps2 in
     (one_end dialect limit bytes left left2 d.0 d2.0 d.1 d2.1 d.2 d2.2 result result2 of of2 d.3 d2.3).3
 
 pub one_dump : OneDump
-one_dump dialect strings limit bytes left left2 start start2 now now2 result result2 of of2 dumps dumps2 =
-    let d = dumped dialect strings limit bytes left start now result of dumps in
-    let d2 = dumped dialect strings limit bytes left2 start2 now2 result2 of2 dumps2 in
+one_dump dialect style limit bytes left left2 start start2 now now2 result result2 of of2 dumps dumps2 =
+    let d = dumped dialect style limit bytes left start now result of dumps in
+    let d2 = dumped dialect style limit bytes left2 start2 now2 result2 of2 dumps2 in
     let same = one_end dialect limit bytes left left2 d.0 d2.0 d.1 d2.1 d.2 d2.2 result result2 of of2 d.3 d2.3 in
-    (section_text dialect strings d.0 d.1, d.4, rw (same.0, same.1) d2.4)
+    (section_text dialect style d.0 d.1, d.4, rw (same.0, same.1) d2.4)
 
 -- ---- `passed_over`
 

@@ -181,20 +181,20 @@ more_is_told dialect limit bytes more left left2 units units2 b b2 back back2 re
 -- ---- what is written
 
 pub dump_is_front : DumpIsFront
-dump_is_front dialect strings limit bytes left left2 start start2 now now2 out result2 of2 (
+dump_is_front dialect style limit bytes left left2 start start2 now now2 out result2 of2 (
   units,
   b,
   back,
   begun,
   tells,
 ) dumps2 =
-    let d2 = dumped dialect strings limit bytes left2 start2 now2 result2 of2 dumps2 in
+    let d2 = dumped dialect style limit bytes left2 start2 now2 result2 of2 dumps2 in
     let more = begun_grows begun (ended dialect limit bytes left2 d2.0 d2.1 d2.2 result2 (of_bytes of2) d2.3) in
-    let text : section_text dialect strings d2.0 d2.1 ≡ section_text dialect strings units b
-    ++ visits_text strings more.0 =
-    rw more.1 (flat_map-append (visit_text strings) (section_visits dialect units b) more.0) in (
-      section_text dialect strings d2.0 d2.1,
-      rw text (TellsOut-more start now (section_text dialect strings units b) (visits_text strings more.0)
+    let text : section_text dialect style d2.0 d2.1 ≡ section_text dialect style units b
+    ++ visits_text style more.0 =
+    rw more.1 (flat_map-append (visit_text style) (section_visits dialect units b) more.0) in (
+      section_text dialect style d2.0 d2.1,
+      rw text (TellsOut-more start now (section_text dialect style units b) (visits_text style more.0)
           (fault.Write out) tells),
       d2.4,
     )

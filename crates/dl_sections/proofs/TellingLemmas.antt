@@ -5,7 +5,8 @@ use Rattle.std.specs.List.{AllByRecursion, concat}
 use Rattle.std.specs.Option.{option_map}
 use Rattle.dl_head.specs.declared.dialect.Dialect.{Dialect}
 use Rattle.dl_field.specs.HeaderData.{HeaderData}
-use Rattle.dl_head.specs.Header.{foreign_in, header_in}
+use Rattle.dl_head.specs.declared.header.HeaderLengths.{HeaderLengths}
+use Rattle.dl_head.specs.Header.{foreign_in, header_in, lengths_in}
 use Rattle.dl_head.proofs.HeaderLaws.{header_is_found}
 use Rattle.dl_rows.specs.declared.row.Row.{Row}
 use Rattle.dl_rows.specs.LineUnit.{IsUnit, rows_in, rows_later, unit_rows, ends_open, events_of}
@@ -13,7 +14,7 @@ use Rattle.dl_rows.proofs.ReaderLemmas.{foreign_no_header}
 use Rattle.dl_rows.proofs.UnitLengths.{foreign_of}
 use Rattle.dl_sections.specs.InMemory.{UnitTold, unit_told, units_told}
 use Rattle.dl_sections.specs.Section.{Visit, of_header, of_row, of_end, header_of}
-use Rattle.dl_sections.specs.Section.{event_visits, visits, open_visit, end_visits, unit_visits, units_visits}
+use Rattle.dl_sections.specs.Section.{event_visits, read_by, visits, open_visit, end_visits, unit_visits, units_visits}
 use Rattle.dl_sections.specs.Section.{section_visits}
 use Rattle.dl_sections.specs.Telling.{Heard, heard_after, with_visit}
 use Rattle.dl_sections.proofs.EventLemmas.{rows_visited}
@@ -45,22 +46,23 @@ has_either dialect u (inr (h, p, is)) known none =
 
 module _ (dialect : Dialect) (offset : ℕ) (heard : Heard) where
   -- what a version and a header tell, of which there is one
-  told_by : (version : Option ℕ) (parts : Option (HeaderData × List ℕ)) → ((v : ℕ) → version ≡ Some v → parts ≡ None)
+  told_by : (lengths : HeaderData → HeaderLengths) (version : Option ℕ) (parts : Option (HeaderData × List ℕ)) → ((v : ℕ) → version ≡ Some v → parts ≡ None)
       → (version ≡ None → parts ≡ None → ⊥)
-      → heard_after heard (flat_map (event_visits offset (option_map (λ p. p.0) parts))
+      → heard_after heard (flat_map (event_visits offset (read_by lengths parts))
       (events_of dialect.order version parts)) ≡ record {
         offset = offset;
         version = version;
         units = heard.units;
         rows = heard.rows ++ rows_later dialect.order parts;
       }
-  told_by (Some v) None only some = rw (append-nil heard.rows) refl
-  told_by (Some v) (Some p) only some = absurd (none_is_some (sym (only v refl)))
-  told_by None None only some = absurd (some refl refl)
-  told_by None (Some (h, program)) only some =
+  told_by lengths (Some v) None only some = rw (append-nil heard.rows) refl
+  told_by lengths (Some v) (Some p) only some = absurd (none_is_some (sym (only v refl)))
+  told_by lengths None None only some = absurd (some refl refl)
+  told_by lengths None (Some (h, program)) only some =
       let rows = rows_in dialect.order h.params program in
-      ap (heard_after (with_visit heard (of_header offset h))) (rows_visited offset (Some h) rows)
-      ∙ rows_heard (with_visit heard (of_header offset h)) rows
+      ap (heard_after (with_visit heard (of_header offset (lengths h) h)))
+      (rows_visited offset (read_by lengths (Some (h, program))) rows)
+      ∙ rows_heard (with_visit heard (of_header offset (lengths h) h)) rows
 
   -- a unit, once it is whole
   pub unit_heard : (u : List ℕ) → heard.rows ≡ [] → IsUnit dialect u → heard_after heard (unit_visits dialect offset u)
@@ -73,27 +75,27 @@ module _ (dialect : Dialect) (offset : ℕ) (heard : Heard) where
   unit_heard u none is =
       heard_after-append heard (visits dialect offset u) (end_visits dialect u)
       ∙ ap (λ (h : Heard). heard_after h (end_visits dialect u))
-      (told_by (foreign_in dialect u) (header_in dialect u) (foreign_no_header dialect u) (has_either dialect u is))
+      (told_by (lengths_in dialect u) (foreign_in dialect u) (header_in dialect u) (foreign_no_header dialect u) (has_either dialect u is))
       ∙ end_heard _ (ends_open (unit_rows dialect u)) (header_of dialect u)
       ∙ rw none refl
 
   -- the front of a unit
-  front_told : (version : Option ℕ) (parts : Option (HeaderData × List ℕ)) → ((v : ℕ) → version ≡ Some v → parts ≡ None)
+  front_told : (lengths : HeaderData → HeaderLengths) (version : Option ℕ) (parts : Option (HeaderData × List ℕ)) → ((v : ℕ) → version ≡ Some v → parts ≡ None)
       → (now : Heard)
-      → heard_after heard (flat_map (event_visits offset (option_map (λ p. p.0) parts))
+      → heard_after heard (flat_map (event_visits offset (read_by lengths parts))
       (events_of dialect.order version parts)) ≡ now
       → (now.units ≡ heard.units) × (now.rows ≡ heard.rows ++ rows_later dialect.order parts)
-  front_told (Some v) None only now is = rw (sym is) (refl, sym (append-nil heard.rows))
-  front_told (Some v) (Some p) only now is = absurd (none_is_some (sym (only v refl)))
-  front_told None None only now is = rw (sym is) (refl, sym (append-nil heard.rows))
-  front_told None (Some p) only now is =
-      let told = sym is ∙ told_by None (Some p) only (λ known none. none_is_some (sym none)) in
+  front_told lengths (Some v) None only now is = rw (sym is) (refl, sym (append-nil heard.rows))
+  front_told lengths (Some v) (Some p) only now is = absurd (none_is_some (sym (only v refl)))
+  front_told lengths None None only now is = rw (sym is) (refl, sym (append-nil heard.rows))
+  front_told lengths None (Some p) only now is =
+      let told = sym is ∙ told_by lengths None (Some p) only (λ known none. none_is_some (sym none)) in
       (ap (λ (h : Heard). h.units) told, ap (λ (h : Heard). h.rows) told)
 
   pub front_heard : (b : List ℕ) → ((heard_after heard (visits dialect offset b)).units ≡ heard.units)
       × ((heard_after heard (visits dialect offset b)).rows ≡ heard.rows ++ unit_rows dialect b)
   front_heard b =
-      front_told (foreign_in dialect b) (header_in dialect b) (foreign_no_header dialect b)
+      front_told (lengths_in dialect b) (foreign_in dialect b) (header_in dialect b) (foreign_no_header dialect b)
       (heard_after heard (visits dialect offset b)) refl
 
 module _ (dialect : Dialect) where

@@ -6,7 +6,6 @@ use Rattle.std.specs.Io.KnownBytes.{Appends, Keeps}
 use Rattle.dl_head.specs.declared.dialect.Dialect.{Dialect}
 use Rattle.dl_print.specs.Counts.{add}
 use Rattle.dl_print.specs.Text.{survey_line}
-use Rattle.dl_print.specs.ValueText.{Strings}
 use Rattle.dl_sections.specs.declared.around.Damage.{Damage}
 use Rattle.dl_sections.specs.declared.around.DamagedUnits.{DamagedUnits}
 use Rattle.dl_sections.specs.declared.around.Survey.{Survey}
@@ -14,7 +13,7 @@ use Rattle.dl_sections.specs.declared.fault.RunFault.{RunFault}
 use Rattle.dl_sections.specs.declared.fault.RunFault.TheVariants as fault
 use Rattle.dl_sections.specs.Around.{Block, Rest, IsCutTo, EndsAround, faults_of, visits_around}
 use Rattle.dl_sections.specs.RunOutput.{TellsOut}
-use Rattle.dl_sections.specs.SectionText.{visits_text}
+use Rattle.dl_sections.specs.SectionText.{DumpStyle, visits_text}
 
 -- how many units are damaged, as far as 64 bits hold it
 abbrev pub how_many : Option DamagedUnits → ℕ
@@ -38,15 +37,15 @@ ChecksAround dialect limit bytes left start now hears (Err f) =
     × Keeps start now × hears (faults_of blocks rest)
 
 -- the text of blocks, and of what follows them up to its fault
-abbrev pub text_around : Dialect → Strings → List Block → Rest → List ℕ
-text_around dialect strings blocks rest = visits_text strings (visits_around dialect blocks rest)
+abbrev pub text_around : Dialect → DumpStyle → List Block → Rest → List ℕ
+text_around dialect style blocks rest = visits_text style (visits_around dialect blocks rest)
 
 -- `dump_around`: the text of the units, of the damaged ones up to their faults
-abbrev pub DumpsAround : Dialect → Strings → (limit : ℕ) (bytes : List ℕ) (left start now : Option (List ℕ))
+abbrev pub DumpsAround : Dialect → DumpStyle → (limit : ℕ) (bytes : List ℕ) (left start now : Option (List ℕ))
     → (hears : List Damage → Type 0) → Result Survey RunFault → Type 0
-DumpsAround dialect strings limit bytes left start now hears (Err (fault.Write out)) =
+DumpsAround dialect style limit bytes left start now hears (Err (fault.Write out)) =
     (blocks : List Block) × (rest : Rest) × (others : List ℕ) × IsCutTo dialect (take limit bytes) blocks rest others
-    × TellsOut start now (text_around dialect strings blocks rest) (fault.Write out)
-DumpsAround dialect strings limit bytes left start now hears result =
+    × TellsOut start now (text_around dialect style blocks rest) (fault.Write out)
+DumpsAround dialect style limit bytes left start now hears result =
     (blocks : List Block) × (rest : Rest) × EndsAround dialect limit bytes left blocks rest result
-    × Appends start now (text_around dialect strings blocks rest) × hears (faults_of blocks rest)
+    × Appends start now (text_around dialect style blocks rest) × hears (faults_of blocks rest)

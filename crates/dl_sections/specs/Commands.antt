@@ -22,10 +22,11 @@ use Rattle.dl_emit.specs.WrittenUnit.{unit_of, refusal}
 use Rattle.dl_sections.specs.declared.fault.RunFault.{RunFault}
 use Rattle.dl_sections.specs.declared.fault.RunFault.TheVariants as fault
 use Rattle.dl_sections.specs.declared.options.Options.{Options}
+use Rattle.dl_sections.specs.declared.options.Detail.{Detail}
 use Rattle.dl_print.specs.declared.summary.Summary.{Summary}
 use Rattle.dl_sections.specs.RunOutput.{TellsOut}
 use Rattle.dl_sections.specs.Section.{HasUnits, HasBegun, RefusesCell, EndsAs, header_of, summary_of}
-use Rattle.dl_sections.specs.SectionText.{section_text}
+use Rattle.dl_sections.specs.SectionText.{DumpStyle, section_text}
 use Rattle.dl_print.specs.Text.{row_line, summary_line}
 use Rattle.dl_print.specs.ValueText.{Strings}
 use Rattle.dl_print.specs.HeaderText.{file_text}
@@ -34,6 +35,10 @@ use Rattle.dl_print.specs.HeaderText.{file_text}
 abbrev pub strings_in : Options → Strings
 strings_in options =
     record { line_strings = option_copied options.debug_line_str; strings = option_copied options.debug_str }
+
+-- what the options hand in, with what is shown besides
+abbrev pub style_in : Detail → Options → DumpStyle
+style_in detail options = record { detail = detail; strings = strings_in options }
 
 -- `check`: the line of the counts where the section is units to its end, else nothing
 abbrev pub Checks : Dialect → (limit : ℕ) (bytes : List ℕ) (left start now : Option (List ℕ)) → Result Summary RunFault
@@ -49,14 +54,14 @@ Checks dialect limit bytes left start now (Err f) =
     × Keeps start now
 
 -- `dump`: the text of the units, and of what follows them up to the fault
-abbrev pub Dumps : Dialect → Strings → (limit : ℕ) (bytes : List ℕ) (left start now : Option (List ℕ))
+abbrev pub Dumps : Dialect → DumpStyle → (limit : ℕ) (bytes : List ℕ) (left start now : Option (List ℕ))
     → Result Summary RunFault → Type 0
-Dumps dialect strings limit bytes left start now (Err (fault.Write out)) =
+Dumps dialect style limit bytes left start now (Err (fault.Write out)) =
     (units : List (List ℕ)) × (b : List ℕ) × (back : List ℕ) × HasBegun dialect (take limit bytes) units b back
-    × TellsOut start now (section_text dialect strings units b) (fault.Write out)
-Dumps dialect strings limit bytes left start now result =
+    × TellsOut start now (section_text dialect style units b) (fault.Write out)
+Dumps dialect style limit bytes left start now result =
     (units : List (List ℕ)) × (b : List ℕ) × (back : List ℕ) × EndsAs dialect limit bytes left units b back result
-    × Appends start now (section_text dialect strings units b)
+    × Appends start now (section_text dialect style units b)
 
 -- ---- `find`
 

@@ -23,7 +23,7 @@ use Rattle.dl_sections.specs.Visiting.{Story, header_told}
 -- the offset of the last unit with a header; offset: that before the visits
 abbrev pub offset_after : ℕ → List Visit → ℕ
 offset_after offset [] = offset
-offset_after offset (of_header n h ∷ visits) = offset_after n visits
+offset_after offset (of_header n l h ∷ visits) = offset_after n visits
 offset_after offset (visit ∷ visits) = offset_after offset visits
 
 -- how many rows visits tell
@@ -55,7 +55,7 @@ ended_as unit text offset (Some f) = stopped text (fault.Emit offset f)
 
 abbrev pub visited : Made → Order → Progress → Visit → Progress
 visited made order (stopped text f) visit = stopped text f
-visited made order (goes offset rows text) (of_header n h) = goes n [] text
+visited made order (goes offset rows text) (of_header n l h) = goes n [] text
 visited made order (goes offset rows text) (of_version n version) = stopped text (fault.ForeignUnit n)
 visited made order (goes offset rows text) (of_row r) = goes offset (rows ++ r ∷ []) text
 visited made order (goes offset rows text) of_open = goes offset rows text

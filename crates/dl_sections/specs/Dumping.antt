@@ -5,21 +5,24 @@ use Rattle.dl_sections.specs.declared.dumping.Dumper.{Dumper}
 use Rattle.dl_print.specs.Output.{HasPrinted}
 use Rattle.dl_sections.specs.DamageTold.{damages_told}
 use Rattle.dl_sections.specs.Section.{Visit}
-use Rattle.dl_sections.specs.SectionText.{visits_text}
+use Rattle.dl_sections.specs.SectionText.{DumpStyle, visits_text}
 use Rattle.dl_print.specs.ValueText.{strings_of}
 use Rattle.dl_sections.specs.Visiting.{Story}
 
--- the text of the visits is printed, with the same string sections, and damaged units are told
+abbrev pub style_of : {D : Type 0} → Dumper D → DumpStyle
+style_of d = record { detail = d.detail; strings = strings_of d.strings.now }
+
+-- the text of the visits is printed in the same style, and damaged units are told
 pub record HasDumped {D : Type 0} (hears : D → D → List Damage → Type 0) (first now : Dumper D)
     (start held : Option (List ℕ)) (visits : List Visit) : Type 0 where
-  pub strings : now.strings.now ≡ first.strings.now
+  pub style : style_of now ≡ style_of first
   pub damages : now.damages.ghost_name ≡ first.damages.ghost_name
   pub heard : hears first.damages.now now.damages.now (damages_told visits)
-  pub printed : HasPrinted start held (visits_text (strings_of first.strings.now) visits) now.printer.now
+  pub printed : HasPrinted start held (visits_text (style_of first) visits) now.printer.now
 
 abbrev pub dump_story : {D : Type 0} → (D → D → List Damage → Type 0) → Story (Dumper D)
 dump_story hears = record {
-  text = λ first visits. visits_text (strings_of first.strings.now) visits;
+  text = λ first visits. visits_text (style_of first) visits;
   tells = HasDumped hears;
   is_done = λ first now start held visits. ⊥;
   refuses = λ first visits fault. ⊥;

@@ -8,7 +8,8 @@ use Rattle.dl_head.specs.declared.dialect.Dialect.{Dialect}
 use Rattle.dl_table.specs.declared.fault.FaultKind.{FaultKind}
 use Rattle.dl_table.specs.declared.fault.FaultKind.TheVariants.{Truncated}
 use Rattle.dl_field.specs.HeaderData.{HeaderData}
-use Rattle.dl_head.specs.Header.{foreign_in, header_in}
+use Rattle.dl_head.specs.declared.header.HeaderLengths.{HeaderLengths}
+use Rattle.dl_head.specs.Header.{foreign_in, header_in, lengths_in}
 use Rattle.dl_head.specs.Reading.{RefusesCell as RefusesCellAt}
 use Rattle.dl_rows.specs.declared.row.Row.{Row}
 use Rattle.dl_rows.specs.declared.reader.Event.{Event}
@@ -85,7 +86,7 @@ EndsAs dialect limit bytes left units b back (Err other) = ⊥
 
 -- offset: that of the unit in its section
 pub data Visit : Type 0 where
-  of_header : (offset : ℕ) (h : HeaderData) → Visit
+  of_header : (offset : ℕ) (lengths : HeaderLengths) (h : HeaderData) → Visit
   of_version : (offset version : ℕ) → Visit
   of_row : (r : Row) → Visit
   -- the last row of a unit isn't an end row
@@ -99,19 +100,31 @@ pub data Visit : Type 0 where
 abbrev pub header_of : Dialect → List ℕ → Option HeaderData
 header_of dialect b = option_map (λ parts. parts.0) (header_in dialect b)
 
-abbrev pub header_visit : ℕ → Option HeaderData → List Visit
-header_visit offset None = []
-header_visit offset (Some h) = of_header offset h ∷ []
+-- a header, with how long it and its unit are
+pub record HeaderRead : Type 0 where
+  pub lengths : HeaderLengths
+  pub header : HeaderData
 
-abbrev pub event_visits : ℕ → Option HeaderData → Event → List Visit
-event_visits offset h event.Header = header_visit offset h
-event_visits offset h (event.Foreign version) = of_version offset version ∷ []
-event_visits offset h (event.Row r) = of_row r ∷ []
-event_visits offset h other = []
+abbrev pub read_by : (lengths : HeaderData → HeaderLengths) → Option (HeaderData × List ℕ) → Option HeaderRead
+read_by lengths parts = option_map (λ p. record { lengths = lengths p.0; header = p.0 }) parts
+
+-- the header that b begins with
+abbrev pub header_read : Dialect → List ℕ → Option HeaderRead
+header_read dialect b = read_by (lengths_in dialect b) (header_in dialect b)
+
+abbrev pub header_visit : ℕ → Option HeaderRead → List Visit
+header_visit offset None = []
+header_visit offset (Some read) = of_header offset read.lengths read.header ∷ []
+
+abbrev pub event_visits : ℕ → Option HeaderRead → Event → List Visit
+event_visits offset read event.Header = header_visit offset read
+event_visits offset read (event.Foreign version) = of_version offset version ∷ []
+event_visits offset read (event.Row r) = of_row r ∷ []
+event_visits offset read other = []
 
 -- of b, a unit at that offset or the front of one
 abbrev pub visits : Dialect → ℕ → List ℕ → List Visit
-visits dialect offset b = flat_map (event_visits offset (header_of dialect b)) (events dialect b)
+visits dialect offset b = flat_map (event_visits offset (header_read dialect b)) (events dialect b)
 
 abbrev pub open_visit : Bool → List Visit
 open_visit is_open = if is_open then of_open ∷ [] else []

@@ -16,6 +16,7 @@ use Rattle.dl_sections.specs.Commands.{Checks, Dumps, IsFound, Finds, Copies, Co
 use Rattle.dl_sections.specs.PassedOver.{PassesOver}
 use Rattle.dl_sections.specs.RunOutput.{TellsOut}
 use Rattle.dl_print.specs.ValueText.{Strings}
+use Rattle.dl_sections.specs.SectionText.{DumpStyle}
 use Rattle.dl_sections.specs.Section.{Visit, HasUnits, NoUnitBegins, EndsAs, section_visits}
 
 -- bytes are cut into units, up to bytes that no unit begins, in one way alone
@@ -86,28 +87,28 @@ OneFinding =
 -- what `dump` answers is settled by the bytes and the limit, whatever the string sections
 abbrev pub OneDumping : Type 0
 OneDumping =
-    (dialect : Dialect) (strings strings2 : Strings) (limit : ℕ) (bytes : List ℕ)
+    (dialect : Dialect) (style style2 : DumpStyle) (limit : ℕ) (bytes : List ℕ)
     (left left2 start start2 now now2 : Option (List ℕ)) (result result2 : Result Summary RunFault)
-    → IsOfBytes result → IsOfBytes result2 → Dumps dialect strings limit bytes left start now result
-    → Dumps dialect strings2 limit bytes left2 start2 now2 result2 → result ≡ result2
+    → IsOfBytes result → IsOfBytes result2 → Dumps dialect style limit bytes left start now result
+    → Dumps dialect style2 limit bytes left2 start2 now2 result2 → result ≡ result2
 
 -- with the string sections, so is the text that it writes
 abbrev pub OneDump : Type 0
 OneDump =
-    (dialect : Dialect) (strings : Strings) (limit : ℕ) (bytes : List ℕ)
+    (dialect : Dialect) (style : DumpStyle) (limit : ℕ) (bytes : List ℕ)
     (left left2 start start2 now now2 : Option (List ℕ)) (result result2 : Result Summary RunFault)
-    → IsOfBytes result → IsOfBytes result2 → Dumps dialect strings limit bytes left start now result
-    → Dumps dialect strings limit bytes left2 start2 now2 result2
+    → IsOfBytes result → IsOfBytes result2 → Dumps dialect style limit bytes left start now result
+    → Dumps dialect style limit bytes left2 start2 now2 result2
     → (text : List ℕ) × Appends start now text × Appends start2 now2 text
 
 -- what a failed write leaves of it is the first `out` bytes, not all
 abbrev pub DumpIsFront : Type 0
 DumpIsFront =
-    (dialect : Dialect) (strings : Strings) (limit : ℕ) (bytes : List ℕ)
+    (dialect : Dialect) (style : DumpStyle) (limit : ℕ) (bytes : List ℕ)
     (left left2 start start2 now now2 : Option (List ℕ)) (out : ℕ) (result2 : Result Summary RunFault)
     → IsOfBytes result2
-    → Dumps dialect strings limit bytes left start now (Err (fault.Write out))
-    → Dumps dialect strings limit bytes left2 start2 now2 result2
+    → Dumps dialect style limit bytes left start now (Err (fault.Write out))
+    → Dumps dialect style limit bytes left2 start2 now2 result2
     → (text : List ℕ) × TellsOut start now text (fault.Write out) × Appends start2 now2 text
 
 -- what `copy` answers is settled by the bytes and the limit

@@ -21,7 +21,7 @@ pub record Heard : Type 0 where
   pub rows : List Row
 
 abbrev pub with_visit : Heard → Visit → Heard
-with_visit heard (of_header n h) = record heard { offset = n; version = None }
+with_visit heard (of_header n l h) = record heard { offset = n; version = None }
 with_visit heard (of_version n version) = record heard { offset = n; version = Some version }
 with_visit heard (of_row r) = record heard { rows = heard.rows ++ r ∷ [] }
 with_visit heard of_open = heard

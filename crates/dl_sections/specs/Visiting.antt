@@ -63,7 +63,7 @@ GoesOn story first new start now visits flow.Stop = story.is_done first new star
 -- the header of the current unit, so far as visits tell it; header: that before the visits
 abbrev pub header_told : Option HeaderData → List Visit → Option HeaderData
 header_told header [] = header
-header_told header (of_header offset h ∷ visits) = header_told (Some h) visits
+header_told header (of_header offset l h ∷ visits) = header_told (Some h) visits
 header_told header (of_end h ∷ visits) = header_told None visits
 header_told header (of_damage offset kind ∷ visits) = header_told None visits
 header_told header (visit ∷ visits) = header_told header visits

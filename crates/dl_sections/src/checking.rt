@@ -13,7 +13,7 @@ use crate::fault::RunFault;
 use crate::options::{Options, SECTION_LIMIT};
 use crate::reporting::{DamageSink, NoneTold};
 use crate::section::{Visitor, read_units};
-use dl_head::Header;
+use dl_head::{Header, HeaderLengths};
 use dl_input::Source;
 use dl_output::Destination;
 use dl_print::{Printer, Summary};
@@ -31,7 +31,13 @@ impl<W: Destination, D: DamageSink> Visitor<W> for Checker<'_, D> {
 
     ghost story = { check_story D.hears };
 
-    fn header(&mut self, _output: &mut W, _offset: u64, _header: &Header) -> Result<(), RunFault> {
+    fn header(
+        &mut self,
+        _output: &mut W,
+        _offset: u64,
+        _lengths: HeaderLengths,
+        _header: &Header,
+    ) -> Result<(), RunFault> {
         Ok(())
     }
 

@@ -20,7 +20,7 @@ use crate::options::{Options, SECTION_LIMIT};
 use crate::section::{Visitor, read_units};
 use dl_dirs::CompilationDirectories;
 use dl_emit::{EmitFault, Program, into_version_5_in};
-use dl_head::{Dialect, Header};
+use dl_head::{Dialect, Header, HeaderLengths};
 use dl_input::Source;
 use dl_memory::{Memory, NoMemory};
 use dl_num::Order;
@@ -122,7 +122,13 @@ impl<W: Destination, M: Memory> Visitor<W> for Copier<'_, '_, M> {
 
     ghost story = { copy_story M.refuses };
 
-    fn header(&mut self, _output: &mut W, offset: u64, header: &Header) -> Result<(), RunFault> {
+    fn header(
+        &mut self,
+        _output: &mut W,
+        offset: u64,
+        _lengths: HeaderLengths,
+        header: &Header,
+    ) -> Result<(), RunFault> {
         self.unit = offset;
         self.becomes.begin(&mut self.program, header);
         Ok(())

@@ -9,7 +9,7 @@ ghost use Rattle.dl_sections.specs.Commands.{Finds, strings_in};
 use crate::fault::RunFault;
 use crate::options::{Options, SECTION_LIMIT};
 use crate::section::{Visitor, read_units};
-use dl_head::Header;
+use dl_head::{Header, HeaderLengths};
 use dl_input::Source;
 use dl_look::{Finder, Place};
 use dl_output::Destination;
@@ -33,7 +33,13 @@ impl<W: Destination> Visitor<W> for Seeker<'_> {
 
     ghost story = { find_story };
 
-    fn header(&mut self, _output: &mut W, _offset: u64, _header: &Header) -> Result<(), RunFault> {
+    fn header(
+        &mut self,
+        _output: &mut W,
+        _offset: u64,
+        _lengths: HeaderLengths,
+        _header: &Header,
+    ) -> Result<(), RunFault> {
         Ok(())
     }
 

@@ -9,7 +9,7 @@ ghost use Rattle.dl_sections.specs.UnitsRead.{Before, UnitsAre};
 
 use crate::fault::RunFault;
 use crate::section::{SectionUnits, Visitor, work_through};
-use dl_head::{Dialect, FaultKind, Header};
+use dl_head::{Dialect, FaultKind, Header, HeaderLengths};
 use dl_output::Destination;
 use dl_print::Summary;
 use dl_rows::{Flow, Row};
@@ -92,7 +92,13 @@ impl<W: Destination, U: UnitSink> Visitor<W> for Telling<'_, U> {
 
     ghost story = { telling_story U.story };
 
-    fn header(&mut self, _output: &mut W, offset: u64, _header: &Header) -> Result<(), RunFault> {
+    fn header(
+        &mut self,
+        _output: &mut W,
+        offset: u64,
+        _lengths: HeaderLengths,
+        _header: &Header,
+    ) -> Result<(), RunFault> {
         self.offset = offset;
         self.version = None;
         Ok(())

@@ -17,3 +17,13 @@ pub struct Options<'a> {
     /// How many bytes the section may have, at most `SECTION_LIMIT`.
     pub limit: u64,
 }
+
+/// What `dump` prints besides units, their tables and rows.
+#[derive(Clone, Copy, Debug, PartialEq, Eq)]
+pub struct Detail {
+    /// The fields of each header. Section 6.2.4.
+    pub header: bool,
+}
+
+/// Nothing besides.
+pub const PLAIN: Detail = Detail { header: false };

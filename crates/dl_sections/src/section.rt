@@ -15,7 +15,7 @@ ghost use Rattle.dl_rows.specs.Reading.{IsPause};
 ghost use Rattle.dl_rows.specs.ReaderStands.{StandsFor};
 ghost use Rattle.dl_rows.specs.Runs.{Sound};
 ghost use Rattle.dl_print.specs.Counts.{add};
-ghost use Rattle.dl_sections.specs.Section.{Visit, NoUnitBegins, event_visits, header_of, open_visit, end_visits};
+ghost use Rattle.dl_sections.specs.Section.{Visit, NoUnitBegins, event_visits, header_of, header_read, open_visit, end_visits};
 ghost use Rattle.dl_sections.specs.Told.{FeedsTold};
 ghost use Rattle.dl_sections.specs.Visiting.{Hears, HearsEnd, Ran};
 ghost use Rattle.dl_sections.specs.UnitsRead.{Before, UnitsAre, UnitsFed, Worked, Finishes, counted, row_told, is_failed_write};
@@ -25,7 +25,7 @@ ghost use Rattle.dl_sections.specs.GoingOn.{BeginsAt};
 use crate::around::Damage;
 use crate::fault::RunFault;
 use crate::options::{Options, SECTION_LIMIT};
-use dl_head::{Dialect, Fault, Header};
+use dl_head::{Dialect, Fault, Header, HeaderLengths};
 use dl_input::{Input, Source};
 use dl_output::Destination;
 use dl_print::Summary;
@@ -47,10 +47,16 @@ pub trait Visitor<W: Destination> {
     /// What is said of the visitor and of what it prints.
     ghost story: { Story Self };
 
-    /// A unit at this offset of the section has this header.
-    fn header(&mut self, output: &mut W, offset: u64, header: &Header) -> Result<(), RunFault>
+    /// A unit at this offset of the section has this header; so long are the unit and the header.
+    fn header(
+        &mut self,
+        output: &mut W,
+        offset: u64,
+        lengths: HeaderLengths,
+        header: &Header,
+    ) -> Result<(), RunFault>
         ensures heard { Hears story self.old self.new (W.contents output.old) (W.contents output.new)
-            (of_header offset header.now ∷ []) result }
+            (of_header offset lengths header.now ∷ []) result }
         ensures blames_writer { BlamesWriter W.fails result };
 
     /// A unit at this offset of the section is of this version, which isn't 5.
@@ -243,13 +249,15 @@ impl SectionUnits {
         ensures counted { self.new ≡ counted event self.old }
         ensures heard { (b : List ℕ) → row_told event ≡ [] → StandsFor self.old.reader b
             → Hears V.story visitor.old visitor.new (W.contents output.old) (W.contents output.new)
-            (event_visits self.old.offset (header_of self.old.reader.dialect b) event) result }
+            (event_visits self.old.offset (header_read self.old.reader.dialect b) event) result }
         ensures blames_writer { BlamesWriter W.fails result }
     {
         match event {
-            Event::Header => match self.reader.header() {
-                Some(header) => visitor.header(output, self.offset, header),
-                None => Ok(()),
+            Event::Header => match (self.reader.lengths(), self.reader.header()) {
+                (Some(lengths), Some(header)) => {
+                    visitor.header(output, self.offset, lengths, header)
+                }
+                _ => Ok(()),
             },
             Event::Foreign(version) => {
                 self.is_foreign = true;

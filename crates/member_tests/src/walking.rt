@@ -38,6 +38,7 @@ const DUMP: Job<'static> = Job::Dump {
     line_str: None,
     strings: None,
     keep_going: true,
+    header: false,
 };
 
 /// How a walk ends.

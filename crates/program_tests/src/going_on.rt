@@ -101,6 +101,7 @@ fn job_of(checks: bool) -> Job<'static> {
         line_str: None,
         strings: None,
         keep_going: true,
+        header: false,
     }
 }
 

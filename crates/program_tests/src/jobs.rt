@@ -38,6 +38,7 @@ fn job_of(command: Command) -> Job<'static> {
             line_str: None,
             strings: None,
             keep_going: matches!(command, Command::DumpAround),
+            header: false,
         },
         Command::Check | Command::CheckAround => Job::Check {
             file,

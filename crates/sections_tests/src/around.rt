@@ -6,7 +6,7 @@ use crate::vectors::UNITS;
 use dl_head::{Dialect, FaultKind};
 use dl_num::Order;
 use dl_sections::{
-    Damage, DamageSink, Options, RunFault, SECTION_LIMIT, check_around, dump_around,
+    Damage, DamageSink, Options, PLAIN, RunFault, SECTION_LIMIT, check_around, dump_around,
 };
 use std::alloc::Global;
 use std::process::Abort;
@@ -217,6 +217,7 @@ fn assert_dumped(rt: &impl Abort, alloc: Global, case: &Case, section: &[u8]) ->
         &mut input,
         &mut output,
         &options(SECTION_LIMIT),
+        PLAIN,
         &mut hearer,
     );
     let mut wanted = Vec::new(alloc);

@@ -1,13 +1,14 @@
 //! Printing headers, and the entries of their tables. Section 6.2.4.
 ghost use Rattle.std.specs.Prelude.{◌≤◌, length};
 ghost use Rattle.dl_table.specs.EntryHeld.{entry_items};
-ghost use Rattle.dl_print.specs.HeaderText.{entry_line, file_text, header_text, table_text};
+ghost use Rattle.dl_print.specs.HeaderFields.{full_header_text};
+ghost use Rattle.dl_print.specs.HeaderText.{entry_line, file_text, header_text, table_text, tables_text};
 ghost use Rattle.dl_print.specs.Output.{BlamesWriter, Prints};
 ghost use Rattle.dl_print.specs.ValueText.{strings_of};
 
 use super::{Printer, StringSections};
 use crate::fault::WriteFault;
-use dl_head::{Entry, Header, Table};
+use dl_head::{Entry, Header, HeaderLengths, Table};
 use dl_output::Destination;
 
 impl Printer {
@@ -55,6 +56,22 @@ impl Printer {
         Ok(())
     }
 
+    /// Prints the entries of both tables of a header.
+    fn tables<W: Destination>(
+        &mut self,
+        output: &mut W,
+        strings: &StringSections<'_>,
+        header: &Header,
+    ) -> Result<(), WriteFault>
+        ensures printed { Prints (W.contents output.old) (W.contents output.new) self.old self.new
+            (tables_text (strings_of strings.now) header.now) result }
+        ensures blames { BlamesWriter W.fails result }
+    {
+        let first = header.first_number();
+        self.table(output, strings, b"dir ", first, header.directories())?;
+        self.table(output, strings, b"file ", first, header.files())
+    }
+
     /// Prints the lines of a header whose unit begins at `offset` of its section.
     pub fn header<W: Destination>(
         &mut self,
@@ -67,11 +84,27 @@ impl Printer {
             (header_text (strings_of strings.now) offset header.now) result }
         ensures blames { BlamesWriter W.fails result }
     {
-        let params = header.params();
-        let first = header.first_number();
-        self.unit(output, offset, params)?;
-        self.table(output, strings, b"dir ", first, header.directories())?;
-        self.table(output, strings, b"file ", first, header.files())
+        self.unit(output, offset, header.params())?;
+        self.tables(output, strings, header)
+    }
+
+    /// Prints the lines of a header whose unit begins at `offset` of its section, with those of its fields before
+    /// its tables.
+    pub fn full_header<W: Destination>(
+        &mut self,
+        output: &mut W,
+        strings: &StringSections<'_>,
+        offset: u64,
+        lengths: &HeaderLengths,
+        header: &Header,
+    ) -> Result<(), WriteFault>
+        ensures printed { Prints (W.contents output.old) (W.contents output.new) self.old self.new
+            (full_header_text (strings_of strings.now) offset lengths.now header.now) result }
+        ensures blames { BlamesWriter W.fails result }
+    {
+        self.unit(output, offset, header.params())?;
+        self.fields(output, lengths, header)?;
+        self.tables(output, strings, header)
     }
 
     /// Prints the line of the file of this number, or that there is none.

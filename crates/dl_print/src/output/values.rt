@@ -249,7 +249,7 @@ impl Printer {
     }
 
     /// Prints what stands before a value of that content code.
-    fn value_start<W: Destination>(
+    pub(crate) fn value_start<W: Destination>(
         &mut self,
         output: &mut W,
         content: u64,

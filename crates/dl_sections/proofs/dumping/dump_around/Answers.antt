@@ -15,18 +15,18 @@ returns g c =
         read.0,
         read.1,
         λ none. rw (← c.new-strings.ensures) (dumps_around _ _ _ _ _ _ _ _ _ _ (search) c.read_units_around.result
-            (read.2 (record { strings = refl; damages = refl; heard = none; printed = nothing }) (Appends-nil start))),
+            (read.2 (record { style = refl; damages = refl; heard = none; printed = nothing }) (Appends-nil start))),
       );
       blames = blames_where c.read_units_around.ensures.blames (λ e. (
         record {
-          tells = record { strings = refl; damages = refl; heard = e.0; printed = nothing };
+          tells = record { style = refl; damages = refl; heard = e.0; printed = nothing };
           out = Appends-nil start;
           never = λ visits no. no;
         },
         e.1,
       ));
       blames_writer = λ none. c.read_units_around.ensures.blames_writer
-          (record { strings = refl; damages = refl; heard = none; printed = nothing }) (Appends-nil start);
+          (record { style = refl; damages = refl; heard = none; printed = nothing }) (Appends-nil start);
       over = λ none. only_where (g.R.Source.over c.read_units_around.new.input) c.read_units_around.result (c.read_units_around.ensures.over
-          (record { strings = refl; damages = refl; heard = none; printed = nothing }) (Appends-nil start));
+          (record { style = refl; damages = refl; heard = none; printed = nothing }) (Appends-nil start));
     }

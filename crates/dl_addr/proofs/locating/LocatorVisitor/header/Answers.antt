@@ -9,5 +9,5 @@ returns-clause-heard g c first start visits s =
       unit =
           c.args.offset;
     }) start (g.W.Write.contents c.args._output.now) visits
-    (of_header c.args.offset c.args._header.now ∷ []) s
+    (of_header c.args.offset c.args._lengths c.args._header.now ∷ []) s
     (λ x n. refl) refl refl refl refl refl refl refl s.live refl refl (λ places units st. st) refl

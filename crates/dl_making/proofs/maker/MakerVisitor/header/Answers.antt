@@ -8,7 +8,7 @@ use Rattle.dl_making.proofs.maker.MakerVisitor.header.Goals as goal
 
 pub returns-clause-heard : goal.returns-clause-heard
 returns-clause-heard g c first start visits s =
-    let more = of_header c.args.offset c.args._header.now ∷ [] in
+    let more = of_header c.args.offset c.args._lengths c.args._header.now ∷ [] in
     goes_on first c.args.self.now (record c.args.self.now {
       unit =
           c.args.offset;

@@ -19,7 +19,7 @@ returns-in-CheckAround-clause-blames g c = c.check_around.ensures.blames
 
 pub returns-in-Dump-clause-blames : goal.returns-in-Dump-clause-blames
 returns-in-Dump-clause-blames g c =
-    blames_where c.dump.ensures.blames (λ e. whole_read c.dump.result (sym c.all_whole.ensures ∙ e.1))
+    blames_where c.dump_with.ensures.blames (λ e. whole_read c.dump_with.result (sym c.all_whole.ensures ∙ e.1))
 
 pub returns-in-Check-clause-blames : goal.returns-in-Check-clause-blames
 returns-in-Check-clause-blames g c =
@@ -63,7 +63,7 @@ returns-in-IndexUntilAround-clause-blames g c = blames_where c.write_index_until
 
 pub returns-in-Dump-clause-blames_writer : goal.returns-in-Dump-clause-blames_writer
 returns-in-Dump-clause-blames_writer g c none =
-    rw c.all_whole.ensures (whole_writer _ c.dump.result c.dump.ensures.blames_writer)
+    rw c.all_whole.ensures (whole_writer _ c.dump_with.result c.dump_with.ensures.blames_writer)
 
 pub returns-in-Check-clause-blames_writer : goal.returns-in-Check-clause-blames_writer
 returns-in-Check-clause-blames_writer g c none =
@@ -100,7 +100,7 @@ returns-in-AddrAround-clause-blames_writer g c none =
 
 pub returns-in-Dump-clause-over : goal.returns-in-Dump-clause-over
 returns-in-Dump-clause-over g c none =
-    whole_over (g.R.Source.over c.dump.new.input) c.args.self _ c.dump.result c.all_whole.result c.in-Dump.is c.all_whole.ensures (λ f no. no) c.dump.ensures.over
+    whole_over (g.R.Source.over c.dump_with.new.input) c.args.self _ c.dump_with.result c.all_whole.result c.in-Dump.is c.all_whole.ensures (λ f no. no) c.dump_with.ensures.over
 
 pub returns-in-Check-clause-over : goal.returns-in-Check-clause-over
 returns-in-Check-clause-over g c none =

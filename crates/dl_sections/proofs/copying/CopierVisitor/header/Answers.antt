@@ -8,5 +8,5 @@ returns-clause-heard g c first start visits s =
     let grown = c.begin.ensures c.args.offset in
     let none = none_yet c.begin.new.program _ _ grown in
     let h = c.args.header.now in
-    copies_on s new (g.W.Write.contents c.args._output.now) (of_header c.args.offset h) [] s.text refl refl grown.order_is
-    refl (omega (arith, none)) (grows_from visits c.args.offset h new _ grown) s.printed
+    copies_on s new (g.W.Write.contents c.args._output.now) (of_header c.args.offset c.args._lengths h) [] s.text refl refl grown.order_is
+    refl (omega (arith, none)) (grows_from visits c.args.offset c.args._lengths h new _ grown) s.printed

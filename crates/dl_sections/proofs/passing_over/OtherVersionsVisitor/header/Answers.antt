@@ -4,4 +4,4 @@ use Rattle.dl_sections.proofs.passing_over.OtherVersionsVisitor.header.Goals as 
 
 pub returns-clause-heard : goal.returns-clause-heard
 returns-clause-heard g c first start visits (kept, spans) =
-    (kept, rw (told-push visits (of_header c.args._offset c.args._header.now), append-nil) spans)
+    (kept, rw (told-push visits (of_header c.args._offset c.args._lengths c.args._header.now), append-nil) spans)

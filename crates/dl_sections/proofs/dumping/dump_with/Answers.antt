@@ -2,7 +2,7 @@ use Rattle.dl_sections.proofs.Names.{Appends-nil, HasPrinted-nothing, refl}
 use Rattle.dl_sections.proofs.DumpingLemmas.{dumps}
 use Rattle.dl_sections.proofs.BlameLemmas.{blames_where}
 use Rattle.dl_sections.proofs.EndLemmas.{only_over}
-use Rattle.dl_sections.proofs.dumping.dump.Goals as goal
+use Rattle.dl_sections.proofs.dumping.dump_with.Goals as goal
 
 pub returns : goal.returns
 returns g c =
@@ -10,19 +10,19 @@ returns g c =
     let read = c.read_units.ensures.ran in
     let nothing = HasPrinted-nothing start start c.new.result (Appends-nil start) c.new.ensures.nothing_pending
     c.new.ensures.nothing_out in
-    let ran = read.2 (record { strings = refl; damages = refl; heard = tt; printed = nothing }) (Appends-nil start) in
+    let ran = read.2 (record { style = refl; damages = refl; heard = tt; printed = nothing }) (Appends-nil start) in
     record {
       ran = (read.0, read.1, rw c.new-strings.ensures at (dumps _ _ _ _ _ _ _ _ _ _ ran));
       blames = blames_where c.read_units.ensures.blames (λ e. (
         record {
-          tells = record { strings = refl; damages = refl; heard = tt; printed = nothing };
+          tells = record { style = refl; damages = refl; heard = tt; printed = nothing };
           out = Appends-nil start;
           never = λ visits no. no;
         },
         e,
       ));
       blames_writer = c.read_units.ensures.blames_writer
-          (record { strings = refl; damages = refl; heard = tt; printed = nothing }) (Appends-nil start);
+          (record { style = refl; damages = refl; heard = tt; printed = nothing }) (Appends-nil start);
       over = only_over (g.R.Source.over c.read_units.new.input) c.read_units.result (c.read_units.ensures.over
-          (record { strings = refl; damages = refl; heard = tt; printed = nothing }) (Appends-nil start));
+          (record { style = refl; damages = refl; heard = tt; printed = nothing }) (Appends-nil start));
     }

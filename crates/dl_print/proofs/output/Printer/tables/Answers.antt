@@ -1,0 +1,20 @@
+use Rattle.std.proofs.Common.{codes}
+use Rattle.std.proofs.lemmas.Result.{err_from_is_err_and}
+use Rattle.dl_head.specs.Numbers.{first_number}
+use Rattle.dl_print.specs.HeaderText.{table_text}
+use Rattle.dl_print.specs.ValueText.{strings_of}
+use Rattle.dl_print.proofs.Outs.{TellsOut-front}
+use Rattle.dl_print.proofs.output.Printer.tables.Goals as goal
+
+pub returns-in_err-table-clause-printed : goal.returns-in_err-table-clause-printed
+returns-in_err-table-clause-printed g c = λ start text h.
+    let p = err_from_is_err_and c.from_residual.result c.from_residual.ensures.1 in
+    let s = strings_of c.args.strings.now in
+    let header = c.args.header.now in
+    let first = first_number header.params in
+    let directories = table_text s (codes "dir ") first header.directories in
+    let files = table_text s (codes "file ") first header.files in
+    let tells =
+    rw (c.first_number-first.ensures.value, c.directories.ensures) at
+    (c.in_err-table.ensures.printed start text h) in
+    rw (p.1, p.2) (TellsOut-front start _ text directories files _ tells)
