@@ -9,7 +9,6 @@ use Rattle.dl_sections.specs.declared.around.DamagedUnits.{DamagedUnits}
 use Rattle.dl_sections.specs.declared.around.Survey.{Survey}
 use Rattle.dl_sections.specs.declared.fault.RunFault.{RunFault}
 use Rattle.dl_sections.specs.declared.fault.RunFault.TheVariants as fault
-use Rattle.dl_sections.specs.Blaming as run
 use Rattle.dl_dialogue.specs.Faults as answers
 use Rattle.dl_dialogue.specs.declared.dialogue.Answered.{Answered}
 use Rattle.dl_dialogue.specs.declared.fault.AnswerFault.{AnswerFault}

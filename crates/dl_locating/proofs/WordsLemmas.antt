@@ -1,24 +1,26 @@
 -- The words of `addr`, which are texts after references.
 use Rattle.std.proofs.Common.{◌≡◌, Bor, ℕ, ◌+◌, Bool, false, true, List, [], ◌∷◌, ◌++◌, length, map, take, drop, arith}
-use Rattle.std.proofs.Common.{Option, Some, None, refl, sym, ap, ◌∙◌}
+use Rattle.std.proofs.Common.{Option, Some, None, Result, Ok, Err, refl, sym, ap, ◌∙◌, ◌≢◌}
 use Rattle.std.specs.Prelude.{◌<◌, if◌then◌else◌, is_some, not, option_to_list, slice_index_or}
 use Rattle.std.specs.Option.{option_map_or}
-use Rattle.std.proofs.lemmas.List.{drop_more, map-append, take-append-drop, take_more}
+use Rattle.std.proofs.lemmas.List.{drop_more, length-map, length-take-le, map-append, take-append-drop, take_more}
 use Rattle.std.proofs.lemmas.Option.{none-some}
 use Rattle.std.specs.List.{list_all}
+use Rattle.std.specs.Result.{is_err, OnErr}
 use Rattle.std.proofs.lemmas.List.Folds.{list_all-map}
 use Rattle.dl_cmd.specs.Address.{address_by}
 use Rattle.dl_cmd.specs.Job.{AddrTexts, Text}
+use Rattle.dl_memory.specs.Refusals.{IsRefused}
 use Rattle.dl_sections.specs.declared.fault.RunFault.TheVariants as fault
 use Rattle.dl_look.specs.declared.asked.Asked.{Asked}
 use Rattle.dl_program.specs.declared.stop.Stop.{Stop}
 use Rattle.dl_program.specs.declared.stop.Stop.TheVariants.{NotAddress, Run}
 use Rattle.dl_locating.specs.Locate.{AddressesStop, IsFirstOther, WordsStop, base_in, first_other}
 
-abbrev now : Bor (List ℕ) → List ℕ
+abbrev pub now : Bor (List ℕ) → List ℕ
 now s = s.now
 
-abbrev asked_by : (hex : Bool) → List ℕ → Asked
+abbrev pub asked_by : (hex : Bool) → List ℕ → Asked
 asked_by hex text = record { address = address_by hex text }
 
 mapped : (hex : Bool) (xs : List (Bor (List ℕ))) → map (λ s. asked_by hex (now s)) xs ≡ map (asked_by hex) (map now xs)
@@ -98,6 +100,27 @@ stops_at hex words i d within bad none =
 pub is_told : (found said : Option ℕ) (b e : Bool) → found ≡ said → is_some found ≡ not b → b ≡ e
     → is_some said ≡ not e
 is_told found said b e is tells sure = ap is_some (sym is) ∙ (tells ∙ ap not sure)
+
+-- no memory is had for one more of the addresses, which are no more than the words
+pub words_refused : {A E : Type 0} (refuses : ℕ → Type 0) (hex : Bool) (words : List (Bor (List ℕ))) (i : ℕ) (asked : List Asked)
+    (pushed : Result A E) → i < length words → asked ≡ map (λ s. asked_by hex (now s)) (take i words) → is_err pushed ≡ true
+    → OnErr pushed (refuses (length asked + 1)) → (map now words ≢ []) × IsRefused refuses (length (map now words))
+words_refused refuses hex words i asked (Ok a) within is failed refused = absurd cc
+words_refused refuses hex words i asked (Err e) within is failed refused =
+    let all = length-map words now in (
+      λ none. omega (arith, within, all, ap length none),
+      (
+        length asked + 1,
+        omega (
+          arith,
+          within,
+          all,
+          ap length is
+              ∙ (length-map (take i words) (λ s. asked_by hex (now s)) ∙ length-take-le i words (omega (arith, within))),
+        ),
+        refused,
+      ),
+    )
 
 -- ---- why the words stop
 
