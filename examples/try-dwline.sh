@@ -131,6 +131,71 @@ locates 0 "$series:5:1" gcc-powerpc/program 0x10000087
 locates 0 "/boxantrel/spare.c:4:31" gcc-mixed/program 0x401110
 locates 1 "??:0" clang-split/program 0x401000
 
+# Source lines: the first statement of each run of rows, by its address; the least line above one that has none, unless that is
+# to answer alone; and what doesn't match.
+# finds STATUS LINES WORD..: what `dwline lines WORD..` answers. Nothing is read of the input, and nothing is told.
+finds() {
+    wants "$1" "$2"$'\n' "" / lines "${@:3}"
+}
+finds 0 "0x0000000000401000 $series:8:5
+0x000000000040102e $series:8:33" $program series.c:8
+finds 0 "0x0000000000401000 $series:8:5
+0x000000000040102e $series:8:33
+0x0000000000401072 $range:12:5
+0x00000000004010e6 /boxantrel/grammar.y:70000:12" $program boxantrel/series.c:7 include/range.h:11 grammar.y:1
+finds 1 "??
+??
+0x0000000000401104 /boxantrel/main.c:29:5
+??
+??" $program --exact series.c:7 other/main.c:29 main.c:29 ange.h:12 main.c:30
+finds 1 "??" $program range.h:19
+finds 0 "0x0000000000401000 $series:8:23 prologue
+0x0000000000401020 $series:8:5
+0x000000000040115c $series:8:33
+0x00000000004011e0 $series:8:5
+0x0000000000401214 $series:8:33
+0x0000000000401228 $series:8:33" clang-O2/program --exact series.c:8
+wants 2 "" $'dwline: series.c is no PATH:LINE\n' / lines $program series.c:8 series.c
+wants 2 "" $'dwline: :8 is no PATH:LINE\n' / lines $program :8
+wants 2 "" "$not_understood" / lines --big $program series.c:8
+wants 2 "" "$not_understood" /dev/null lines - --section .text series.c:8
+wants 1 "??"$'\n' "" /dev/null lines - series.c:8
+wants 3 "" $'dwline: no/such/file: cannot open: No such file or directory (os error 2)\n' / lines no/such/file series.c:8
+
+# Source files, each once, in the order of bytes: with the rows and bytes of code that they have, with their MD5 sums, as objects.
+wants 0 "/boxantrel/grammar.y
+$range
+/boxantrel/main.c
+$series
+/boxantrel/series.h
+" "" / sources $program
+wants 0 "10 26 /boxantrel/grammar.y
+9 23 $range
+21 67 /boxantrel/main.c
+48 150 $series
+0 0 /boxantrel/series.h
+" "" / sources --rows $program
+wants 0 "- /boxantrel/./series.h
+- /boxantrel/grammar.y
+05046ab336138e772fb4bdefce3473d3 $range
+- /boxantrel/main.c
+2cf6691fde2e33903a2721dc62d26428 $series
+" "" / sources --md5 clang-O2/program
+wants 0 "" "" /dev/null sources
+wants 0 "/boxantrel/packed.c
+" "" operations/debug_line sources "${lines[@]}" "${others[@]}"
+wants 0 '{"path":"/boxantrel/packed.c"}
+' "" operations/debug_line sources --json "${lines[@]}" "${others[@]}"
+
+# The paths of rows of version 4 stand under the directory that .debug_info says.
+paths=$("$dwline" dump --paths gcc-dwarf4/program | sed -n 's/^row .* //p' | sort -u)
+if [ "$paths" = $'/boxantrel/grammar.y\n/boxantrel/include/range.h\n/boxantrel/main.c\n/boxantrel/series.c' ]; then
+    passed=$((passed + 1))
+else
+    failed=$((failed + 1))
+    echo "dwline dump --paths gcc-dwarf4/program: other paths: $paths" >&2
+fi
+
 # Units of versions 2 to 4, whose tables don't have the compilation directory: .debug_info does. What llvm-symbolizer says.
 locates 0 "/boxantrel/main.c:22:1" gcc-mixed/program 0x4010b0
 for folder in gcc-dwarf2 gcc-dwarf3; do
@@ -571,23 +636,23 @@ refuses() {
     fi
 }
 conflict="cannot be used with"
-for command in dump check "find 1" copy; do
+for command in dump check "find 1" copy sources; do
     refuses $command --big $file
     refuses $command $file --big
 done
-for command in dump "find 1"; do
+for command in dump "find 1" sources; do
     refuses $command --line-str operations/debug_line_str $file
     refuses $command $file --str operations/debug_str
 done
-for command in dump check "find 1" copy; do
+for command in dump check "find 1" copy sources; do
     refuses $command --older 8 $file
 done
-for command in dump check "find 1" addr; do
+for command in dump check "find 1" addr sources lines; do
     refuses $command --version-5 --address-size 4 $file
 done
 refuses addr --json -a $file 1
 refuses addr -a $file 1 --json
-for command in dump check "find 1" addr "index -o $work/none"; do
+for command in dump check "find 1" addr "index -o $work/none" sources lines; do
     refuses $command --no-follow --debug-dir a $file
 done
 refuses index --list --no-follow $file
@@ -595,10 +660,10 @@ refuses index --list --debug-dir a $file
 refuses check --files-from a --big
 refuses check --older 8 --files-from a
 conflict="unexpected argument"
-for command in dump "find 1" copy; do
+for command in dump "find 1" copy sources; do
     refuses $command $file $file
 done
-for command in dump "find 1" "addr -" copy; do
+for command in dump "find 1" "addr -" copy sources "lines - a:1"; do
     for word in --files-from=a -0 --progress; do
         refuses $command $word
     done
@@ -615,15 +680,21 @@ refuses find -j .text --big 0x10
 refuses dump --version-5 --older 8
 refuses copy --older 8
 refuses copy --comp-dir / $file
+refuses dump --comp-dir / $file
 refuses copy --address-size 8 $file
 refuses copy --to-5 --address-size 8
-for command in dump check "find 1"; do
+refuses sources --version-5
+refuses sources --address-size 8
+refuses sources --all
+refuses lines $file
+refuses lines --exact -
+for command in dump check "find 1" sources; do
     refuses $command --no-follow
     refuses $command --debug-dir a
 done
 refuses check -0
 refuses check --null $file
-for command in addr "addr -a" find; do
+for command in addr "addr -a" find lines; do
     refuses $command
 done
 # A word that isn't known, a number that is too large or too small, a value that is missing or given twice, and no word.
@@ -631,7 +702,9 @@ conflict="unrecognized subcommand"
 refuses walk
 conflict="unexpected argument"
 for command in "copy --str a" "check --str a" "dump --version" "find 1 --op -1" "find 1 --keep-going" "copy --keep-going" \
-    "addr --keep-going -" "check --header" "find 1 --header" "copy --header" "addr --header -" "index --header -o a b"; do
+    "addr --keep-going -" "check --header" "find 1 --header" "copy --header" "addr --header -" "index --header -o a b" \
+    "check --operations" "find 1 --paths" "copy --operations" "addr --paths -" "dump --rows" "sources --exact" \
+    "lines --json - a:1" "lines --keep-going - a:1"; do
     refuses $command
 done
 conflict="invalid value"
@@ -642,7 +715,11 @@ conflict="cannot be used multiple times"
 refuses addr -e a -e b
 refuses check --keep-going --keep-going
 refuses dump --header --header
+refuses dump --operations --operations
+refuses dump --paths --paths
 refuses addr --stop --stop -
+refuses sources --rows --rows
+refuses lines --exact --exact - a:1
 conflict="requires a subcommand"
 refuses
 

@@ -4,13 +4,59 @@ use clap::error::ErrorKind;
 use dl_cmd::{Job, Words, read_words};
 use std::test::Fail;
 
-/// A command line, whether units after a damaged one are read, and whether the fields of headers are printed.
-type Row = (&'static [&'static str], bool, bool);
+/// A command line, whether units after a damaged one are read, and whether the fields of headers, operations and paths are
+/// printed; and the compilation directory for these.
+type Row = (
+    &'static [&'static str],
+    bool,
+    bool,
+    bool,
+    bool,
+    Option<&'static str>,
+);
 
 const ROWS: &[Row] = &[
-    (&["dwline", "dump", "a"], false, false),
-    (&["dwline", "dump", "--keep-going"], true, false),
-    (&["dwline", "dump", "--header", "a"], false, true),
+    (&["dwline", "dump", "a"], false, false, false, false, None),
+    (
+        &["dwline", "dump", "--keep-going"],
+        true,
+        false,
+        false,
+        false,
+        None,
+    ),
+    (
+        &["dwline", "dump", "--header", "a"],
+        false,
+        true,
+        false,
+        false,
+        None,
+    ),
+    (
+        &["dwline", "dump", "--operations", "a"],
+        false,
+        false,
+        true,
+        false,
+        None,
+    ),
+    (
+        &["dwline", "dump", "a", "--paths"],
+        false,
+        false,
+        false,
+        true,
+        None,
+    ),
+    (
+        &["dwline", "dump", "--comp-dir=c", "--paths", "a"],
+        false,
+        false,
+        false,
+        true,
+        Some("c"),
+    ),
     (
         &[
             "dwline",
@@ -20,11 +66,17 @@ const ROWS: &[Row] = &[
             "--older",
             "8",
             "--keep-going",
+            "--paths",
             "--str",
             "s",
+            "--operations",
+            "--comp-dir=--paths",
         ],
         true,
         true,
+        true,
+        true,
+        Some("--paths"),
     ),
 ];
 
@@ -35,11 +87,18 @@ fn says(said: Option<&Words<'_>>, row: &Row) -> bool {
                 job: Job::Dump {
                     keep_going,
                     header,
+                    operations,
+                    paths,
+                    comp_dir,
                     ..
                 },
                 ..
             },
-        ) => (*keep_going, *header) == (row.1, row.2),
+        ) => {
+            (*keep_going, *header) == (row.1, row.2)
+                && (*operations, *paths) == (row.3, row.4)
+                && *comp_dir == row.5
+        }
         _ => false,
     }
 }
@@ -53,11 +112,39 @@ fn words_of_dump(rt: HostRuntime) -> Result<(), Fail> {
     Ok(())
 }
 
-/// Command lines that are refused: a word said twice, and with other commands.
+/// Command lines that are refused: a word said twice, a directory without paths, and words of other commands.
 const REFUSED: &[(&[&str], ErrorKind)] = &[
     (
         &["dwline", "dump", "--header", "a", "--header"],
         ErrorKind::ArgumentConflict,
+    ),
+    (
+        &["dwline", "dump", "--operations", "--operations"],
+        ErrorKind::ArgumentConflict,
+    ),
+    (
+        &["dwline", "dump", "--paths", "--paths", "a"],
+        ErrorKind::ArgumentConflict,
+    ),
+    (
+        &["dwline", "dump", "--comp-dir", "c", "a"],
+        ErrorKind::MissingRequiredArgument,
+    ),
+    (
+        &["dwline", "dump", "--operations", "--comp-dir", "c"],
+        ErrorKind::MissingRequiredArgument,
+    ),
+    (
+        &["dwline", "dump", "a", "--paths", "--comp-dir"],
+        ErrorKind::InvalidValue,
+    ),
+    (
+        &["dwline", "check", "--operations", "a"],
+        ErrorKind::UnknownArgument,
+    ),
+    (
+        &["dwline", "find", "--paths", "1", "a"],
+        ErrorKind::UnknownArgument,
     ),
     (
         &["dwline", "check", "--header", "a"],

@@ -130,6 +130,22 @@ const ROWS: &[Row] = &[
         false,
         false,
     ),
+    (
+        &["dwline", "sources", "a"],
+        Some("a"),
+        &[],
+        None,
+        false,
+        false,
+    ),
+    (
+        &["dwline", "lines", "a", "b:1", "c:2"],
+        Some("a"),
+        &[],
+        None,
+        false,
+        false,
+    ),
 ];
 
 fn first_file<'a>(job: &Job<'a>) -> Option<&'a str> {
@@ -140,6 +156,8 @@ fn first_file<'a>(job: &Job<'a>) -> Option<&'a str> {
         | Job::Copy { file, .. } => *file,
         Job::Addr(words) => words.file,
         Job::Index(words) => words.file,
+        Job::Sources(words) => words.file,
+        Job::Lines(words) => words.file,
     }
 }
 

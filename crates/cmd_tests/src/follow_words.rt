@@ -177,6 +177,14 @@ const MOVED: &[(&[&str], &[&str])] = &[
         &["dwline", "dump", "--header", "b"],
     ),
     (
+        &["dwline", "dump", "--operations", "a"],
+        &["dwline", "dump", "--operations", "b"],
+    ),
+    (
+        &["dwline", "dump", "--paths", "--comp-dir", "c", "a"],
+        &["dwline", "dump", "--paths", "--comp-dir", "c", "b"],
+    ),
+    (
         &["dwline", "check", "--address-size", "4", "a"],
         &["dwline", "check", "--address-size", "4", "b"],
     ),

@@ -16,6 +16,10 @@ mod index_words;
 #[cfg(test)]
 mod lines;
 #[cfg(test)]
+mod lines_words;
+#[cfg(test)]
 mod refusal;
+#[cfg(test)]
+mod sources_words;
 #[cfg(test)]
 mod words;

@@ -174,7 +174,10 @@ module _ {M : Type 0} (dialect : Dialect) (q : Question) (s : Strings) (first : 
     reads (Err (fault.Damage offset kind)) (blocks, rest, inr (others, is_cut, sound, stops)) =
         absurd (let e = (stopped _ blocks rest others is_cut stops).0 in cc)
     reads (Err fault.NotFound) (blocks, rest, inl (ends, settled)) = absurd ends
+    reads (Err fault.TwoSums) (blocks, rest, inl (ends, settled)) = absurd ends
     reads (Err fault.NotFound) (blocks, rest, inr (others, is_cut, sound, stops)) =
+        absurd (let e = (stopped _ blocks rest others is_cut stops).0 in cc)
+    reads (Err fault.TwoSums) (blocks, rest, inr (others, is_cut, sound, stops)) =
         absurd (let e = (stopped _ blocks rest others is_cut stops).0 in cc)
     reads (Err (fault.ForeignUnit unit)) (blocks, rest, inl (ends, settled)) = absurd ends
     reads (Err (fault.ForeignUnit unit)) (blocks, rest, inr (others, is_cut, sound, stops)) =
@@ -212,6 +215,7 @@ module _ {M : Type 0} (dialect : Dialect) (q : Question) (s : Strings) (first : 
         by fault.SectionTooLong r = (r.blocks, r.rest, r.ends, lines_out _ r all_found prints)
         by (fault.Damage offset kind) r = absurd r.ends
         by fault.NotFound r = absurd r.ends
+        by fault.TwoSums r = absurd r.ends
         by (fault.ForeignUnit unit) r = absurd r.ends
         by (fault.Emit unit e) r = absurd r.ends
 

@@ -21,7 +21,7 @@ use Rattle.dl_sections.proofs.VisitLemmas.{rows_after-append}
 use Rattle.dl_addr.specs.AroundCommands.{located_along, located_around, located_in_block}
 use Rattle.dl_addr.specs.Locating.{located_after}
 use Rattle.dl_addr.specs.Locations.{Located, located_from, located_in}
-use Rattle.dl_addr.proofs.EndLemmas.{any_mid, end_same, is_end, none_both, none_in, none_located, none_own, own}
+use Rattle.dl_addr.proofs.EndLemmas.{any_mid, end_same, is_end, none_both, none_located, none_visits_of, none_own, own}
 use Rattle.dl_addr.proofs.EndLemmas.{own_end}
 use Rattle.dl_addr.proofs.LocatedLemmas.{located_after-append, located_of_unit, rows_of_unit}
 
@@ -33,7 +33,7 @@ module _ (dialect : Dialect) where
 
   abbrev last_of : ℕ → Block → Visit
   last_of offset (whole u) = of_end (header_of dialect u)
-  last_of offset (damaged front back at kind) = of_damage (offset + at) kind
+  last_of offset (damaged front back at kind) = of_damage offset (offset + at) kind
 
   init_last : (offset : ℕ) (block : Block)
       → init_of offset block ++ last_of offset block ∷ [] ≡ block_visits dialect offset block
@@ -41,7 +41,7 @@ module _ (dialect : Dialect) where
   init_last offset (damaged front back at kind) = refl
 
   none_visits : (offset : ℕ) (b : List ℕ) → list_any is_end (visits dialect offset b) ≡ false
-  none_visits offset b = none_in offset (header_read dialect b) (events dialect b)
+  none_visits offset b = none_visits_of dialect offset b
 
   none_init : (offset : ℕ) (block : Block) → list_any is_end (init_of offset block) ≡ false
   none_init offset (whole u) = none_own dialect offset u
@@ -50,9 +50,9 @@ module _ (dialect : Dialect) where
   none_rest : (offset : ℕ) (rest : Rest) → list_any is_end (rest_visits dialect offset rest) ≡ false
   none_rest offset (begun b) = none_visits offset b
   none_rest offset (cut_off b) =
-      none_both (visits dialect offset b) (of_damage (offset + length b) Truncated ∷ []) (none_visits offset b) refl
+      none_both (visits dialect offset b) (of_damage offset (offset + length b) Truncated ∷ []) (none_visits offset b) refl
   none_rest offset (broken front back at kind) =
-      none_both (visits dialect offset front) (of_damage (offset + at) kind ∷ []) (none_visits offset front) refl
+      none_both (visits dialect offset front) (of_damage offset (offset + at) kind ∷ []) (none_visits offset front) refl
 
   -- ---- what is located in the visits of blocks
 
@@ -62,12 +62,12 @@ module _ (dialect : Dialect) where
     located_of_block n offset (whole u) = located_of_unit live x dialect n offset u
     located_of_block n offset (damaged front back at kind) =
         none_located dialect live x [] n (block_visits dialect offset (damaged front back at kind))
-        (none_both (visits dialect offset front) (of_damage (offset + at) kind ∷ []) (none_visits offset front) refl)
+        (none_both (visits dialect offset front) (of_damage offset (offset + at) kind ∷ []) (none_visits offset front) refl)
 
     rows_of_block : (offset : ℕ) (block : Block) → rows_after [] (block_visits dialect offset block) ≡ []
     rows_of_block offset (whole u) = rows_of_unit live x dialect offset u
     rows_of_block offset (damaged front back at kind) =
-        rows_after-append [] (visits dialect offset front) (of_damage (offset + at) kind ∷ [])
+        rows_after-append [] (visits dialect offset front) (of_damage offset (offset + at) kind ∷ [])
 
     after_block : (n offset : ℕ) (block : Block) (rest : List Visit)
         → located_after live x [] n (block_visits dialect offset block ++ rest)

@@ -9,7 +9,9 @@ use Rattle.dl_field.specs.HeaderData.{HeaderData}
 use Rattle.dl_rows.specs.declared.reader.Event.{Event}
 use Rattle.dl_rows.specs.declared.reader.Event.TheVariants as event
 use Rattle.dl_rows.specs.LineUnit.{ends_open, events, unit_rows}
-use Rattle.dl_sections.specs.Section.{header_read, HeaderRead, Visit, of_header, of_version, of_row, of_open, of_end, of_damage, header_of}
+use Rattle.std.proofs.Common.{map}
+use Rattle.dl_rows.specs.Items.{Item, a_byte, a_row, an_operation, unit_items}
+use Rattle.dl_sections.specs.Section.{header_read, HeaderRead, Visit, of_header, of_version, of_item, of_open, of_end, of_damage, header_of}
 use Rattle.dl_sections.specs.Section.{header_visit, event_visits, visits, open_visit, unit_visits, units_visits}
 use Rattle.dl_sections.specs.Section.{section_visits}
 use Rattle.dl_sections.specs.Copying.{offset_after}
@@ -36,10 +38,10 @@ pub none_both : (a b : List Visit) → list_any is_end a ≡ false → list_any 
 none_both [] b e e' = e'
 none_both (of_header n l h ∷ a) b e e' = none_both a b e e'
 none_both (of_version n v ∷ a) b e e' = none_both a b e e'
-none_both (of_row r ∷ a) b e e' = none_both a b e e'
+none_both (of_item item ∷ a) b e e' = none_both a b e e'
 none_both (of_open ∷ a) b e e' = none_both a b e e'
 none_both (of_end h ∷ a) b e e' = absurd (true≢false e)
-none_both (of_damage n k ∷ a) b e e' = none_both a b e e'
+none_both (of_damage unit n k ∷ a) b e e' = none_both a b e e'
 
 none_header : (offset : ℕ) (h : Option HeaderRead) → list_any is_end (header_visit offset h) ≡ false
 none_header offset None = refl
@@ -56,6 +58,16 @@ none_in offset h (event.Row r ∷ es) = none_in offset h es
 none_in offset h (event.NoMemory ∷ es) = none_in offset h es
 none_in offset h (event.End ∷ es) = none_in offset h es
 
+none_items : (items : List Item) → list_any is_end (map of_item items) ≡ false
+none_items [] = refl
+none_items (item ∷ items) = none_items items
+
+-- before its end a unit has none
+pub none_visits_of : (dialect : Dialect) (offset : ℕ) (u : List ℕ) → list_any is_end (visits dialect offset u) ≡ false
+none_visits_of dialect offset u =
+    none_both (flat_map (event_visits offset (header_read dialect u)) (events dialect u)) (map of_item (unit_items dialect u))
+    (none_in offset (header_read dialect u) (events dialect u)) (none_items (unit_items dialect u))
+
 none_open : (is_open : Bool) → list_any is_end (open_visit is_open) ≡ false
 none_open true = refl
 none_open false = refl
@@ -68,7 +80,7 @@ module _ (dialect : Dialect) where
   pub none_own : (offset : ℕ) (u : List ℕ) → list_any is_end (own offset u) ≡ false
   none_own offset u =
       none_both (visits dialect offset u) (open_visit (ends_open (unit_rows dialect u)))
-      (none_in offset (header_read dialect u) (events dialect u)) (none_open (ends_open (unit_rows dialect u)))
+      (none_visits_of dialect offset u) (none_open (ends_open (unit_rows dialect u)))
 
   pub own_end : (offset : ℕ) (u : List ℕ)
       → own offset u ++ of_end (header_of dialect u) ∷ [] ≡ unit_visits dialect offset u
@@ -95,10 +107,12 @@ module _ (dialect : Dialect) where
   none_located live x rows n [] e = refl
   none_located live x rows n (of_header m l h ∷ vs) e = none_located live x rows m vs e
   none_located live x rows n (of_version m v ∷ vs) e = none_located live x rows n vs e
-  none_located live x rows n (of_row r ∷ vs) e = none_located live x (rows ++ r ∷ []) n vs e
+  none_located live x rows n (of_item (a_byte m) ∷ vs) e = none_located live x rows n vs e
+  none_located live x rows n (of_item (an_operation header o) ∷ vs) e = none_located live x rows n vs e
+  none_located live x rows n (of_item (a_row header r) ∷ vs) e = none_located live x (rows ++ r ∷ []) n vs e
   none_located live x rows n (of_open ∷ vs) e = none_located live x rows n vs e
   none_located live x rows n (of_end h ∷ vs) e = absurd (true≢false e)
-  none_located live x rows n (of_damage m k ∷ vs) e = none_located live x [] n vs e
+  none_located live x rows n (of_damage unit m k ∷ vs) e = none_located live x [] n vs e
 
   after_unit : (live : ℕ → Bool) (x : Place) (n offset : ℕ) (u : List ℕ) (rest : List Visit)
       → located_after live x [] n (unit_visits dialect offset u ++ rest)
@@ -205,4 +219,4 @@ module _ (dialect : Dialect) where
       (more : List Visit) → section_visits dialect units b ≡ before ++ of_end h ∷ more → SplitsAt 0 n units before h
   splits_section n units b before h more e =
       splits 0 n units (visits dialect (length (concat units)) b) before h more
-      (none_in (length (concat units)) (header_read dialect b) (events dialect b)) e
+      (none_visits_of dialect (length (concat units)) b) e

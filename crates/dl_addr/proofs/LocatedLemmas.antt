@@ -20,9 +20,11 @@ use Rattle.dl_look.specs.Units.{answer_of_units}
 use Rattle.dl_look.proofs.LiveLemmas.{of_live_rows}
 use Rattle.dl_sections.specs.Copying.{offset_after}
 use Rattle.dl_sections.specs.RowsTold.{rows_after}
-use Rattle.dl_sections.specs.Section.{header_read, HeaderRead, read_by, Visit, of_header, of_version, of_row, of_open, of_end, of_damage, header_of}
+use Rattle.dl_sections.specs.Section.{header_read, HeaderRead, read_by, Visit, of_header, of_version, of_item, of_open, of_end, of_damage, header_of}
 use Rattle.dl_sections.specs.Section.{header_visit, event_visits, visits, open_visit, end_visits, unit_visits, units_visits}
 use Rattle.dl_sections.specs.Section.{section_visits}
+use Rattle.dl_rows.proofs.ItemLemmas.{items_are_these}
+use Rattle.dl_rows.specs.Items.{Item, a_byte, a_row, an_operation, items_in, items_later, rows_of_items, unit_items}
 use Rattle.dl_sections.proofs.EventLemmas.{rows_visited}
 use Rattle.dl_sections.proofs.Fronts.{or_assoc, or_none}
 use Rattle.dl_addr.specs.Locations.{Located, located, located_from, located_in}
@@ -34,10 +36,10 @@ pub offset_after-append : (n : ℕ) (a b : List Visit) → offset_after n (a ++ 
 offset_after-append n [] b = refl
 offset_after-append n (of_header m l h ∷ a) b = offset_after-append m a b
 offset_after-append n (of_version m v ∷ a) b = offset_after-append n a b
-offset_after-append n (of_row r ∷ a) b = offset_after-append n a b
+offset_after-append n (of_item item ∷ a) b = offset_after-append n a b
 offset_after-append n (of_open ∷ a) b = offset_after-append n a b
 offset_after-append n (of_end h ∷ a) b = offset_after-append n a b
-offset_after-append n (of_damage m k ∷ a) b = offset_after-append n a b
+offset_after-append n (of_damage unit m k ∷ a) b = offset_after-append n a b
 
 module _ (live : ℕ → Bool) where
   pub ended_rows-append : (rows : List Row) (a b : List Visit)
@@ -45,11 +47,13 @@ module _ (live : ℕ → Bool) where
   ended_rows-append rows [] b = refl
   ended_rows-append rows (of_header m l h ∷ a) b = ended_rows-append rows a b
   ended_rows-append rows (of_version m v ∷ a) b = ended_rows-append rows a b
-  ended_rows-append rows (of_row r ∷ a) b = ended_rows-append (rows ++ r ∷ []) a b
+  ended_rows-append rows (of_item (a_byte n) ∷ a) b = ended_rows-append rows a b
+  ended_rows-append rows (of_item (an_operation header o) ∷ a) b = ended_rows-append rows a b
+  ended_rows-append rows (of_item (a_row header r) ∷ a) b = ended_rows-append (rows ++ r ∷ []) a b
   ended_rows-append rows (of_open ∷ a) b = ended_rows-append rows a b
   ended_rows-append rows (of_end h ∷ a) b =
       ap (λ (l : List (List Row)). live_rows live rows ∷ l) (ended_rows-append [] a b)
-  ended_rows-append rows (of_damage m k ∷ a) b = ended_rows-append [] a b
+  ended_rows-append rows (of_damage unit m k ∷ a) b = ended_rows-append [] a b
 
   -- no rows are live where there are none
   pub no_live_rows : live_rows live [] ≡ []
@@ -65,13 +69,15 @@ module _ (live : ℕ → Bool) where
     located_after-append rows n [] b = refl
     located_after-append rows n (of_header m l h ∷ a) b = located_after-append rows m a b
     located_after-append rows n (of_version m v ∷ a) b = located_after-append rows n a b
-    located_after-append rows n (of_row r ∷ a) b = located_after-append (rows ++ r ∷ []) n a b
+    located_after-append rows n (of_item (a_byte m) ∷ a) b = located_after-append rows n a b
+    located_after-append rows n (of_item (an_operation header o) ∷ a) b = located_after-append rows n a b
+    located_after-append rows n (of_item (a_row header r) ∷ a) b = located_after-append (rows ++ r ∷ []) n a b
     located_after-append rows n (of_open ∷ a) b = located_after-append rows n a b
     located_after-append rows n (of_end h ∷ a) b =
         ap (option_or (located_under live x rows n h)) (located_after-append [] n a b)
         ∙ sym (or_assoc (located_under live x rows n h) (located_after live x [] n a)
         (located_after live x (rows_after [] a) (offset_after n a) b))
-    located_after-append rows n (of_damage m k ∷ a) b = located_after-append [] n a b
+    located_after-append rows n (of_damage unit m k ∷ a) b = located_after-append [] n a b
 
     row_of_or : (n : ℕ) (h : Option HeaderData) (a : Option Row) (tail : Option Located) (rest : Option Row)
         → rest ≡ option_map (λ (l : Located). l.row) tail
@@ -88,12 +94,14 @@ module _ (live : ℕ → Bool) where
     rows_located rows n [] = refl
     rows_located rows n (of_header m l h ∷ a) = rows_located rows m a
     rows_located rows n (of_version m v ∷ a) = rows_located rows n a
-    rows_located rows n (of_row r ∷ a) = rows_located (rows ++ r ∷ []) n a
+    rows_located rows n (of_item (a_byte m) ∷ a) = rows_located rows n a
+    rows_located rows n (of_item (an_operation header o) ∷ a) = rows_located rows n a
+    rows_located rows n (of_item (a_row header r) ∷ a) = rows_located (rows ++ r ∷ []) n a
     rows_located rows n (of_open ∷ a) = rows_located rows n a
     rows_located rows n (of_end h ∷ a) =
         row_of_or n h (answer (live_rows live rows) x) (located_after live x [] n a)
         (answer_of_units (ended_rows live [] a) x) (rows_located [] n a)
-    rows_located rows n (of_damage m k ∷ a) = rows_located [] n a
+    rows_located rows n (of_damage unit m k ∷ a) = rows_located [] n a
 
     -- ---- the units of a section
 
@@ -110,7 +118,7 @@ module _ (live : ℕ → Bool) where
     none_of_visits offset h rows n (event.Header ∷ es) =
         none_of_header offset h rows n (flat_map (event_visits offset h) es) (λ m. none_of_visits offset h rows m es)
     none_of_visits offset h rows n (event.Foreign v ∷ es) = none_of_visits offset h rows n es
-    none_of_visits offset h rows n (event.Row r ∷ es) = none_of_visits offset h (rows ++ r ∷ []) n es
+    none_of_visits offset h rows n (event.Row r ∷ es) = none_of_visits offset h rows n es
     none_of_visits offset h rows n (event.NoMemory ∷ es) = none_of_visits offset h rows n es
     none_of_visits offset h rows n (event.End ∷ es) = none_of_visits offset h rows n es
 
@@ -119,13 +127,23 @@ module _ (live : ℕ → Bool) where
     located_of_end rows n true h = or_none (located_under live x rows n h)
     located_of_end rows n false h = or_none (located_under live x rows n h)
 
-    located_of_rows : (begun rows : List Row) (n : ℕ) (more : List Visit)
-        → located_after live x begun n (map of_row rows ++ more) ≡ located_after live x (begun ++ rows) n more
-    located_of_rows begun [] n more =
+    located_of_items : (begun : List Row) (items : List Item) (n : ℕ) (more : List Visit)
+        → located_after live x begun n (map of_item items ++ more)
+        ≡ located_after live x (begun ++ rows_of_items items) n more
+    located_of_items begun [] n more =
         ap (λ (l : List Row). located_after live x l n more) (sym (Rattle.std.proofs.Common.append-nil begun))
-    located_of_rows begun (r ∷ rows) n more =
-        located_of_rows (begun ++ r ∷ []) rows n more
-        ∙ ap (λ (l : List Row). located_after live x l n more) (append_assoc begun (r ∷ []) rows)
+    located_of_items begun (a_byte m ∷ items) n more = located_of_items begun items n more
+    located_of_items begun (an_operation header o ∷ items) n more = located_of_items begun items n more
+    located_of_items begun (a_row header r ∷ items) n more =
+        located_of_items (begun ++ r ∷ []) items n more
+        ∙ ap (λ (l : List Row). located_after live x l n more) (append_assoc begun (r ∷ []) (rows_of_items items))
+
+    -- what the bytes of a program come to answers nothing before its end
+    none_of_items : (rows : List Row) (n : ℕ) (items : List Item) → located_after live x rows n (map of_item items) ≡ None
+    none_of_items rows n [] = refl
+    none_of_items rows n (a_byte m ∷ items) = none_of_items rows n items
+    none_of_items rows n (an_operation header o ∷ items) = none_of_items rows n items
+    none_of_items rows n (a_row header r ∷ items) = none_of_items (rows ++ r ∷ []) n items
 
     nothing_under : (n : ℕ) (h : Option HeaderData) → located_under live x [] n h ≡ None
     nothing_under n h =
@@ -134,8 +152,8 @@ module _ (live : ℕ → Bool) where
 
     of_unit : (dialect : Dialect) (n offset : ℕ) (is_open : Bool) (lengths : HeaderData → HeaderLengths)
         (version : Option ℕ) (parts : Option (HeaderData × List ℕ)) → ((v : ℕ) → version ≡ Some v → parts ≡ None)
-        → located_after live x [] n (flat_map (event_visits offset (read_by lengths parts))
-        (events_of dialect.order version parts) ++ (open_visit is_open ++ of_end (option_map (λ p. p.0) parts) ∷ []))
+        → located_after live x [] n ((flat_map (event_visits offset (read_by lengths parts))
+        (events_of dialect.order version parts) ++ map of_item (items_later dialect.order parts)) ++ (open_visit is_open ++ of_end (option_map (λ p. p.0) parts) ∷ []))
         ≡ located_under live x (rows_later dialect.order parts) offset (option_map (λ p. p.0) parts)
     of_unit dialect n offset is_open lengths (Some v) None only =
         located_of_end [] n is_open None ∙ nothing_under n None ∙ sym (nothing_under offset None)
@@ -145,9 +163,12 @@ module _ (live : ℕ → Bool) where
         located_of_end [] n is_open None ∙ nothing_under n None ∙ sym (nothing_under offset None)
     of_unit dialect n offset is_open lengths None (Some (h, program)) only =
         let rows = rows_in dialect.order h.params program in
+        let items = items_in dialect.order h program in
         let end = open_visit is_open ++ of_end (Some h) ∷ [] in
-        ap (λ (l : List Visit). located_after live x [] offset (l ++ end)) (rows_visited offset (read_by lengths (Some (h, program))) rows)
-        ∙ located_of_rows [] rows offset end
+        ap (λ (l : List Visit). located_after live x [] offset ((l ++ map of_item items) ++ end))
+        (rows_visited offset (read_by lengths (Some (h, program))) rows)
+        ∙ located_of_items [] items offset end
+        ∙ ap (λ (l : List Row). located_after live x l offset end) (items_are_these dialect.order h program).2
         ∙ located_of_end rows offset is_open (Some h)
 
     pub located_of_unit : (dialect : Dialect) (n offset : ℕ) (u : List ℕ)
@@ -183,9 +204,18 @@ module _ (live : ℕ → Bool) where
         ∙ ap₂ option_or (located_of_unit dialect n offset u)
         (located_of_units dialect (offset_after n own) (offset + length u) units more none)
 
+    -- before its end a unit answers nothing
+    none_of_front : (dialect : Dialect) (offset m : ℕ) (b : List ℕ)
+        → located_after live x [] m (visits dialect offset b) ≡ None
+    none_of_front dialect offset m b =
+        let opened = flat_map (event_visits offset (header_read dialect b)) (events dialect b) in
+        located_after-append [] m opened (map of_item (unit_items dialect b))
+        ∙ ap₂ option_or (none_of_visits offset (header_read dialect b) [] m (events dialect b))
+        (none_of_items (rows_after [] opened) (offset_after m opened) (unit_items dialect b))
+
     -- what is located in the visits of a section is what its units answer
     pub located_of_section : (dialect : Dialect) (n : ℕ) (units : List (List ℕ)) (b : List ℕ)
         → located_after live x [] n (section_visits dialect units b) ≡ located dialect live units x
     located_of_section dialect n units b =
         located_of_units dialect n 0 units (visits dialect (length (concat units)) b)
-        (λ m. none_of_visits (length (concat units)) (header_read dialect b) [] m (events dialect b))
+        (λ m. none_of_front dialect (length (concat units)) m b)

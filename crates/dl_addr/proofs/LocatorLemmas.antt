@@ -108,17 +108,17 @@ module _ {M : Type 0} (first old new : Locator M) (start held : Option (List ℕ
 
 -- the current unit is damaged
 pub forgets : {M : Type 0} (refuses : M → ℕ → Type 0) (old : Locator M) (finders : Finders) (told : LiveRows)
-    (damage : Damage)
+    (unit : ℕ) (damage : Damage)
     → ((places : List Place) (units : List (List Row)) (rows : List Row) → Stand old.finders places units rows
     → Stand finders places units [])
     → ((live : ℕ → Bool) → Tells told live [])
     → answered_count finders ≡ answered_count old.finders
-    → IsTold (locate_story refuses) old (record old { finders = finders; live = told }) damage
-forgets refuses old finders told damage forgot tells answers = record {
+    → IsTold (locate_story refuses) old (record old { finders = finders; live = told }) unit damage
+forgets refuses old finders told unit damage forgot tells answers = record {
   tells = λ first start now visits s. (
       let live = code_of first in
       goes_on first old (record old { finders = finders; live = told }) start now visits
-      (of_damage damage.offset damage.kind ∷ []) s (λ x n. refl) refl refl refl refl refl refl refl (tells live) refl refl
+      (of_damage unit damage.offset damage.kind ∷ []) s (λ x n. refl) refl refl refl refl refl refl refl (tells live) refl refl
       (λ places units st. stand_same finders places units units [] (live_rows live []) refl (sym (no_live_rows live))
       (forgot places units (live_rows live (rows_after [] visits)) st)) answers);
   quiet = λ first visits. refl;

@@ -15,7 +15,8 @@ use Rattle.dl_sections.specs.declared.fault.RunFault.{RunFault}
 use Rattle.dl_sections.specs.declared.fault.RunFault.TheVariants.{NoMemory}
 use Rattle.dl_sections.specs.Copying.{offset_after}
 use Rattle.dl_sections.specs.RowsTold.{rows_after}
-use Rattle.dl_sections.specs.Section.{Visit, of_header, of_row, of_end, of_damage}
+use Rattle.dl_rows.specs.Items.{a_row}
+use Rattle.dl_sections.specs.Section.{Visit, of_header, of_item, of_end, of_damage}
 use Rattle.dl_sections.specs.Visiting.{Story}
 use Rattle.dl_addr.specs.declared.kept.PathUnit.{PathUnit}
 use Rattle.dl_addr.specs.declared.locating.Locator.{Locator}
@@ -31,9 +32,9 @@ use Rattle.dl_addr.specs.Texts.{IsKept, named, printed, unit_place}
 -- the live rows of the units that ended; those of a damaged one don't count
 abbrev pub ended_rows : (live : ℕ → Bool) → List Row → List Visit → List (List Row)
 ended_rows live rows [] = []
-ended_rows live rows (of_row r ∷ visits) = ended_rows live (rows ++ r ∷ []) visits
+ended_rows live rows (of_item (a_row header r) ∷ visits) = ended_rows live (rows ++ r ∷ []) visits
 ended_rows live rows (of_end h ∷ visits) = live_rows live rows ∷ ended_rows live [] visits
-ended_rows live rows (of_damage at kind ∷ visits) = ended_rows live [] visits
+ended_rows live rows (of_damage unit at kind ∷ visits) = ended_rows live [] visits
 ended_rows live rows (visit ∷ visits) = ended_rows live rows visits
 
 -- the answer of a unit
@@ -45,10 +46,10 @@ located_under live x rows offset h =
 abbrev pub located_after : (live : ℕ → Bool) → Place → List Row → (offset : ℕ) → List Visit → Option Located
 located_after live x rows offset [] = None
 located_after live x rows offset (of_header n l h ∷ visits) = located_after live x rows n visits
-located_after live x rows offset (of_row r ∷ visits) = located_after live x (rows ++ r ∷ []) offset visits
+located_after live x rows offset (of_item (a_row header r) ∷ visits) = located_after live x (rows ++ r ∷ []) offset visits
 located_after live x rows offset (of_end h ∷ visits) =
     option_or (located_under live x rows offset h) (located_after live x [] offset visits)
-located_after live x rows offset (of_damage at kind ∷ visits) = located_after live x [] offset visits
+located_after live x rows offset (of_damage unit at kind ∷ visits) = located_after live x [] offset visits
 located_after live x rows offset (visit ∷ visits) = located_after live x rows offset visits
 
 -- ---- the locator

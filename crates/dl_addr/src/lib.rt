@@ -16,6 +16,7 @@ mod texts;
 pub use answering::{addr, addr_around};
 pub use dl_dirs::CompilationDirectories;
 pub use dl_look::Asked;
+pub use locating::is_code;
 pub use location::{Location, print_location};
 pub use question::{FoundAround, Question, WhichFound};
 pub use style::{AnswerForm, Style};

@@ -14,8 +14,8 @@ use dl_look::{CodeRanges, Finders, LiveRows, Place};
 use dl_memory::{Memory, NoMemory};
 use dl_output::Destination;
 use dl_path::{beside_table, has_directory_0, is_whole_path};
-use dl_print::StringSections;
-use dl_rows::{Flow, Row};
+use dl_print::{StringSections, WriteFault};
+use dl_rows::{Flow, Operation, Row};
 use dl_sections::{AroundDamage, Damage, RunFault, Visitor};
 
 /// Looks places up in the rows of live sequences, unit by unit, and keeps the paths of those that it finds.
@@ -58,7 +58,22 @@ impl<W: Destination, M: Memory> Visitor<W> for Locator<'_, '_, '_, M> {
     }
 
     #[inline(always)]
-    fn row(&mut self, _output: &mut W, row: &Row) -> Result<(), RunFault> {
+    fn bytes(&mut self, _output: &mut W, _bytes: &[u8]) -> Result<(), WriteFault> {
+        Ok(())
+    }
+
+    #[inline(always)]
+    fn operation(
+        &mut self,
+        _output: &mut W,
+        _header: &Header,
+        _operation: Operation,
+    ) -> Result<(), WriteFault> {
+        Ok(())
+    }
+
+    #[inline(always)]
+    fn row(&mut self, _output: &mut W, _header: &Header, row: &Row) -> Result<(), RunFault> {
         let is_live = self.begins_live(row.address);
         if self.live.takes(row, is_live) {
             self.finders.row(row);
@@ -87,7 +102,7 @@ impl<W: Destination, M: Memory> Visitor<W> for Locator<'_, '_, '_, M> {
 }
 
 impl<W: Destination, M: Memory> AroundDamage<W> for Locator<'_, '_, '_, M> {
-    fn damaged(&mut self, _damage: Damage) {
+    fn damaged(&mut self, _unit: u64, _damage: Damage) {
         self.finders.forget_unit();
         self.live = LiveRows::new();
     }
@@ -114,7 +129,7 @@ pub struct Answer<'a, 's> {
 
 /// Whether there is code at an address, as far as it is known.
 #[inline(always)]
-fn is_code(code: Option<&CodeRanges>, address: u64) -> bool
+pub fn is_code(code: Option<&CodeRanges>, address: u64) -> bool
     ensures { result ≡ is_code (option_copied code.entry) address }
 {
     match code {

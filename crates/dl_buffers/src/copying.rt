@@ -56,6 +56,7 @@ pub fn copy<M: Memory>(
         Err(RunFault::SectionTooLong) => Status::NoMemory,
         Err(RunFault::Read) => unreachable!(),
         Err(RunFault::NotFound) => unreachable!(),
+        Err(RunFault::TwoSums) => unreachable!(),
     }
 }
 

@@ -12,9 +12,8 @@ use dl_buffers::{FaultRecord, Status};
 use dl_cmd::{IndexWords, UnitWords};
 use dl_held::{Held, Refusing};
 use dl_locating::index;
-use dl_making::SetMemory;
 use dl_memory::NoMemory;
-use dl_program::Stop;
+use dl_program::{MapMemory, Stop};
 use dl_sections::{RunFault, Survey};
 use std::marker::Brand;
 
@@ -47,7 +46,7 @@ fn words(all: bool, keep_going: bool) -> IndexWords<'static>
 }
 
 /// Makes the index of the ELF file that bytes are, as the program does.
-fn index_of_file<M: SetMemory>(
+fn index_of_file<M: MapMemory>(
     memory: &M,
     file: &[u8],
     all: bool,
@@ -68,7 +67,7 @@ struct Indexed<'a> {
 }
 
 /// The program over a file, with its output held in memory.
-fn index_in_memory<'a, M: SetMemory, K: Refusing>(
+fn index_in_memory<'a, M: MapMemory, K: Refusing>(
     memory: &M,
     words: &IndexWords<'a>,
     file: &[u8],
@@ -109,7 +108,7 @@ fn built_of<'a>(
 /// Done: the index stands in the room's first bytes, and how many these are is told. NoRoom: this alone is told. Fault: the
 /// fault is told; and where units are damaged that are gone around, the index too. NoMemory: also where the index would
 /// have 2^32 texts. What isn't told stays as it was.
-pub fn build_file<M: SetMemory>(
+pub fn build_file<M: MapMemory>(
     memory: &M,
     file: &[u8],
     all: bool,

@@ -145,23 +145,26 @@ no_help s names (word ∷ words) w asked none before =
 abbrev is_job : Text → Bool
 is_job name = is_some (request_of name [])
 
-chosen : {X : Type 0} (a b c d e f : Bool) (a' b' c' d' e' f' a'' b'' c'' d'' e'' f'' : X)
+chosen : {X : Type 0} (a b c d e f g h : Bool) (a' b' c' d' e' f' g' h' a'' b'' c'' d'' e'' f'' g'' h'' : X)
     → is_some (if a then Some a' else (if b then Some b' else (if c then Some c' else (if d then Some d' else
-    (if e then Some e' else (if f then Some f' else None))))))
+    (if e then Some e' else (if f then Some f' else (if g then Some g' else (if h then Some h' else None))))))))
     ≡ is_some (if a then Some a'' else (if b then Some b'' else (if c then Some c'' else (if d then Some d'' else
-    (if e then Some e'' else (if f then Some f'' else None))))))
-chosen true b c d e f a' b' c' d' e' f' a'' b'' c'' d'' e'' f'' = refl
-chosen false true c d e f a' b' c' d' e' f' a'' b'' c'' d'' e'' f'' = refl
-chosen false false true d e f a' b' c' d' e' f' a'' b'' c'' d'' e'' f'' = refl
-chosen false false false true e f a' b' c' d' e' f' a'' b'' c'' d'' e'' f'' = refl
-chosen false false false false true f a' b' c' d' e' f' a'' b'' c'' d'' e'' f'' = refl
-chosen false false false false false true a' b' c' d' e' f' a'' b'' c'' d'' e'' f'' = refl
-chosen false false false false false false a' b' c' d' e' f' a'' b'' c'' d'' e'' f'' = refl
+    (if e then Some e'' else (if f then Some f'' else (if g then Some g'' else (if h then Some h'' else None))))))))
+chosen true b c d e f g h a' b' c' d' e' f' g' h' a'' b'' c'' d'' e'' f'' g'' h'' = refl
+chosen false true c d e f g h a' b' c' d' e' f' g' h' a'' b'' c'' d'' e'' f'' g'' h'' = refl
+chosen false false true d e f g h a' b' c' d' e' f' g' h' a'' b'' c'' d'' e'' f'' g'' h'' = refl
+chosen false false false true e f g h a' b' c' d' e' f' g' h' a'' b'' c'' d'' e'' f'' g'' h'' = refl
+chosen false false false false true f g h a' b' c' d' e' f' g' h' a'' b'' c'' d'' e'' f'' g'' h'' = refl
+chosen false false false false false true g h a' b' c' d' e' f' g' h' a'' b'' c'' d'' e'' f'' g'' h'' = refl
+chosen false false false false false false true h a' b' c' d' e' f' g' h' a'' b'' c'' d'' e'' f'' g'' h'' = refl
+chosen false false false false false false false true a' b' c' d' e' f' g' h' a'' b'' c'' d'' e'' f'' g'' h'' = refl
+chosen false false false false false false false false a' b' c' d' e' f' g' h' a'' b'' c'' d'' e'' f'' g'' h'' = refl
 
 any_rows : (name : Text) (rows : List Row) → is_some (request_of name rows) ≡ is_job name
 any_rows name rows =
     chosen {X = Request} (bytes_eq name (codes "addr")) (bytes_eq name (codes "index")) (bytes_eq name (codes "dump"))
-    (bytes_eq name (codes "check")) (bytes_eq name (codes "find")) (bytes_eq name (codes "copy")) _ _ _ _ _ _ _ _ _ _ _ _
+    (bytes_eq name (codes "check")) (bytes_eq name (codes "find")) (bytes_eq name (codes "copy"))
+    (bytes_eq name (codes "sources")) (bytes_eq name (codes "lines")) _ _ _ _ _ _ _ _ _ _ _ _ _ _ _ _
 
 -- each of these subcommands asks for a job or is `help`
 abbrev is_known : Shape → Bool
@@ -349,25 +352,30 @@ refusal_by false false k is memory = absurd (no_kind k [] (sym is))
 pub refused_for_words : (w : WordTexts) (k : ErrorKind) → refusal_of w ≡ k ∷ [] → k ≡ OutOfMemory → ⊥
 refused_for_words w k = refusal_by (has_conflict w) (lacks_word w) k
 
--- what words say beside a job, as they stand
+-- what words say, as it stands
 said_rows : (name : Text) (rows : List Row) (w : WordTexts) (request : Option Request)
     → Some w ≡ option_map (λ r. record {
       request = r;
       follow = follow_said_of rows;
       files = files_words_of name rows;
     }) request
-    → (w.follow ≡ follow_said_of rows) × (w.files ≡ files_words_of name rows)
+    → (Some w.request ≡ request) × (w.follow ≡ follow_said_of rows) × (w.files ≡ files_words_of name rows)
 said_rows name rows w None is = absurd (none-some w (sym is))
 said_rows name rows w (Some r) is =
-    let same = ap (λ (o : Option WordTexts). unwrap_or o w) is in
-    (ap (λ (x : WordTexts). x.follow) same, ap (λ (x : WordTexts). x.files) same)
+    let same = ap (λ (o : Option WordTexts). unwrap_or o w) is in (
+      ap (λ (x : WordTexts). Some x.request) same,
+      ap (λ (x : WordTexts). x.follow) same,
+      ap (λ (x : WordTexts). x.files) same,
+    )
 
--- and with what the subcommand does by it
-pub beside_job : (name : Text) (rows : List Row) (w last : WordTexts) → Some w ≡ said_of name rows
+-- and with what the subcommand does by what is said of other files
+pub said_in_all : (name : Text) (rows : List Row) (w last : WordTexts) → Some w ≡ said_of name rows
     → last ≡ record w { follow = follow_by name w.follow }
-    → (last.follow ≡ follow_words_of name rows) × (last.files ≡ files_words_of name rows)
-beside_job name rows w last says is =
+    → (Some last.request ≡ request_of name rows) × (last.follow ≡ follow_words_of name rows)
+    × (last.files ≡ files_words_of name rows)
+said_in_all name rows w last says is =
     let rows_say = said_rows name rows w (request_of name rows) says in (
-      ap (λ (x : WordTexts). x.follow) is ∙ ap (follow_by name) rows_say.0,
-      ap (λ (x : WordTexts). x.files) is ∙ rows_say.1,
+      ap (λ (x : WordTexts). Some x.request) is ∙ rows_say.0,
+      ap (λ (x : WordTexts). x.follow) is ∙ ap (follow_by name) rows_say.1,
+      ap (λ (x : WordTexts). x.files) is ∙ rows_say.2,
     )

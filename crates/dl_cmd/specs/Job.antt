@@ -1,11 +1,13 @@
 -- What the words ask for, as a job.
 use Rattle.std.specs.Prelude.{ℕ, Bool, List, Option, Some, map, option_map}
 use Rattle.dl_cmd.specs.declared.job.Job.{Job}
-use Rattle.dl_cmd.specs.declared.job.Job.TheVariants.{Addr, Dump, Check, Find, Copy, Index}
+use Rattle.dl_cmd.specs.declared.job.Job.TheVariants.{Addr, Dump, Check, Find, Copy, Index, Lines, Sources}
 use Rattle.dl_cmd.specs.declared.job.AddrWords.{AddrWords}
 use Rattle.dl_cmd.specs.declared.job.FilesWords.{FilesWords}
 use Rattle.dl_cmd.specs.declared.job.FollowWords.{FollowWords}
 use Rattle.dl_cmd.specs.declared.job.IndexWords.{IndexWords}
+use Rattle.dl_cmd.specs.declared.job.LinesWords.{LinesWords}
+use Rattle.dl_cmd.specs.declared.job.SourcesWords.{SourcesWords}
 use Rattle.dl_cmd.specs.declared.job.UnitWords.{UnitWords}
 use Rattle.dl_cmd.specs.declared.job.Words.{Words}
 
@@ -49,6 +51,34 @@ pub record IndexTexts : Type 0 where
   pub units : UnitTexts
   pub comp_dir : Option Text
 
+-- the words of `sources`, by their texts
+pub record SourcesTexts : Type 0 where
+  pub file : Option Text
+  pub rows : Bool
+  pub md5 : Bool
+  pub json : Bool
+  pub all : Bool
+  pub keep_going : Bool
+  pub big : Bool
+  pub units : UnitTexts
+  pub comp_dir : Option Text
+  pub line_str : Option Text
+  pub strings : Option Text
+
+-- the words of `lines`, by their texts
+pub record LinesTexts : Type 0 where
+  pub file : Option Text
+  pub wanted : List Text
+  pub exact : Bool
+  pub all : Bool
+  pub stop : Bool
+  pub section : Option Text
+  pub big : Bool
+  pub units : UnitTexts
+  pub comp_dir : Option Text
+  pub line_str : Option Text
+  pub strings : Option Text
+
 -- where the line table of a file that has none is looked for, by the texts of its words
 pub record FollowTexts : Type 0 where
   pub debug_dirs : List Text
@@ -65,13 +95,15 @@ pub record FilesTexts : Type 0 where
 -- a job, by the texts of its words
 pub data Request : Type 0 where
   dump : (file : Option Text) (big : Bool) (units : UnitTexts) (line_str strings : Option Text)
-      (keep_going header : Bool) → Request
+      (keep_going header operations paths : Bool) (comp_dir : Option Text) → Request
   check : (file : Option Text) (big : Bool) (units : UnitTexts) (keep_going : Bool) → Request
   find : (file : Option Text) (big : Bool) (units : UnitTexts) (address : Option Text) (op : ℕ)
       (section line_str strings : Option Text) → Request
   copy : (file : Option Text) (big : Bool) (units : UnitTexts) (to_5 : Bool) (comp_dir : Option Text) → Request
   addr : AddrTexts → Request
   index : IndexTexts → Request
+  sources : SourcesTexts → Request
+  lines : LinesTexts → Request
 
 -- all that words say, by their texts
 pub record WordTexts : Type 0 where
@@ -81,14 +113,16 @@ pub record WordTexts : Type 0 where
 
 -- the same job over the file at this path
 abbrev pub with_file : Request → (path : Text) → Request
-with_file (dump file big units line_str strings keep_going header) path =
-    dump (Some path) big units line_str strings keep_going header
+with_file (dump file big units line_str strings keep_going header operations paths comp_dir) path =
+    dump (Some path) big units line_str strings keep_going header operations paths comp_dir
 with_file (check file big units keep_going) path = check (Some path) big units keep_going
 with_file (find file big units address op section line_str strings) path =
     find (Some path) big units address op section line_str strings
 with_file (copy file big units to_5 comp_dir) path = copy (Some path) big units to_5 comp_dir
 with_file (addr w) path = addr (record w { file = Some path })
 with_file (index w) path = index (record w { file = Some path })
+with_file (sources w) path = sources (record w { file = Some path })
+with_file (lines w) path = lines (record w { file = Some path })
 
 abbrev pub unit_words_made : UnitWords → UnitTexts
 unit_words_made w = record {
@@ -129,10 +163,40 @@ index_words_made w = record {
   comp_dir = option_map (λ s. s.now) w.comp_dir;
 }
 
+abbrev pub sources_words_made : SourcesWords → SourcesTexts
+sources_words_made w = record {
+  file = option_map (λ s. s.now) w.file;
+  rows = w.rows;
+  md5 = w.md5;
+  json = w.json;
+  all = w.all;
+  keep_going = w.keep_going;
+  big = w.big;
+  units = unit_words_made w.units;
+  comp_dir = option_map (λ s. s.now) w.comp_dir;
+  line_str = option_map (λ s. s.now) w.line_str;
+  strings = option_map (λ s. s.now) w.strings;
+}
+
+abbrev pub lines_words_made : LinesWords → LinesTexts
+lines_words_made w = record {
+  file = option_map (λ s. s.now) w.file;
+  wanted = map (λ s. s.now) w.wanted.items;
+  exact = w.exact;
+  all = w.all;
+  stop = w.stop;
+  section = option_map (λ s. s.now) w.section;
+  big = w.big;
+  units = unit_words_made w.units;
+  comp_dir = option_map (λ s. s.now) w.comp_dir;
+  line_str = option_map (λ s. s.now) w.line_str;
+  strings = option_map (λ s. s.now) w.strings;
+}
+
 abbrev pub request_made : Job → Request
-request_made (Dump file big units line_str strings keep_going header) =
+request_made (Dump file big units line_str strings keep_going header operations paths comp_dir) =
     dump (option_map (λ s. s.now) file) big (unit_words_made units) (option_map (λ s. s.now) line_str)
-    (option_map (λ s. s.now) strings) keep_going header
+    (option_map (λ s. s.now) strings) keep_going header operations paths (option_map (λ s. s.now) comp_dir)
 request_made (Check file big units keep_going) =
     check (option_map (λ s. s.now) file) big (unit_words_made units) keep_going
 request_made (Find file big units address op section line_str strings) =
@@ -142,6 +206,8 @@ request_made (Copy file big units to_5 comp_dir) =
     copy (option_map (λ s. s.now) file) big (unit_words_made units) to_5 (option_map (λ s. s.now) comp_dir)
 request_made (Addr w) = addr (addr_words_made w)
 request_made (Index w) = index (index_words_made w)
+request_made (Sources w) = sources (sources_words_made w)
+request_made (Lines w) = lines (lines_words_made w)
 
 abbrev pub follow_words_made : FollowWords → FollowTexts
 follow_words_made w = record {

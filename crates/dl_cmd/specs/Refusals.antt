@@ -6,7 +6,7 @@ use Rattle.clap.specs.Kinds.{Kinds, or_else}
 use Rattle.clap.specs.declared.error.kind.ErrorKind.TheVariants.{ArgumentConflict, MissingRequiredArgument}
 use Rattle.dl_options.specs.CommandLine.{command_line}
 use Rattle.dl_cmd.specs.Job.{FilesTexts, FollowTexts, IndexTexts, Request, Text, UnitTexts, WordTexts, addr, check, copy, dump}
-use Rattle.dl_cmd.specs.Job.{find, index}
+use Rattle.dl_cmd.specs.Job.{find, index, lines, sources}
 use Rattle.dl_cmd.specs.Words.{said}
 
 -- `--version-5` beside `--address-size`, which is said of units of other versions
@@ -50,7 +50,7 @@ has_files file files = is_some file || is_some files.files_from
 
 -- words of a job stand together that may not
 abbrev pub job_conflicts : Request → FollowTexts → FilesTexts → Bool
-job_conflicts (dump file big units line_str strings keep_going header) follow files =
+job_conflicts (dump file big units line_str strings keep_going header operations paths comp_dir) follow files =
     says_two_versions units || (is_some file && (says_of_input big units || says_strings line_str strings))
 job_conflicts (check file big units keep_going) follow files =
     says_two_versions units || (has_files file files && says_of_input big units)
@@ -59,15 +59,19 @@ job_conflicts (find file big units address op section line_str strings) follow f
 job_conflicts (copy file big units to_5 comp_dir) follow files = is_some file && says_of_input big units
 job_conflicts (addr w) follow files = says_two_versions w.units || (w.json && w.with_addresses)
 job_conflicts (index w) follow files = says_two_versions w.units || (w.list && says_of_made w follow)
+job_conflicts (sources w) follow files =
+    says_two_versions w.units || (is_some w.file && (says_of_input w.big w.units || says_strings w.line_str w.strings))
+job_conflicts (lines w) follow files = says_two_versions w.units
 
 -- words stand together that may not
 abbrev pub has_conflict : WordTexts → Bool
 has_conflict w = says_both_follow w.follow || job_conflicts w.request w.follow w.files
 
--- a word of a job isn't there that has to be beside others: FILE, `--files-from`, `--to-5` or `--output`
+-- a word of a job isn't there that has to be beside others: FILE, PATH:LINE, `--paths`, `--files-from`, `--to-5` or
+-- `--output`
 abbrev pub job_lacks : Request → FollowTexts → FilesTexts → Bool
-job_lacks (dump file big units line_str strings keep_going header) follow files =
-    not (is_some file) && (says_of_file units || says_follow follow)
+job_lacks (dump file big units line_str strings keep_going header operations paths comp_dir) follow files =
+    (not (is_some file) && (says_of_file units || says_follow follow)) || (not paths && is_some comp_dir)
 job_lacks (check file big units keep_going) follow files =
     (not (has_files file files) && (says_of_file units || says_follow follow))
     || (files.null && not (is_some files.files_from))
@@ -78,6 +82,8 @@ job_lacks (copy file big units to_5 comp_dir) follow files =
     || (not to_5 && (is_some units.older || (is_some units.address_size || is_some comp_dir)))
 job_lacks (addr w) follow files = not (is_some w.file)
 job_lacks (index w) follow files = not w.list && not (is_some w.output)
+job_lacks (sources w) follow files = not (is_some w.file) && (says_of_file w.units || (says_follow follow || w.all))
+job_lacks (lines w) follow files = not (is_some w.file) || not (is_there w.wanted)
 
 abbrev pub lacks_word : WordTexts → Bool
 lacks_word w = job_lacks w.request w.follow w.files

@@ -36,6 +36,12 @@ pub enum Job<'a> {
         keep_going: bool,
         /// The fields of headers are printed.
         header: bool,
+        /// Each operation is printed before the row that it makes.
+        operations: bool,
+        /// The path of its file is printed at the end of each row.
+        paths: bool,
+        /// The compilation directory for these.
+        comp_dir: Option<&'a str>,
     },
     /// Count units, sequences and rows.
     Check {
@@ -72,6 +78,10 @@ pub enum Job<'a> {
     Addr(AddrWords<'a>),
     /// Make the index of a file, or list one.
     Index(IndexWords<'a>),
+    /// Print the source files.
+    Sources(SourcesWords<'a>),
+    /// Print the addresses of source lines.
+    Lines(LinesWords<'a>),
 }
 
 impl<'a> Job<'a> {
@@ -87,6 +97,8 @@ impl<'a> Job<'a> {
             Job::Copy { file, .. } => *file = Some(path),
             Job::Addr(words) => words.file = Some(path),
             Job::Index(words) => words.file = Some(path),
+            Job::Sources(words) => words.file = Some(path),
+            Job::Lines(words) => words.file = Some(path),
         }
         job
     }
@@ -172,6 +184,51 @@ pub struct AddrWords<'a> {
     pub comp_dir: Option<&'a str>,
     /// The path of the ELF file of which the index is made that is asked.
     pub made_of: Option<&'a str>,
+    pub line_str: Option<&'a str>,
+    pub strings: Option<&'a str>,
+}
+
+/// The words of `sources`.
+#[derive(Clone, Copy, Debug, PartialEq, Eq)]
+pub struct SourcesWords<'a> {
+    /// The path of the ELF file; None where the section comes on standard input.
+    pub file: Option<&'a str>,
+    /// How many rows name each path, and how many bytes of code they have, is told.
+    pub rows: bool,
+    /// The MD5 sums of each path are told.
+    pub md5: bool,
+    /// Each line is a JSON object.
+    pub json: bool,
+    /// Sequences that begin outside executable sections count too.
+    pub all: bool,
+    /// After a unit that is damaged the next one is read.
+    pub keep_going: bool,
+    pub big: bool,
+    pub units: UnitWords<'a>,
+    /// The compilation directory, in place of the one that the file says.
+    pub comp_dir: Option<&'a str>,
+    pub line_str: Option<&'a str>,
+    pub strings: Option<&'a str>,
+}
+
+/// The words of `lines`. A path `-` of an ELF file stands for a section on standard input.
+#[derive(Debug, Drop, PartialEq, Eq)]
+pub struct LinesWords<'a> {
+    pub file: Option<&'a str>,
+    /// The lines that are asked for, as PATH:LINE.
+    pub wanted: Vec<&'a str>,
+    /// A line answers alone for itself, and no line above it does.
+    pub exact: bool,
+    /// Sequences that begin outside executable sections count too.
+    pub all: bool,
+    /// After a unit that is damaged the next one isn't read.
+    pub stop: bool,
+    /// The name of the section of an object file that is looked into.
+    pub section: Option<&'a str>,
+    pub big: bool,
+    pub units: UnitWords<'a>,
+    /// The compilation directory, in place of the one that the file says.
+    pub comp_dir: Option<&'a str>,
     pub line_str: Option<&'a str>,
     pub strings: Option<&'a str>,
 }

@@ -4,10 +4,14 @@
 mod address;
 mod job;
 mod laws;
+mod matched;
 mod refusal;
+mod values;
 mod words;
 
 pub use address::{AddressText, read_address};
-pub use job::{AddrWords, FilesWords, FollowWords, IndexWords, Job, UnitWords, Words};
+pub use job::{
+    AddrWords, FilesWords, FollowWords, IndexWords, Job, LinesWords, SourcesWords, UnitWords, Words,
+};
 pub use laws::{faultless_words, file_excludes_input, refused_words, worked_words};
 pub use words::{read_words, word_status};

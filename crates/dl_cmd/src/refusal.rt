@@ -1,13 +1,13 @@
 //! Which words of a job may not stand together, and which have to be there beside others.
-ghost use Rattle.std.specs.Prelude.{◌≡◌, ◌&&◌, ◌∷◌, [], is_some, option_map};
+ghost use Rattle.std.specs.Prelude.{◌≡◌, ◌&&◌, ◌||◌, ◌∷◌, [], is_some, not, option_map};
 ghost use Rattle.std.specs.Option.{option_map_or};
-ghost use Rattle.dl_cmd.specs.Job.{files_words_made, follow_words_made, index_words_made, request_made, unit_words_made};
-ghost use Rattle.dl_cmd.specs.Job.{words_made};
+ghost use Rattle.dl_cmd.specs.Job.{files_words_made, follow_words_made, index_words_made, lines_words_made, request_made};
+ghost use Rattle.dl_cmd.specs.Job.{unit_words_made, words_made};
 ghost use Rattle.dl_cmd.specs.Refusals.{has_conflict, has_files, is_there, job_conflicts, job_lacks, lacks_word, refusal_of};
 ghost use Rattle.dl_cmd.specs.Refusals.{says_both_follow, says_follow, says_of_file, says_of_input, says_of_made};
 ghost use Rattle.dl_cmd.specs.Refusals.{says_strings, says_two_versions};
 
-use crate::job::{FilesWords, FollowWords, IndexWords, Job, UnitWords, Words};
+use crate::job::{FilesWords, FollowWords, IndexWords, Job, LinesWords, UnitWords, Words};
 use clap::error::ErrorKind;
 
 /// Why a job isn't done for its words.
@@ -20,7 +20,11 @@ pub struct Refusal {
 
 const NO_FILE: &str = "the following required arguments were not provided:\n  <FILE>";
 
+const NO_LINE: &str = "the following required arguments were not provided:\n  <PATH:LINE>...";
+
 const NO_LIST: &str = "the following required arguments were not provided:\n  --files-from <PATH>";
+
+const NO_PATHS: &str = "the following required arguments were not provided:\n  --paths";
 
 const NO_TO_5: &str = "the following required arguments were not provided:\n  --to-5";
 
@@ -91,6 +95,20 @@ fn of_strings(line_str: Option<&str>, strings: Option<&str>) -> Option<&'static 
     } else {
         None
     }
+}
+
+/// What is said of a section on standard input, or of its string sections, where FILE is read.
+fn beside_file(
+    file: Option<&str>,
+    big: bool,
+    units: &UnitWords<'_>,
+    line_str: Option<&str>,
+    strings: Option<&str>,
+) -> Option<&'static str>
+    ensures { is_some result ≡ (is_some file.entry && (says_of_input big (unit_words_made units.now)
+        || says_strings (option_map (λ s. s.now) line_str.entry) (option_map (λ s. s.now) strings.entry))) }
+{
+    file.and(of_input(big, units).or(of_strings(line_str, strings)))
 }
 
 /// Whether a folder is named.
@@ -180,10 +198,7 @@ fn job_conflict(
             line_str,
             strings,
             ..
-        } => {
-            let beside_file = of_input(*big, units).or(of_strings(*line_str, *strings));
-            two_versions(units).or(file.and(beside_file))
-        }
+        } => two_versions(units).or(beside_file(*file, *big, units, *line_str, *strings)),
         Job::Check {
             file,
             big,
@@ -207,6 +222,14 @@ fn job_conflict(
             let listed = words.list.then_some(());
             two_versions(&words.units).or(listed.and(of_made(words, follow)))
         }
+        Job::Sources(words) => two_versions(&words.units).or(beside_file(
+            words.file,
+            words.big,
+            &words.units,
+            words.line_str,
+            words.strings,
+        )),
+        Job::Lines(words) => two_versions(&words.units),
     }
 }
 
@@ -223,14 +246,36 @@ fn is_of_file(units: &UnitWords<'_>) -> bool
     units.version_5 || units.address_size.is_some()
 }
 
+/// FILE or a line of `lines`, where there is none.
+fn lines_lack(words: &LinesWords<'_>) -> Option<&'static str>
+    ensures { is_some result ≡ (not (is_some (lines_words_made words.now).file)
+        || not (is_there (lines_words_made words.now).wanted)) }
+{
+    if words.file.is_none() {
+        return Some(NO_FILE);
+    }
+    match words.wanted.as_slice() {
+        [] => Some(NO_LINE),
+        [_, ..] => None,
+    }
+}
+
 /// A word of a job that has to be there beside others and isn't, as the user is told.
 fn job_lack(job: &Job<'_>, follow: &FollowWords<'_>, files: &FilesWords<'_>) -> Option<&'static str>
     ensures { is_some result ≡ job_lacks (request_made job.now) (follow_words_made follow.now) (files_words_made files.now) }
 {
     let follows = says_to_follow(follow);
     match job {
-        Job::Dump { file, units, .. } => {
-            (file.is_none() && (is_of_file(units) || follows)).then_some(NO_FILE)
+        Job::Dump {
+            file,
+            units,
+            paths,
+            comp_dir,
+            ..
+        } => {
+            let no_file = file.is_none() && (is_of_file(units) || follows);
+            let no_paths = !*paths && comp_dir.is_some();
+            no_file.then_some(NO_FILE).or(no_paths.then_some(NO_PATHS))
         }
         Job::Check { file, units, .. } => {
             let no_list = files.files_from.is_none();
@@ -262,6 +307,11 @@ fn job_lack(job: &Job<'_>, follow: &FollowWords<'_>, files: &FilesWords<'_>) -> 
         }
         Job::Addr(words) => words.file.is_none().then_some(NO_FILE),
         Job::Index(words) => (!words.list && words.output.is_none()).then_some(NO_OUTPUT),
+        Job::Sources(words) => {
+            let is_said = is_of_file(&words.units) || follows || words.all;
+            (words.file.is_none() && is_said).then_some(NO_FILE)
+        }
+        Job::Lines(words) => lines_lack(words),
     }
 }
 

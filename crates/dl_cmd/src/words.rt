@@ -1,204 +1,25 @@
 //! The words of the command line, and the job that they ask for.
 
-ghost use Rattle.std.specs.Prelude.{◌≡◌, [], Option, IfOk, IfSome, OnErr, codes, drop, is_some, map, option_map, true};
+ghost use Rattle.std.specs.Prelude.{◌≡◌, [], Option, IfOk, IfSome, OnErr, is_some, map, option_map, true};
 ghost use Rattle.std.specs.Option.{option_map_or};
 ghost use Rattle.clap.specs.Words.{FailsBy, found_of, kind_of, rows_of, subcommand_of};
 ghost use Rattle.dl_options.specs.CommandLine.{command_line};
-ghost use Rattle.dl_cmd.specs.Job.{addr_words_made, files_words_made, follow_words_made, index_words_made};
-ghost use Rattle.dl_cmd.specs.Job.{request_made, unit_words_made, words_made};
 ghost use Rattle.dl_options.specs.Memory.{WantsRefused, LibraryRefused};
+ghost use Rattle.dl_cmd.specs.Job.{files_words_made, follow_words_made, request_made, words_made};
 ghost use Rattle.dl_cmd.specs.Refusals.{refusal_of, word_faults};
-ghost use Rattle.dl_cmd.specs.Words.{addr_words_of, byte_of, dirs_or_default, file_and_addresses, files_words_of};
-ghost use Rattle.dl_cmd.specs.Words.{flag_of, follow_by, follow_said_of, follow_words_of, index_words_of, request_of};
-ghost use Rattle.dl_cmd.specs.Words.{requested, said_of, text_of, texts_of, unit_words_of, word_status_of};
+ghost use Rattle.dl_cmd.specs.Words.{dirs_or_default, files_words_of, follow_by, follow_words_of, request_of, requested};
+ghost use Rattle.dl_cmd.specs.Words.{said_of, word_status_of};
 
-use crate::job::{AddrWords, FilesWords, FollowWords, IndexWords, Job, UnitWords, Words};
+use crate::job::{FollowWords, Job, Words};
+use crate::matched::{files_words, follow_said, job_of};
 use crate::refusal::{Refusal, why_refused};
 use clap::error::ErrorKind;
 use clap::{ArgMatches, Command, Error};
 use dl_options::{make_command_line, refused};
 use std::alloc::{AllocError, Global};
 
-fn text<'a>(matches: &ArgMatches<'a>, id: &str) -> Option<&'a str>
-    ensures { option_map (λ s. s.now) result ≡ text_of id.now (rows_of (found_of matches.now)) }
-{
-    matches.get_str(id)
-}
-
-fn byte(matches: &ArgMatches<'_>, id: &str) -> u8
-    ensures { result ≡ byte_of id.now (rows_of (found_of matches.now)) }
-{
-    matches.get_one::<u8>(id).unwrap_or(0)
-}
-
-fn flag(matches: &ArgMatches<'_>, id: &str) -> bool
-    ensures { result ≡ flag_of id.now (rows_of (found_of matches.now)) }
-{
-    match matches.get_str(id) {
-        Some(text) => text == "true",
-        None => false,
-    }
-}
-
-fn copied<'a>(alloc: Global, texts: &[&'a str]) -> Result<Vec<&'a str>, AllocError>
-    ensures texts { IfOk result (λ v. v.items ≡ texts.now) }
-    ensures refused { OnErr result LibraryRefused }
-{
-    match texts.to_vec(alloc) {
-        Ok(copied) => Ok(copied),
-        Err(error) => Err(refused(error)),
-    }
-}
-
-fn texts<'a>(alloc: Global, matches: &ArgMatches<'a>, id: &str) -> Result<Vec<&'a str>, AllocError>
-    ensures texts { IfOk result (λ v. map (λ s. s.now) v.items ≡ texts_of id.now (rows_of (found_of matches.now))) }
-    ensures refused { OnErr result LibraryRefused }
-{
-    match matches.get_strs(id) {
-        Some(found) => copied(alloc, found),
-        None => Ok(Vec::new(alloc)),
-    }
-}
-
-/// The file and the addresses of `addr`, by the value of `-e`, the first word and the others.
-fn file_and_addresses<'a>(
-    exe: Option<&'a str>,
-    first: Option<&'a str>,
-    others: Vec<&'a str>,
-) -> Result<(Option<&'a str>, Vec<&'a str>), AllocError>
-    ensures words { IfOk result (λ r. (option_map (λ s. s.now) r.0, map (λ s. s.now) r.1.items)
-        ≡ file_and_addresses (option_map (λ s. s.now) exe.entry) (option_map (λ s. s.now) first.entry)
-        (map (λ s. s.now) others.entry.items)) }
-    ensures refused { OnErr result LibraryRefused }
-{
-    let (Some(exe), Some(first)) = (exe, first) else {
-        return Ok((exe.or(first), others));
-    };
-    let mut addresses = others;
-    match addresses.insert(0, first) {
-        Ok(()) => Ok((Some(exe), addresses)),
-        Err(error) => Err(refused(error.into())),
-    }
-}
-
-fn unit_words<'a>(matches: &ArgMatches<'a>) -> UnitWords<'a>
-    ensures { unit_words_made result ≡ unit_words_of (rows_of (found_of matches.now)) }
-{
-    UnitWords {
-        older: text(matches, "older"),
-        address_size: text(matches, "address-size"),
-        version_5: flag(matches, "version-5"),
-    }
-}
-
-fn addr_words<'a>(alloc: Global, matches: &ArgMatches<'a>) -> Result<AddrWords<'a>, AllocError>
-    ensures words { IfOk result (λ w. addr_words_made w ≡ addr_words_of (rows_of (found_of matches.now))) }
-    ensures refused { OnErr result LibraryRefused }
-{
-    let others = texts(alloc, matches, "address")?;
-    let (file, addresses) = file_and_addresses(
-        text(matches, "exe"),
-        text(matches, "file"),
-        others,
-    )?;
-    Ok(AddrWords {
-        file,
-        addresses,
-        hex: flag(matches, "hex"),
-        base: text(matches, "base"),
-        with_addresses: flag(matches, "addresses"),
-        basenames: flag(matches, "basenames"),
-        json: flag(matches, "json"),
-        all: flag(matches, "all"),
-        stop: flag(matches, "stop"),
-        section: text(matches, "section"),
-        big: flag(matches, "big"),
-        units: unit_words(matches),
-        comp_dir: text(matches, "comp-dir"),
-        made_of: text(matches, "for"),
-        line_str: text(matches, "line-str"),
-        strings: text(matches, "str"),
-    })
-}
-
-fn index_words<'a>(matches: &ArgMatches<'a>) -> IndexWords<'a>
-    ensures { index_words_made result ≡ index_words_of (rows_of (found_of matches.now)) }
-{
-    IndexWords {
-        file: text(matches, "file"),
-        output: text(matches, "output"),
-        list: flag(matches, "list"),
-        all: flag(matches, "all"),
-        keep_going: flag(matches, "keep-going"),
-        section: text(matches, "section"),
-        units: unit_words(matches),
-        comp_dir: text(matches, "comp-dir"),
-    }
-}
-
-fn job_of<'a>(
-    alloc: Global,
-    name: &str,
-    matches: &ArgMatches<'a>,
-) -> Result<Option<Job<'a>>, AllocError>
-    ensures request { IfOk result (λ job. option_map request_made job
-        ≡ request_of name.now (rows_of (found_of matches.now))) }
-    ensures refused { OnErr result LibraryRefused }
-{
-    let job = match name {
-        "addr" => Job::Addr(addr_words(alloc, matches)?),
-        "index" => Job::Index(index_words(matches)),
-        "dump" => Job::Dump {
-            file: text(matches, "file"),
-            big: flag(matches, "big"),
-            units: unit_words(matches),
-            line_str: text(matches, "line-str"),
-            strings: text(matches, "str"),
-            keep_going: flag(matches, "keep-going"),
-            header: flag(matches, "header"),
-        },
-        "check" => Job::Check {
-            file: text(matches, "file"),
-            big: flag(matches, "big"),
-            units: unit_words(matches),
-            keep_going: flag(matches, "keep-going"),
-        },
-        "find" => Job::Find {
-            file: text(matches, "file"),
-            big: flag(matches, "big"),
-            units: unit_words(matches),
-            address: text(matches, "address"),
-            op: byte(matches, "op"),
-            section: text(matches, "section"),
-            line_str: text(matches, "line-str"),
-            strings: text(matches, "str"),
-        },
-        "copy" => Job::Copy {
-            file: text(matches, "file"),
-            big: flag(matches, "big"),
-            units: unit_words(matches),
-            to_5: flag(matches, "to-5"),
-            comp_dir: text(matches, "comp-dir"),
-        },
-        _ => return Ok(None),
-    };
-    Ok(Some(job))
-}
-
 /// The folder for separate debug files where none is said.
 const DEBUG_DIR: &str = "/usr/lib/debug";
-
-/// What is said of files that are read in place of FILE, as it stands.
-fn follow_said<'a>(alloc: Global, matches: &ArgMatches<'a>) -> Result<FollowWords<'a>, AllocError>
-    ensures words { IfOk result (λ w. follow_words_made w ≡ follow_said_of (rows_of (found_of matches.now))) }
-    ensures refused { OnErr result LibraryRefused }
-{
-    Ok(FollowWords {
-        debug_dirs: texts(alloc, matches, "debug-dir")?,
-        no_follow: flag(matches, "no-follow"),
-        verbose: flag(matches, "verbose"),
-    })
-}
 
 /// The folders that are said, or the one that stands for them.
 fn dirs_or_default<'a>(dirs: Vec<&'a str>) -> Result<Vec<&'a str>, AllocError>
@@ -243,51 +64,6 @@ fn follow_by<'a>(
     })
 }
 
-fn after_first<'a, 'b>(texts: &'b [&'a str]) -> &'b [&'a str]
-    ensures { result.now ≡ drop 1 texts.now }
-{
-    match texts {
-        [_, others @ ..] => others,
-        [] => texts,
-    }
-}
-
-/// FILEs after the first one.
-fn other_files<'a>(alloc: Global, matches: &ArgMatches<'a>) -> Result<Vec<&'a str>, AllocError>
-    ensures texts { IfOk result (λ v. map (λ s. s.now) v.items
-        ≡ drop 1 (texts_of (codes "file") (rows_of (found_of matches.now)))) }
-    ensures refused { OnErr result LibraryRefused }
-{
-    match matches.get_strs("file") {
-        Some(found) => copied(alloc, after_first(found)),
-        None => Ok(Vec::new(alloc)),
-    }
-}
-
-fn files_words<'a>(
-    alloc: Global,
-    name: &str,
-    matches: &ArgMatches<'a>,
-) -> Result<FilesWords<'a>, AllocError>
-    ensures words { IfOk result (λ w. files_words_made w ≡ files_words_of name.now (rows_of (found_of matches.now))) }
-    ensures refused { OnErr result LibraryRefused }
-{
-    if name != "check" {
-        return Ok(FilesWords {
-            others: Vec::new(alloc),
-            files_from: None,
-            null: false,
-            progress: false,
-        });
-    }
-    Ok(FilesWords {
-        others: other_files(alloc, matches)?,
-        files_from: text(matches, "files-from"),
-        null: flag(matches, "null"),
-        progress: flag(matches, "progress"),
-    })
-}
-
 /// All that the words say of the subcommand of this name, as it stands.
 fn said<'a>(
     alloc: Global,
@@ -316,6 +92,8 @@ fn command_of<'a>(alloc: Global, job: &Job<'_>) -> Result<Command<'a>, AllocErro
         Job::Check { .. } => dl_options::check(alloc),
         Job::Find { .. } => dl_options::find(alloc),
         Job::Copy { .. } => dl_options::copy(alloc),
+        Job::Sources(_) => dl_options::sources(alloc),
+        Job::Lines(_) => dl_options::lines(alloc),
     }
 }
 

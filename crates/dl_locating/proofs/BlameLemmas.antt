@@ -28,7 +28,7 @@ use Rattle.dl_locating.specs.Blaming.{IsNoRun}
 use Rattle.dl_locating.specs.Locate.{WordsStop}
 use Rattle.dl_locating.specs.Located.{is_not_found, located, unless_damaged as located_unless}
 use Rattle.dl_locating.specs.OverElfFile.{located_after}
-use Rattle.dl_program.specs.Asked.{answered}
+use Rattle.dl_program.specs.Answers.{answered}
 
 -- an answer that read nothing of the input is no failed read of it
 pub no_read : {A : Type 0} (result : Result A Stop) → stops.ReadsNothing result → ¬ (result ≡ Err (Run fault.Read))

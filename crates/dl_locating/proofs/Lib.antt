@@ -3,5 +3,7 @@ pub mod LocateLemmas
 pub mod AnsweringLemmas
 pub mod ReadsLemmas
 pub mod IndexingLemmas
+pub mod TableLemmas
+pub mod LineWordLemmas
 pub mod BlameLemmas
 pub mod RoomLemmas

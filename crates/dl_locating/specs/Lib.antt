@@ -9,5 +9,7 @@ pub mod Answering
 pub mod OverIndex
 pub mod OverElfFile
 pub mod LocateFile
+pub mod WithTable
+pub mod SourceWords
 -- Of contracts inside the crate, and of proofs; no public contract reaches these.
 pub mod Understood

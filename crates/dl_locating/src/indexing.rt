@@ -21,11 +21,13 @@ use dl_cmd::IndexWords;
 use dl_dirs::Directories;
 use dl_elf::{BuildId, ReadAt};
 use dl_look::CodeRanges;
-use dl_making::{SetMemory, Table};
+use dl_making::Table;
 use dl_memory::Memory;
 use dl_open::{FileFault, FileSource, build_id_of};
 use dl_output::Destination;
-use dl_program::{Command, Stop, Unheard, answer_over_file, are_sizes, on_file, units_of_file};
+use dl_program::{
+    Command, MapMemory, Stop, Unheard, answer_over_file, are_sizes, on_file, units_of_file,
+};
 use dl_sections::Survey;
 
 /// The path of the file whose index is made.
@@ -114,7 +116,7 @@ fn open_named<M: Memory, F: FileSource>(
 }
 
 /// Writes the index of the ELF file at this path.
-fn index_file<'a, M: SetMemory, F: FileSource, W: Destination>(
+fn index_file<'a, M: MapMemory, F: FileSource, W: Destination>(
     memory: &M,
     words: &IndexWords<'a>,
     path: &'a str,
@@ -164,7 +166,7 @@ fn index_file<'a, M: SetMemory, F: FileSource, W: Destination>(
 ///
 /// `NotUnderstood` where the words name no file, list an index, or a size is no size; then, and at each fault but a failed
 /// write, nothing is written.
-pub fn index<'a, M: SetMemory, F: FileSource, W: Destination>(
+pub fn index<'a, M: MapMemory, F: FileSource, W: Destination>(
     memory: &M,
     words: &IndexWords<'a>,
     files: &F,

@@ -22,14 +22,13 @@ use crate::over_index::in_index;
 use dl_cmd::AddrWords;
 use dl_dialogue::Nothing;
 use dl_input::Source;
-use dl_making::SetMemory;
 use dl_memory::Memory;
 use dl_open::FileSource;
 use dl_output::Destination;
-use dl_program::{INPUT, Section, Stop, Unheard, on_input};
+use dl_program::{INPUT, MapMemory, Section, Stop, Unheard, on_input};
 
 /// Looks into the section on the input.
-fn in_section<'a, M: SetMemory, F: FileSource, R: Source, W: Destination>(
+fn in_section<'a, M: MapMemory, F: FileSource, R: Source, W: Destination>(
     memory: &M,
     words: &AddrWords<'a>,
     files: &F,
@@ -86,7 +85,7 @@ fn unanswered<M: Memory, R: Source, W: Destination>(
 }
 
 /// Looks into the file at this path, an index or an ELF file.
-fn in_file<'a, M: SetMemory, F: FileSource, R: Source, W: Destination>(
+fn in_file<'a, M: MapMemory, F: FileSource, R: Source, W: Destination>(
     memory: &M,
     words: &AddrWords<'a>,
     path: &'a str,
@@ -140,7 +139,7 @@ fn in_file<'a, M: SetMemory, F: FileSource, R: Source, W: Destination>(
 /// units that are whole, and `Damaged` tells of the others.
 ///
 /// The answer says whether each address has one, and names the first line of the input that is no address.
-pub fn locate<'a, M: SetMemory, F: FileSource, R: Source, W: Destination>(
+pub fn locate<'a, M: MapMemory, F: FileSource, R: Source, W: Destination>(
     memory: &M,
     words: &AddrWords<'a>,
     files: &F,

@@ -29,16 +29,16 @@ use dl_elf::ReadAt;
 use dl_held::{Held, Refusing};
 use dl_input::Source;
 use dl_look::CodeRanges;
-use dl_making::{SetMemory, Table};
+use dl_making::Table;
 use dl_memory::NoMemory;
 use dl_open::{FileFault, FileStop};
 use dl_output::Destination;
-use dl_program::{Stop, Unheard, answer_over_file, on_file, units_of_file};
+use dl_program::{MapMemory, Stop, Unheard, answer_over_file, on_file, units_of_file};
 use dl_sections::Survey;
 use std::marker::Brand;
 
 /// Looks into the ELF file at this path, which is open.
-pub fn in_elf_file<'a, M: SetMemory, S: ReadAt, R: Source, W: Destination>(
+pub fn in_elf_file<'a, M: MapMemory, S: ReadAt, R: Source, W: Destination>(
     memory: &M,
     words: &AddrWords<'a>,
     path: &'a str,
@@ -95,7 +95,7 @@ pub fn in_elf_file<'a, M: SetMemory, S: ReadAt, R: Source, W: Destination>(
 }
 
 /// Answers the addresses among the words, in one pass over the line table.
-fn given<'a, M: SetMemory, S: ReadAt, W: Destination>(
+fn given<'a, M: MapMemory, S: ReadAt, W: Destination>(
     memory: &M,
     words: &AddrWords<'a>,
     path: &'a str,
@@ -135,7 +135,7 @@ fn given<'a, M: SetMemory, S: ReadAt, W: Destination>(
 }
 
 /// Makes the index of the line table in memory, and answers from it the addresses on the input, as they come.
-fn by_index<'a, 'q, M: SetMemory, S: ReadAt, R: Source, W: Destination>(
+fn by_index<'a, 'q, M: MapMemory, S: ReadAt, R: Source, W: Destination>(
     memory: &M,
     words: &'q AddrWords<'a>,
     path: &'a str,
@@ -182,7 +182,7 @@ struct Made<'a> {
 }
 
 /// Makes the index of the line table in memory.
-fn make_index<'a, M: SetMemory, S: ReadAt, K: Refusing>(
+fn make_index<'a, M: MapMemory, S: ReadAt, K: Refusing>(
     memory: &M,
     words: &AddrWords<'a>,
     at: AtPath<'a>,
@@ -214,7 +214,7 @@ fn make_index<'a, M: SetMemory, S: ReadAt, K: Refusing>(
 }
 
 /// What is held, unless memory was refused before.
-fn held_unless<M: SetMemory, K: Refusing>(refused: bool, held: Held<'_, M, K>) -> Option<Vec<u8>>
+fn held_unless<M: MapMemory, K: Refusing>(refused: bool, held: Held<'_, M, K>) -> Option<Vec<u8>>
     ensures whole { IfSome result (λ list. (refused ≡ false) × (list.items ≡ held.entry.written.bytes)) }
     ensures none { IfNone result ((refused ≡ true) ⊎ CannotHold K.refuses held.entry.written.bytes) }
 {

@@ -67,6 +67,7 @@ module _ (dialect : Dialect) where
         has_few (take limit bytes) units b (b ++ back) taken ends.0.has (omega (arith, length-append b back)) (omega arith)
     ended_few units b back (Err (fault.Write out)) ends = absurd ends
     ended_few units b back (Err fault.NotFound) ends = absurd ends
+    ended_few units b back (Err fault.TwoSums) ends = absurd ends
     ended_few units b back (Err (fault.ForeignUnit unit)) ends = absurd ends
     ended_few units b back (Err (fault.Emit unit e)) ends = absurd ends
 
@@ -81,5 +82,6 @@ module _ (dialect : Dialect) where
     ended_around_few blocks rest (Err (fault.Damage offset kind)) ends = absurd ends
     ended_around_few blocks rest (Err (fault.Write out)) ends = absurd ends
     ended_around_few blocks rest (Err fault.NotFound) ends = absurd ends
+    ended_around_few blocks rest (Err fault.TwoSums) ends = absurd ends
     ended_around_few blocks rest (Err (fault.ForeignUnit unit)) ends = absurd ends
     ended_around_few blocks rest (Err (fault.Emit unit e)) ends = absurd ends

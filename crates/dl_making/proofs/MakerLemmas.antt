@@ -307,13 +307,13 @@ file_is old h u file strings directory header offset =
     (beside_table (has_directory_0 h) (directory_by old.directories old.unit)) hh n file) header offset
 
 -- a damaged unit is left out
-pub forgets : {M : Type 0} (refuses : M → ℕ → Type 0) (old new : Maker M) (damage : Damage) → IsSame old new → new.unit ≡ old.unit → new.is_refused ≡ old.is_refused
+pub forgets : {M : Type 0} (refuses : M → ℕ → Type 0) (old new : Maker M) (unit : ℕ) (damage : Damage) → IsSame old new → new.unit ≡ old.unit → new.is_refused ≡ old.is_refused
     → new.names ≡ old.names → kept_count new.runs ≤ kept_count old.runs → whole_count new.runs ≡ whole_count old.runs
     → ((live : ℕ → Bool) (units : List UnitRows) (rows : List Row) → Stands live old.runs units rows
     → Stands live new.runs units [])
-    → IsTold (making_story refuses) old new damage
-forgets refuses old new damage same unit refused names kept whole forgot = record {
-  tells = λ first start now visits s. (let more = of_damage damage.offset damage.kind ∷ [] in
+    → IsTold (making_story refuses) old new unit damage
+forgets refuses old new begin damage same unit refused names kept whole forgot = record {
+  tells = λ first start now visits s. (let more = of_damage begin damage.offset damage.kind ∷ [] in
       goes_on first old new start now visits more s (λ rows n x. refl) same unit refused names
       (omega (arith, kept)) whole
       (λ units e stands. subst (Stands (code_of first) new.runs units) (sym (rows_after-append [] visits more))

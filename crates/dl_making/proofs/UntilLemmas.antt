@@ -107,7 +107,9 @@ module _ {M : Type 0} (refuses : M → ℕ → Type 0) (dialect : Dialect) (firs
   until (Err fault.SectionTooLong) refused told (units, b, back, inr (has, sound, stops)) =
       absurd (let e = stops.reason.is in cc)
   until (Err fault.NotFound) refused told (units, b, back, inl (ends, settled)) = absurd ends
+  until (Err fault.TwoSums) refused told (units, b, back, inl (ends, settled)) = absurd ends
   until (Err fault.NotFound) refused told (units, b, back, inr (has, sound, stops)) = absurd (let e = stops.reason.is in cc)
+  until (Err fault.TwoSums) refused told (units, b, back, inr (has, sound, stops)) = absurd (let e = stops.reason.is in cc)
   until (Err (fault.ForeignUnit unit)) refused told (units, b, back, inl (ends, settled)) = absurd ends
   until (Err (fault.ForeignUnit unit)) refused told (units, b, back, inr (has, sound, stops)) =
       absurd (let e = stops.reason.is in cc)
@@ -134,7 +136,9 @@ module _ {M : Type 0} (refuses : M → ℕ → Type 0) (dialect : Dialect) (firs
       (blocks, rest, ends, of_blocks blocks rest (Err fault.SectionTooLong) ends settled.tells (told refl))
   until_around (Err fault.SectionTooLong) refused told (blocks, rest, inr stops) = absurd (let e = stops.3.reason.is in cc)
   until_around (Err fault.NotFound) refused told (blocks, rest, inl (ends, settled)) = absurd ends
+  until_around (Err fault.TwoSums) refused told (blocks, rest, inl (ends, settled)) = absurd ends
   until_around (Err fault.NotFound) refused told (blocks, rest, inr stops) = absurd (let e = stops.3.reason.is in cc)
+  until_around (Err fault.TwoSums) refused told (blocks, rest, inr stops) = absurd (let e = stops.3.reason.is in cc)
   until_around (Err (fault.ForeignUnit unit)) refused told (blocks, rest, inl (ends, settled)) = absurd ends
   until_around (Err (fault.ForeignUnit unit)) refused told (blocks, rest, inr stops) = absurd (let e = stops.3.reason.is in cc)
   until_around (Err (fault.Emit unit e)) refused told (blocks, rest, inl (ends, settled)) = absurd ends
@@ -160,7 +164,9 @@ module _ {M : Type 0} (refuses : M → ℕ → Type 0) (dialect : Dialect) (firs
   told_until (Err fault.SectionTooLong) some (units, b, back, inr (has, sound, stops)) =
       absurd (let e = stops.reason.is in cc)
   told_until (Err fault.NotFound) some (units, b, back, inl (ends, settled)) = absurd ends
+  told_until (Err fault.TwoSums) some (units, b, back, inl (ends, settled)) = absurd ends
   told_until (Err fault.NotFound) some (units, b, back, inr (has, sound, stops)) = absurd (let e = stops.reason.is in cc)
+  told_until (Err fault.TwoSums) some (units, b, back, inr (has, sound, stops)) = absurd (let e = stops.reason.is in cc)
   told_until (Err (fault.ForeignUnit unit)) some (units, b, back, inl (ends, settled)) = absurd ends
   told_until (Err (fault.ForeignUnit unit)) some (units, b, back, inr (has, sound, stops)) =
       absurd (let e = stops.reason.is in cc)
@@ -184,7 +190,9 @@ module _ {M : Type 0} (refuses : M → ℕ → Type 0) (dialect : Dialect) (firs
       (first, start, now, visits_around dialect blocks rest, settled.tells)
   told_until_around (Err fault.SectionTooLong) some (blocks, rest, inr stops) = absurd (let e = stops.3.reason.is in cc)
   told_until_around (Err fault.NotFound) some (blocks, rest, inl (ends, settled)) = absurd ends
+  told_until_around (Err fault.TwoSums) some (blocks, rest, inl (ends, settled)) = absurd ends
   told_until_around (Err fault.NotFound) some (blocks, rest, inr stops) = absurd (let e = stops.3.reason.is in cc)
+  told_until_around (Err fault.TwoSums) some (blocks, rest, inr stops) = absurd (let e = stops.3.reason.is in cc)
   told_until_around (Err (fault.ForeignUnit unit)) some (blocks, rest, inl (ends, settled)) = absurd ends
   told_until_around (Err (fault.ForeignUnit unit)) some (blocks, rest, inr stops) = absurd (let e = stops.3.reason.is in cc)
   told_until_around (Err (fault.Emit unit e)) some (blocks, rest, inl (ends, settled)) = absurd ends

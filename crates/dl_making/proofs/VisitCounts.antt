@@ -13,9 +13,12 @@ use Rattle.dl_rows.specs.LineUnit.{ends_open, unit_rows}
 use Rattle.dl_sections.specs.Around.{Block, whole, damaged, block_bytes, bytes_of, block_visits, blocks_visits}
 use Rattle.dl_sections.specs.Around.{Rest, begun, cut_off, broken, rest_bytes, rest_visits, visits_around}
 use Rattle.dl_sections.specs.Copying.{row_count}
-use Rattle.dl_sections.specs.Section.{Visit, of_header, of_row, of_end, of_damage, end_visits, header_of, open_visit}
+use Rattle.dl_sections.specs.Section.{Visit, of_header, of_item, of_end, of_damage, end_visits, header_of, open_visit}
 use Rattle.dl_sections.specs.Section.{section_visits, unit_visits, units_visits, visits}
 use Rattle.dl_sections.specs.Visiting.{header_told}
+use Rattle.dl_rows.proofs.ItemLemmas.{rows_of_unit}
+use Rattle.dl_rows.specs.Items.{Item, unit_items}
+use Rattle.dl_sections.proofs.RowCounts.{count_of_items}
 use Rattle.dl_sections.proofs.CopyingVisits.{Foreign, Own, Neither, one_of, foreign_visits, own_visits, no_visits}
 use Rattle.dl_sections.proofs.RowCounts.{row_count-append}
 use Rattle.dl_sections.proofs.SectionLemmas.{few_rows}
@@ -52,18 +55,14 @@ pub header_counted : (before : Option HeaderData) (visits : List Visit) (h : Hea
 header_counted before [] h is = omega (arith, ap (λ (o : Option HeaderData). option_map_or header_cells o 0) is)
 header_counted before (of_header n l g ∷ visits) h is = omega (arith, header_counted (Some g) visits h is)
 header_counted before (of_end g ∷ visits) h is = omega (arith, header_counted None visits h is)
-header_counted before (of_damage n kind ∷ visits) h is = omega (arith, header_counted None visits h is)
+header_counted before (of_damage unit n kind ∷ visits) h is = omega (arith, header_counted None visits h is)
 header_counted before (v ∷ visits) h is = header_counted before visits h is
 
 -- ---- the visits of a unit
 
-count_of_rows : (rows : List Row) → row_count (map of_row rows) ≡ length rows
-count_of_rows [] = refl
-count_of_rows (r ∷ rows) = omega (arith, count_of_rows rows)
-
-no_cells : (rows : List Row) → cells_told (map of_row rows) ≡ 0
+no_cells : (items : List Item) → cells_told (map of_item items) ≡ 0
 no_cells [] = refl
-no_cells (r ∷ rows) = no_cells rows
+no_cells (item ∷ items) = no_cells items
 
 module _ (dialect : Dialect) where
   own_cells : (n : ℕ) (c : List ℕ) (own : Own dialect n c) → header_cells own.0 ≤ length c
@@ -78,8 +77,8 @@ module _ (dialect : Dialect) where
     by (inl v) = rw (foreign_visits dialect n c v) (record { rows = omega arith; cells = omega arith })
     by (inr (inl own)) =
         rw (own_visits dialect n c own) (record {
-          rows = omega (arith, count_of_rows (unit_rows dialect c), few_rows dialect c);
-          cells = omega (arith, no_cells (unit_rows dialect c), own_cells n c own);
+          rows = omega (arith, count_of_items (unit_items dialect c), ap length (rows_of_unit dialect c), few_rows dialect c);
+          cells = omega (arith, no_cells (unit_items dialect c), own_cells n c own);
         })
     by (inr (inr none)) = rw (no_visits dialect n c none) (record { rows = omega arith; cells = omega arith })
 
@@ -122,7 +121,7 @@ module _ (dialect : Dialect) where
   few_block : (n : ℕ) (block : Block) → AreFew (length (block_bytes block)) (block_visits dialect n block)
   few_block n (whole u) = few_unit n u
   few_block n (damaged front back at kind) =
-      damaged_few n front back (of_damage (n + at) kind) (record { rows = omega arith; cells = omega arith })
+      damaged_few n front back (of_damage n (n + at) kind) (record { rows = omega arith; cells = omega arith })
 
   few_blocks : (n : ℕ) (blocks : List Block) → AreFew (length (bytes_of blocks)) (blocks_visits dialect n blocks)
   few_blocks n [] = few_none
@@ -138,10 +137,10 @@ module _ (dialect : Dialect) where
   few_rest n (begun b) = few_visits n b
   few_rest n (cut_off b) =
       few_more (length b + 0) (length b) (rest_visits dialect n (cut_off b)) (omega arith)
-      (few_both (length b) 0 (visits dialect n b) (of_damage (n + length b) Truncated ∷ []) (few_visits n b)
+      (few_both (length b) 0 (visits dialect n b) (of_damage n (n + length b) Truncated ∷ []) (few_visits n b)
       (record { rows = omega arith; cells = omega arith }))
   few_rest n (broken front back at kind) =
-      damaged_few n front back (of_damage (n + at) kind) (record { rows = omega arith; cells = omega arith })
+      damaged_few n front back (of_damage n (n + at) kind) (record { rows = omega arith; cells = omega arith })
 
   -- of blocks and of what follows them
   pub few_around : (blocks : List Block) (rest : Rest)

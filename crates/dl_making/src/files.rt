@@ -93,7 +93,7 @@ fn path_numbers<M: SetMemory>(
 }
 
 /// The compilation directory, where it comes before a path; else nothing.
-fn root_of<'a>(directory: Option<&'a [u8]>, path: Path<'_>) -> &'a [u8]
+pub fn root_of<'a>(directory: Option<&'a [u8]>, path: Path<'_>) -> &'a [u8]
     ensures { result.now ≡ root_of (option_copied directory.entry) (path_seen path.entry) }
 {
     if is_whole_path(path) {
@@ -152,7 +152,11 @@ fn folders<M: Memory>(memory: &M, first: &[u8], second: &[u8]) -> Result<Vec<u8>
 }
 
 /// Puts a directory after a text, and what stands between it and a path in it.
-fn put_folder<M: Memory>(memory: &M, text: &mut Vec<u8>, directory: &[u8]) -> Result<(), NoMemory>
+pub fn put_folder<M: Memory>(
+    memory: &M,
+    text: &mut Vec<u8>,
+    directory: &[u8],
+) -> Result<(), NoMemory>
     ensures refused { OnErr result (IsRefused (M.refuses memory.now) (length text.old.items + length directory.now + 1)) }
     ensures put { IfOk result (λ _. text.new.items ≡ text.old.items ++ folder directory.now) }
 {

@@ -13,8 +13,8 @@ use dl_memory::NoMemory;
 use dl_output::Destination;
 use dl_pack::{Names, SetMemory};
 use dl_path::{beside_table, has_directory_0};
-use dl_print::StringSections;
-use dl_rows::{Flow, Row};
+use dl_print::{StringSections, WriteFault};
+use dl_rows::{Flow, Operation, Row};
 use dl_sections::{AroundDamage, Damage, RunFault, Visitor};
 use dl_stretch::Runs;
 
@@ -55,7 +55,22 @@ impl<W: Destination, M: SetMemory> Visitor<W> for Maker<'_, '_, '_, M> {
     }
 
     #[inline(always)]
-    fn row(&mut self, _output: &mut W, row: &Row) -> Result<(), RunFault> {
+    fn bytes(&mut self, _output: &mut W, _bytes: &[u8]) -> Result<(), WriteFault> {
+        Ok(())
+    }
+
+    #[inline(always)]
+    fn operation(
+        &mut self,
+        _output: &mut W,
+        _header: &Header,
+        _operation: Operation,
+    ) -> Result<(), WriteFault> {
+        Ok(())
+    }
+
+    #[inline(always)]
+    fn row(&mut self, _output: &mut W, _header: &Header, row: &Row) -> Result<(), RunFault> {
         let is_live = self.begins_live(row.address);
         match self.runs.row(self.memory, row, is_live) {
             Ok(()) => Ok(()),
@@ -86,7 +101,7 @@ impl<W: Destination, M: SetMemory> Visitor<W> for Maker<'_, '_, '_, M> {
 }
 
 impl<W: Destination, M: SetMemory> AroundDamage<W> for Maker<'_, '_, '_, M> {
-    fn damaged(&mut self, _damage: Damage) {
+    fn damaged(&mut self, _unit: u64, _damage: Damage) {
         self.runs.forget_unit();
     }
 }

@@ -62,7 +62,7 @@ fn unseen<M: Memory>(memory: &M, count: usize) -> Result<Vec<u64>, NoMemory>
 }
 
 /// A number from which on a unit's table has no files.
-fn files_end(header: Option<&Header>) -> usize
+pub fn files_end(header: Option<&Header>) -> usize
     ensures end { result ≡ option_map_or files_end (option_copied header.entry) 0 }
     ensures few { result ≤ option_map_or header_cells (option_copied header.entry) 0 + 1 }
 {

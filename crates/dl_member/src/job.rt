@@ -14,6 +14,9 @@ pub(crate) fn job_over<'a>(job: &Job<'a>, path: &'a str) -> Option<Job<'a>>
             units,
             keep_going,
             header,
+            operations,
+            paths,
+            comp_dir,
             ..
         } => Some(Job::Dump {
             file: Some(path),
@@ -23,6 +26,9 @@ pub(crate) fn job_over<'a>(job: &Job<'a>, path: &'a str) -> Option<Job<'a>>
             strings: None,
             keep_going: *keep_going,
             header: *header,
+            operations: *operations,
+            paths: *paths,
+            comp_dir: *comp_dir,
         }),
         Job::Check {
             units,
@@ -34,6 +40,11 @@ pub(crate) fn job_over<'a>(job: &Job<'a>, path: &'a str) -> Option<Job<'a>>
             units: *units,
             keep_going: *keep_going,
         }),
-        Job::Find { .. } | Job::Copy { .. } | Job::Addr(_) | Job::Index(_) => None,
+        Job::Find { .. }
+        | Job::Copy { .. }
+        | Job::Addr(_)
+        | Job::Index(_)
+        | Job::Lines(_)
+        | Job::Sources(_) => None,
     }
 }

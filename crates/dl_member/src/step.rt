@@ -20,12 +20,11 @@ use crate::source::WithMember;
 use dl_archive::{Member, NAME_LIMIT};
 use dl_cmd::Job;
 use dl_elf::ReadAt;
-use dl_making::SetMemory;
 use dl_open::{FileFault, FileSource};
 use dl_output::Destination;
 use dl_path::print_shown;
 use dl_print::{Printer, WriteFault};
-use dl_program::{Stop, work};
+use dl_program::{MapMemory, Stop, work};
 use dl_sections::Survey;
 use std::io;
 use std::io::ErrorKind;
@@ -86,7 +85,7 @@ fn write_path<W: Destination>(output: &mut W, path: &str) -> Result<(), WriteFau
 }
 
 /// What comes of a file under a path.
-fn over_file<M: SetMemory, F: FileSource, S: ReadAt, W: Destination, T: MemberSink>(
+fn over_file<M: MapMemory, F: FileSource, S: ReadAt, W: Destination, T: MemberSink>(
     memory: &M,
     job: &Job<'_>,
     files: &F,
@@ -131,7 +130,7 @@ fn tell_unopened<T: MemberSink>(path: &str, error: io::Error, sink: &mut T) -> S
 }
 
 /// What comes of a member of this name.
-fn at_named<M: SetMemory, F: FileSource, S: ReadAt, W: Destination, T: MemberSink>(
+fn at_named<M: MapMemory, F: FileSource, S: ReadAt, W: Destination, T: MemberSink>(
     memory: &M,
     job: &Job<'_>,
     files: &F,
@@ -161,7 +160,7 @@ fn at_named<M: SetMemory, F: FileSource, S: ReadAt, W: Destination, T: MemberSin
 /// One that isn't an ELF file with a line table is passed over. Before any other a line with its path is written: that of the archive,
 /// and its name in parentheses. Where its file can't be opened, or the work over it stops, `sink` is told. The error is that of reading
 /// its name.
-pub fn at_member<M: SetMemory, F: FileSource, S: ReadAt, W: Destination, T: MemberSink>(
+pub fn at_member<M: MapMemory, F: FileSource, S: ReadAt, W: Destination, T: MemberSink>(
     memory: &M,
     job: &Job<'_>,
     files: &F,

@@ -15,9 +15,9 @@ use crate::step::{Step, at_member};
 use dl_archive::{ArchiveFault, Members};
 use dl_cmd::Job;
 use dl_elf::ReadAt;
-use dl_making::SetMemory;
 use dl_open::FileSource;
 use dl_output::Destination;
+use dl_program::MapMemory;
 
 /// What came of the members of an archive, and how the walk over them ended.
 #[derive(Drop)]
@@ -42,7 +42,7 @@ impl Walked {
 }
 
 /// What comes of the next member; None behind the last one.
-fn next_step<M: SetMemory, F: FileSource, S: ReadAt, W: Destination, T: MemberSink>(
+fn next_step<M: MapMemory, F: FileSource, S: ReadAt, W: Destination, T: MemberSink>(
     memory: &M,
     job: &Job<'_>,
     files: &F,
@@ -70,7 +70,7 @@ fn next_step<M: SetMemory, F: FileSource, S: ReadAt, W: Destination, T: MemberSi
 }
 
 /// Goes through the members that are left, and counts what comes of each.
-fn walk_left<M: SetMemory, F: FileSource, S: ReadAt, W: Destination, T: MemberSink>(
+fn walk_left<M: MapMemory, F: FileSource, S: ReadAt, W: Destination, T: MemberSink>(
     memory: &M,
     job: &Job<'_>,
     files: &F,
@@ -107,7 +107,7 @@ fn walk_left<M: SetMemory, F: FileSource, S: ReadAt, W: Destination, T: MemberSi
 ///
 /// The walk ends behind the last member; before that where the archive is damaged, where a read of it fails, or where the line before
 /// a member can't be written. What came of the members before that is counted.
-pub fn walk_members<M: SetMemory, F: FileSource, S: ReadAt, W: Destination, T: MemberSink>(
+pub fn walk_members<M: MapMemory, F: FileSource, S: ReadAt, W: Destination, T: MemberSink>(
     memory: &M,
     job: &Job<'_>,
     files: &F,
@@ -129,7 +129,7 @@ pub fn walk_members<M: SetMemory, F: FileSource, S: ReadAt, W: Destination, T: M
 }
 
 /// The same, where nothing was counted.
-fn walk<M: SetMemory, F: FileSource, S: ReadAt, W: Destination, T: MemberSink>(
+fn walk<M: MapMemory, F: FileSource, S: ReadAt, W: Destination, T: MemberSink>(
     memory: &M,
     job: &Job<'_>,
     files: &F,

@@ -64,6 +64,10 @@ exe_rule = record (new_rule (codes "exe")) { long = Some (codes "exe"); short = 
 abbrev pub addresses_rule : Rule
 addresses_rule = record (new_rule (codes "address")) { action = Some Append; value_names = 1 }
 
+-- `PATH:LINE`, any number of them
+abbrev pub lines_rule : Rule
+lines_rule = record (new_rule (codes "line")) { action = Some Append; value_names = 1 }
+
 -- `--base ADDRESS`
 abbrev pub base_rule : Rule
 base_rule = record (new_rule (codes "base")) { long = Some (codes "base"); value_names = 1 }
@@ -102,9 +106,11 @@ with_to_5 a =
 abbrev pub with_keep_going : App → App
 with_keep_going a = with_rule a (switch_rule (codes "keep-going"))
 
--- what is printed of each unit beside its directories, files and rows
+-- what is printed of each unit beside its directories, files and rows, and where their paths stand
 abbrev pub with_shown : App → App
-with_shown a = with_rule a (switch_rule (codes "header"))
+with_shown a =
+    with_rule (with_rule (with_rule (with_rule a (switch_rule (codes "header"))) (switch_rule (codes "operations")))
+    (switch_rule (codes "paths"))) (value_rule (codes "comp-dir"))
 
 -- which files are read in place of one without a line table
 abbrev pub with_follow : App → App
@@ -163,8 +169,8 @@ index_app =
     with_rule (with_rule (with_rule (with_making (new_app (codes "index"))) (switch_rule (codes "list"))) output_rule)
     index_file_rule
 
--- `dump [--keep-going] [--header] [--older SIZE] [--address-size SIZE] [--version-5] [--debug-dir DIR].. [--no-follow]
--- [--verbose] [--big] [--line-str PATH] [--str PATH] [FILE]`
+-- `dump [--keep-going] [--header] [--operations] [--paths] [--comp-dir DIR] [--older SIZE] [--address-size SIZE]
+-- [--version-5] [--debug-dir DIR].. [--no-follow] [--verbose] [--big] [--line-str PATH] [--str PATH] [FILE]`
 abbrev pub dump_app : App
 dump_app = with_strings (with_follow (with_units (with_shown (with_keep_going (new_app (codes "dump"))))))
 
@@ -184,6 +190,34 @@ find_app =
 abbrev pub copy_app : App
 copy_app = with_input (with_to_5 (new_app (codes "copy")))
 
+-- what is told of each source file, of which sequences and units, and where paths stand
+abbrev pub with_listing : App → App
+with_listing a =
+    with_rule (with_keep_going (with_rule (with_rule (with_rule (with_rule a (switch_rule (codes "rows")))
+    (switch_rule (codes "md5"))) (switch_rule (codes "json"))) (switch_rule (codes "all")))) (value_rule (codes "comp-dir"))
+
+-- `sources [--rows] [--md5] [--json] [--all] [--keep-going] [--comp-dir DIR] [--older SIZE] [--address-size SIZE]
+-- [--version-5] [--debug-dir DIR].. [--no-follow] [--verbose] [--big] [--line-str PATH] [--str PATH] [FILE]`
+abbrev pub sources_app : App
+sources_app = with_strings (with_follow (with_units (with_listing (new_app (codes "sources")))))
+
+-- which rows answer for a line, and of which units
+abbrev pub with_search : App → App
+with_search a =
+    with_rule (with_rule (with_rule (with_rule a (switch_rule (codes "exact"))) (switch_rule (codes "all")))
+    (switch_rule (codes "stop"))) section_rule
+
+-- the file that is read, and the lines that are asked for
+abbrev pub with_lines : App → App
+with_lines a =
+    with_rule (with_rule (with_rule (with_rule (with_rule (with_follow (with_rule (with_units (with_search a))
+    (value_rule (codes "comp-dir")))) big_rule) line_str_rule) str_rule) file_rule) lines_rule
+
+-- `lines [--exact] [--all] [--stop] [-j NAME] [--older SIZE] [--address-size SIZE] [--version-5] [--comp-dir DIR]
+-- [--debug-dir DIR].. [--no-follow] [--verbose] [--big] [--line-str PATH] [--str PATH] FILE PATH:LINE..`
+abbrev pub lines_app : App
+lines_app = with_lines (new_app (codes "lines"))
+
 -- `dwline`, which has a version and wants a subcommand
 abbrev pub top_app : App
 top_app =
@@ -193,9 +227,9 @@ top_app =
 -- the whole program
 abbrev pub command_line : App
 command_line =
-    with_subcommand
+    with_subcommand (with_subcommand (with_subcommand
     (with_subcommand (with_subcommand (with_subcommand (with_subcommand (with_subcommand top_app addr_app.top)
-    index_app.top) dump_app.top) check_app.top) find_app.top) copy_app.top
+    index_app.top) dump_app.top) check_app.top) find_app.top) copy_app.top) sources_app.top) lines_app.top
 
 -- a command without global arguments, of which a parse reads this
 abbrev pub IsApp : App → Command → Type 0

@@ -1,8 +1,8 @@
 //! The arguments of the command line, with their help. Which of them may not stand together is in `refusal`, and so is which
 //! have to be there beside others: of arguments that have no rule on one another clap's contract says each kind of error.
 ghost use Rattle.dl_options.specs.CommandLine.{IsRule, address_rule, addresses_rule, base_rule, big_rule, debug_dir_rule, exe_rule, file_rule, files_rule};
-ghost use Rattle.dl_options.specs.CommandLine.{index_file_rule, letter_rule, line_str_rule, op_rule, output_rule, section_rule};
-ghost use Rattle.dl_options.specs.CommandLine.{str_rule, switch_rule, value_rule};
+ghost use Rattle.dl_options.specs.CommandLine.{index_file_rule, letter_rule, line_str_rule, lines_rule, op_rule, output_rule};
+ghost use Rattle.dl_options.specs.CommandLine.{section_rule, str_rule, switch_rule, value_rule};
 ghost use Rattle.std.specs.Prelude.{codes};
 
 use clap::{Arg, ArgAction};
@@ -105,7 +105,7 @@ pub fn section<'a>(alloc: Global) -> Arg<'a>
         )
 }
 
-/// The file of `addr`, which may be `-` beside `--big`, `--line-str` and `--str`.
+/// The file of `addr` and of `lines`, which may be `-` beside `--big`, `--line-str` and `--str`.
 pub fn addr_file<'a>(alloc: Global) -> Arg<'a>
     ensures { IsRule file_rule result }
 {
@@ -176,6 +176,16 @@ pub fn all<'a>(alloc: Global) -> Arg<'a>
     )
 }
 
+pub fn stop<'a>(alloc: Global) -> Arg<'a>
+    ensures { IsRule (switch_rule (codes "stop")) result }
+{
+    switch(
+        alloc,
+        "stop",
+        "Stop at the first damaged unit, of which the units before it answer alone",
+    )
+}
+
 pub fn addresses<'a>(alloc: Global) -> Arg<'a>
     ensures { IsRule addresses_rule result }
 {
@@ -185,6 +195,18 @@ pub fn addresses<'a>(alloc: Global) -> Arg<'a>
         .help(
             "Addresses to look up: 0x and hexadecimal digits, or decimal digits; without one they \
              are read from standard input, one a line",
+        )
+}
+
+/// The lines of source files that `lines` looks up.
+pub fn lines<'a>(alloc: Global) -> Arg<'a>
+    ensures { IsRule lines_rule result }
+{
+    Arg::new(alloc, "line")
+        .action(ArgAction::Append)
+        .value_name("PATH:LINE")
+        .help(
+            "Lines to look up: the path of a source file, or its end from after a slash on, and a number",
         )
 }
 

@@ -1,19 +1,17 @@
 //! The command line: its subcommands, with their help.
 ghost use Rattle.std.specs.Prelude.{IfOk, OnErr, codes};
-ghost use Rattle.clap.specs.Words.{AddsArg, AddsSubcommand, App, Rule, with_rule, with_subcommand};
-ghost use Rattle.dl_options.specs.CommandLine.{IsApp, IsRule, addr_app, check_app, command_line, copy_app, dump_app, find_app};
-ghost use Rattle.dl_options.specs.CommandLine.{index_app, top_app, with_addresses, with_files, with_follow, with_input, with_keep_going, with_making};
-ghost use Rattle.dl_options.specs.CommandLine.{with_printing, with_settings, with_shown, with_strings, with_to_5, with_units};
-ghost use Rattle.dl_options.specs.CommandLine.{with_units_of_file};
+ghost use Rattle.clap.specs.Words.{AddsSubcommand, App, with_subcommand};
+ghost use Rattle.dl_options.specs.CommandLine.{IsApp, addr_app, check_app, command_line, copy_app, dump_app, find_app};
+ghost use Rattle.dl_options.specs.CommandLine.{index_app, lines_app, sources_app, top_app};
 ghost use Rattle.dl_options.specs.Memory.{LibraryRefused};
 
-use crate::arguments::{
-    addr_file, address, address_size, addresses, all, base, big, comp_dir, debug_dir, exe, file,
-    files, files_from, index_file, json, letter, line_str, list, made_of, older, op, output,
-    section, strings, switch, version_5,
-};
+use crate::arguments::{address, index_file, list, op, output, section};
 use crate::library::refused;
-use clap::{Arg, Command};
+use crate::parts::{
+    add_addresses, add_files, add_follow, add_input, add_keep_going, add_lines, add_listing,
+    add_making, add_shown, add_strings, add_to_5, add_units, with_arg,
+};
+use clap::Command;
 use std::alloc::{AllocError, Global};
 
 /// The version of the program and of its crates.
@@ -27,20 +25,9 @@ const WITHOUT_FILE: &str =
 const WITHOUT_FILES: &str =
     "Without FILE and --files-from the bytes of a section .debug_line are read from standard input, not an ELF file.";
 
-/// What stands at the head of the page of `addr`.
+/// What stands at the head of the pages of `addr` and of `lines`.
 const WITHOUT_ELF_FILE: &str =
     "Where FILE is - the bytes of a section .debug_line are read from standard input, not an ELF file.";
-
-/// The command with one argument more.
-fn take_arg<'a>(command: Command<'a>, arg: Arg<'a>) -> Result<Command<'a>, AllocError>
-    ensures added { IfOk result (λ r. AddsArg command.entry arg.entry r) }
-    ensures refused { OnErr result LibraryRefused }
-{
-    match command.arg(arg) {
-        Ok(command) => Ok(command),
-        Err(error) => Err(refused(error)),
-    }
-}
 
 /// The command line with one subcommand more.
 fn take_subcommand<'a>(line: Command<'a>, command: Command<'a>) -> Result<Command<'a>, AllocError>
@@ -53,18 +40,6 @@ fn take_subcommand<'a>(line: Command<'a>, command: Command<'a>) -> Result<Comman
     }
 }
 
-/// The command with one argument more, where it could be made so far.
-fn with_arg<'a>(
-    command: Result<Command<'a>, AllocError>,
-    arg: Arg<'a>,
-) -> Result<Command<'a>, AllocError>
-    ensures app { (a : App) (r : Rule) → IfOk command.entry (IsApp a) → IsRule r arg.entry
-        → IfOk result (IsApp (with_rule a r)) }
-    ensures refused { OnErr command.entry LibraryRefused → OnErr result LibraryRefused }
-{
-    take_arg(command?, arg)
-}
-
 /// The command line with one subcommand more, where that could be made.
 fn with_command<'a>(
     line: Command<'a>,
@@ -75,142 +50,6 @@ fn with_command<'a>(
     ensures refused { OnErr command.entry LibraryRefused → OnErr result LibraryRefused }
 {
     take_subcommand(line, command?)
-}
-
-/// Which units of versions 2 to 4 are read.
-fn add_units<'a>(
-    alloc: Global,
-    command: Result<Command<'a>, AllocError>,
-) -> Result<Command<'a>, AllocError>
-    ensures app { (a : App) → IfOk command.entry (IsApp a) → IfOk result (IsApp (with_units a)) }
-    ensures refused { OnErr command.entry LibraryRefused → OnErr result LibraryRefused }
-{
-    add_units_of_file(alloc, with_arg(command, older(alloc)))
-}
-
-/// The same of a FILE that is no section on standard input.
-fn add_units_of_file<'a>(
-    alloc: Global,
-    command: Result<Command<'a>, AllocError>,
-) -> Result<Command<'a>, AllocError>
-    ensures app { (a : App) → IfOk command.entry (IsApp a) → IfOk result (IsApp (with_units_of_file a)) }
-    ensures refused { OnErr command.entry LibraryRefused → OnErr result LibraryRefused }
-{
-    let command = with_arg(command, address_size(alloc));
-    with_arg(command, version_5(alloc))
-}
-
-/// `--to-5`, and what is said of the units that it copies.
-fn add_to_5<'a>(
-    alloc: Global,
-    command: Result<Command<'a>, AllocError>,
-) -> Result<Command<'a>, AllocError>
-    ensures app { (a : App) → IfOk command.entry (IsApp a) → IfOk result (IsApp (with_to_5 a)) }
-    ensures refused { OnErr command.entry LibraryRefused → OnErr result LibraryRefused }
-{
-    let to_5 = switch(
-        alloc,
-        "to-5",
-        "Copy units of versions 2 to 4 too, as units of version 5",
-    );
-    let command = with_arg(command, to_5);
-    let command = with_arg(command, older(alloc));
-    let command = with_arg(command, address_size(alloc));
-    with_arg(command, comp_dir(alloc))
-}
-
-/// Whether units after a damaged one are read.
-fn add_keep_going<'a>(
-    alloc: Global,
-    command: Result<Command<'a>, AllocError>,
-) -> Result<Command<'a>, AllocError>
-    ensures app { (a : App) → IfOk command.entry (IsApp a) → IfOk result (IsApp (with_keep_going a)) }
-    ensures refused { OnErr command.entry LibraryRefused → OnErr result LibraryRefused }
-{
-    let keep_going = switch(
-        alloc,
-        "keep-going",
-        "After a damaged unit go on with the next one",
-    );
-    with_arg(command, keep_going)
-}
-
-/// What `dump` prints of each unit beside its directories, files and rows.
-fn add_shown<'a>(
-    alloc: Global,
-    command: Result<Command<'a>, AllocError>,
-) -> Result<Command<'a>, AllocError>
-    ensures app { (a : App) → IfOk command.entry (IsApp a) → IfOk result (IsApp (with_shown a)) }
-    ensures refused { OnErr command.entry LibraryRefused → OnErr result LibraryRefused }
-{
-    let header = switch(alloc, "header", "Print the fields of each header too");
-    with_arg(command, header)
-}
-
-/// Which files are read in place of one without a line table.
-fn add_follow<'a>(
-    alloc: Global,
-    command: Result<Command<'a>, AllocError>,
-) -> Result<Command<'a>, AllocError>
-    ensures app { (a : App) → IfOk command.entry (IsApp a) → IfOk result (IsApp (with_follow a)) }
-    ensures refused { OnErr command.entry LibraryRefused → OnErr result LibraryRefused }
-{
-    let no_follow = switch(alloc, "no-follow", "Read no other file in place of FILE");
-    let verbose = switch(
-        alloc,
-        "verbose",
-        "Tell on standard error which file is read, and what is passed over",
-    );
-    let command = with_arg(command, debug_dir(alloc));
-    with_arg(with_arg(command, no_follow), verbose)
-}
-
-fn add_input<'a>(
-    alloc: Global,
-    command: Result<Command<'a>, AllocError>,
-) -> Result<Command<'a>, AllocError>
-    ensures app { (a : App) → IfOk command.entry (IsApp a) → IfOk result (IsApp (with_input a)) }
-    ensures refused { OnErr command.entry LibraryRefused → OnErr result LibraryRefused }
-{
-    with_arg(with_arg(command, big(alloc)), file(alloc))
-}
-
-/// Which files are read, and whether it is told how far the work is.
-fn add_files<'a>(
-    alloc: Global,
-    command: Result<Command<'a>, AllocError>,
-) -> Result<Command<'a>, AllocError>
-    ensures app { (a : App) → IfOk command.entry (IsApp a) → IfOk result (IsApp (with_files a)) }
-    ensures refused { OnErr command.entry LibraryRefused → OnErr result LibraryRefused }
-{
-    let command = with_arg(command, big(alloc));
-    let command = with_arg(command, files_from(alloc));
-    let null = letter(
-        alloc,
-        "null",
-        '0',
-        "Paths of --files-from end with a zero byte, as find -print0 writes them",
-    );
-    let command = with_arg(command, null);
-    let progress = switch(
-        alloc,
-        "progress",
-        "Tell on standard error how far the work is",
-    );
-    with_arg(with_arg(command, progress), files(alloc))
-}
-
-fn add_strings<'a>(
-    alloc: Global,
-    command: Result<Command<'a>, AllocError>,
-) -> Result<Command<'a>, AllocError>
-    ensures app { (a : App) → IfOk command.entry (IsApp a) → IfOk result (IsApp (with_strings a)) }
-    ensures refused { OnErr command.entry LibraryRefused → OnErr result LibraryRefused }
-{
-    let command = with_arg(command, big(alloc));
-    let command = with_arg(command, line_str(alloc));
-    let command = with_arg(command, strings(alloc));
-    with_arg(command, file(alloc))
 }
 
 /// `dump`, which prints all units.
@@ -280,71 +119,6 @@ pub fn copy<'a>(alloc: Global) -> Result<Command<'a>, AllocError>
     add_input(alloc, add_to_5(alloc, Ok(command)))
 }
 
-/// How answers are printed.
-fn add_printing<'a>(
-    alloc: Global,
-    command: Result<Command<'a>, AllocError>,
-) -> Result<Command<'a>, AllocError>
-    ensures app { (a : App) → IfOk command.entry (IsApp a) → IfOk result (IsApp (with_printing a)) }
-    ensures refused { OnErr command.entry LibraryRefused → OnErr result LibraryRefused }
-{
-    let addresses = letter(
-        alloc,
-        "addresses",
-        'a',
-        "Print each address before its location",
-    );
-    let command = with_arg(command, addresses);
-    let basenames = letter(
-        alloc,
-        "basenames",
-        's',
-        "Print the last component of each path alone",
-    );
-    with_arg(with_arg(command, basenames), json(alloc))
-}
-
-/// How addresses are read and looked up, and how answers are printed.
-fn add_settings<'a>(
-    alloc: Global,
-    command: Result<Command<'a>, AllocError>,
-) -> Result<Command<'a>, AllocError>
-    ensures app { (a : App) → IfOk command.entry (IsApp a) → IfOk result (IsApp (with_settings a)) }
-    ensures refused { OnErr command.entry LibraryRefused → OnErr result LibraryRefused }
-{
-    let command = add_printing(alloc, command);
-    let hex = switch(alloc, "hex", "Read digits without 0x as hexadecimal too");
-    let command = with_arg(command, hex);
-    let command = with_arg(command, base(alloc));
-    let command = with_arg(command, all(alloc));
-    let stop = switch(
-        alloc,
-        "stop",
-        "Stop at the first damaged unit, of which the units before it answer alone",
-    );
-    let command = with_arg(command, stop);
-    with_arg(command, section(alloc))
-}
-
-fn add_addresses<'a>(
-    alloc: Global,
-    command: Result<Command<'a>, AllocError>,
-) -> Result<Command<'a>, AllocError>
-    ensures app { (a : App) → IfOk command.entry (IsApp a) → IfOk result (IsApp (with_addresses a)) }
-    ensures refused { OnErr command.entry LibraryRefused → OnErr result LibraryRefused }
-{
-    let command = add_units(alloc, add_settings(alloc, command));
-    let command = with_arg(command, comp_dir(alloc));
-    let command = with_arg(command, made_of(alloc));
-    let command = add_follow(alloc, command);
-    let command = with_arg(command, big(alloc));
-    let command = with_arg(command, line_str(alloc));
-    let command = with_arg(command, strings(alloc));
-    let command = with_arg(command, exe(alloc));
-    let command = with_arg(command, addr_file(alloc));
-    with_arg(command, addresses(alloc))
-}
-
 /// `addr`, which prints where addresses are in the source.
 pub fn addr<'a>(alloc: Global) -> Result<Command<'a>, AllocError>
     ensures app { IfOk result (IsApp addr_app) }
@@ -358,20 +132,6 @@ pub fn addr<'a>(alloc: Global) -> Result<Command<'a>, AllocError>
              dwline addr program < addresses\n  dwline addr program.idx 0x401136",
         );
     add_addresses(alloc, Ok(command))
-}
-
-/// What an index is made of.
-fn add_making<'a>(
-    alloc: Global,
-    command: Result<Command<'a>, AllocError>,
-) -> Result<Command<'a>, AllocError>
-    ensures app { (a : App) → IfOk command.entry (IsApp a) → IfOk result (IsApp (with_making a)) }
-    ensures refused { OnErr command.entry LibraryRefused → OnErr result LibraryRefused }
-{
-    let command = add_keep_going(alloc, with_arg(command, all(alloc)));
-    let command = with_arg(command, section(alloc));
-    let command = add_units_of_file(alloc, command);
-    add_follow(alloc, with_arg(command, comp_dir(alloc)))
 }
 
 /// `index`, which makes the index of a file, or lists one.
@@ -390,6 +150,37 @@ pub fn index<'a>(alloc: Global) -> Result<Command<'a>, AllocError>
     let command = with_arg(command, list(alloc));
     let command = with_arg(command, output(alloc));
     with_arg(command, index_file(alloc))
+}
+
+/// `sources`, which prints the path of each source file.
+pub fn sources<'a>(alloc: Global) -> Result<Command<'a>, AllocError>
+    ensures app { IfOk result (IsApp sources_app) }
+    ensures refused { OnErr result LibraryRefused }
+{
+    let command = Command::new(alloc, "sources")
+        .before_help(WITHOUT_FILE)
+        .about("Print the path of each source file")
+        .after_help(
+            "Examples:\n  dwline sources program\n  dwline sources --rows --md5 program\n  \
+             dwline sources --line-str debug_line_str < debug_line",
+        );
+    let command = add_units(alloc, add_listing(alloc, Ok(command)));
+    add_strings(alloc, add_follow(alloc, command))
+}
+
+/// `lines`, which prints the addresses of source lines.
+pub fn lines<'a>(alloc: Global) -> Result<Command<'a>, AllocError>
+    ensures app { IfOk result (IsApp lines_app) }
+    ensures refused { OnErr result LibraryRefused }
+{
+    let command = Command::new(alloc, "lines")
+        .before_help(WITHOUT_ELF_FILE)
+        .about("Print the addresses of source lines")
+        .override_usage("dwline lines [OPTIONS] <FILE> <PATH:LINE>...")
+        .after_help(
+            "Examples:\n  dwline lines program main.c:12\n  dwline lines --exact program src/main.c:12 util.c:7",
+        );
+    add_lines(alloc, Ok(command))
 }
 
 /// The command line without its subcommands, of which one is wanted.
@@ -420,5 +211,7 @@ pub fn make_command_line<'a>(alloc: Global) -> Result<Command<'a>, AllocError>
     let line = with_command(line, dump(alloc))?;
     let line = with_command(line, check(alloc))?;
     let line = with_command(line, find(alloc))?;
-    with_command(line, copy(alloc))
+    let line = with_command(line, copy(alloc))?;
+    let line = with_command(line, sources(alloc))?;
+    with_command(line, lines(alloc))
 }

@@ -4,6 +4,7 @@
 mod arguments;
 mod command_line;
 mod library;
+mod parts;
 
-pub use command_line::{addr, check, copy, dump, find, index, make_command_line};
+pub use command_line::{addr, check, copy, dump, find, index, lines, make_command_line, sources};
 pub use library::refused;

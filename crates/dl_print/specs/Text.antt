@@ -33,10 +33,13 @@ flags_text r =
 abbrev pub number_if_any : List ℕ → ℕ → List ℕ
 number_if_any name n = if n == 0 then [] else name ++ decimal n
 
+abbrev pub row_text : Row → List ℕ
+row_text r =
+    place_text r ++ flags_text r ++ number_if_any (codes " isa ") r.isa
+    ++ number_if_any (codes " disc ") r.discriminator
+
 abbrev pub row_line : Row → List ℕ
-row_line r =
-    line (place_text r ++ flags_text r ++ number_if_any (codes " isa ") r.isa
-    ++ number_if_any (codes " disc ") r.discriminator)
+row_line r = line (row_text r)
 
 -- ---- units
 

@@ -13,5 +13,5 @@ pub use digits::{
 pub use lines::{
     write_foreign_line, write_missing_line, write_summary_line, write_survey_line, write_unit_line,
 };
-pub use row::write_row;
+pub use row::{write_row, write_row_text};
 pub use values::{write_offset, write_quoted_bytes, write_value_start};

@@ -4,6 +4,9 @@ use Rattle.std.specs.declared.io.Error.{Error}
 use Rattle.dl_addr.specs.declared.question.FoundAround.{FoundAround}
 use Rattle.dl_addr.specs.declared.question.WhichFound.{WhichFound}
 use Rattle.dl_addr.specs.declared.question.WhichFound.TheVariants as found
+use Rattle.dl_sources.specs.declared.question.SourcesAround.{SourcesAround}
+use Rattle.dl_sources.specs.declared.question.Sums.{Sums}
+use Rattle.dl_sources.specs.declared.question.Sums.TheVariants as sums
 use Rattle.dl_elf.specs.declared.name.SectionName.{SectionName}
 use Rattle.dl_file.specs.declared.read_fault.ReadFault.{ReadFault}
 use Rattle.dl_print.specs.declared.summary.Summary.{Summary}
@@ -26,7 +29,8 @@ use Rattle.dl_program.specs.Blaming as stops
 use Rattle.dl_program.specs.Blaming.{BlamesOver, IsBlamedOver, IsNoRead}
 use Rattle.dl_program.specs.Stops.{over_file}
 use Rattle.dl_program.specs.Work.{BlamesInput, stopped}
-use Rattle.dl_program.specs.Asked.{SectionWords, all_whole, answered, answered_around, file_of, section_of, unless_damaged}
+use Rattle.dl_program.specs.Answers.{all_whole, answered, answered_around, summed, summed_around, unless_damaged}
+use Rattle.dl_program.specs.Asked.{SectionWords, file_of, section_of}
 
 -- a failed read that is told is the command's
 pub whole_read : (answer : Result Summary RunFault) → all_whole answer ≡ Err fault.Read → answer ≡ Err fault.Read
@@ -37,6 +41,22 @@ pub found_read : (answer : Result WhichFound RunFault) → answered answer ≡ E
 found_read (Ok found.All) e = absurd cc
 found_read (Ok found.NotAll) e = absurd cc
 found_read (Err f) e = same_answer f e
+
+pub sums_read : (answer : Result Sums RunFault) → summed answer ≡ Err fault.Read → answer ≡ Err fault.Read
+sums_read (Ok sums.Agree) e = absurd cc
+sums_read (Ok sums.Differ) e = absurd cc
+sums_read (Err f) e = same_answer f e
+
+pub sums_around_read : (answer : Result SourcesAround RunFault) → summed_around answer ≡ Err fault.Read
+    → answer ≡ Err fault.Read
+sums_around_read (Err f) e = same_answer f e
+sums_around_read (Ok around) e = absurd (by around.sums around.damaged e)
+  where
+    by : (all : Sums) (damaged : Option DamagedUnits)
+        → ¬ (unless_damaged damaged (all_whole (summed (Ok all))) ≡ Err fault.Read)
+    by all (Some units) e = absurd cc
+    by sums.Agree None e = absurd cc
+    by sums.Differ None e = absurd cc
 
 pub around_read : (answer : Result FoundAround RunFault) → answered_around answer ≡ Err fault.Read
     → answer ≡ Err fault.Read
@@ -71,6 +91,23 @@ around_writer fails (Ok around) blames = by around.found around.damaged
     by all (Some units) = tt
     by found.All None = tt
     by found.NotAll None = tt
+
+pub sums_writer : (fails : Type 0) (answer : Result Sums RunFault) → BlamesWriter fails answer
+    → BlamesWriter fails (summed answer)
+sums_writer fails (Ok sums.Agree) blames = tt
+sums_writer fails (Ok sums.Differ) blames = tt
+sums_writer fails (Err f) blames = blames
+
+pub sums_around_writer : (fails : Type 0) (answer : Result SourcesAround RunFault) → BlamesWriter fails answer
+    → BlamesWriter fails (summed_around answer)
+sums_around_writer fails (Err f) blames = blames
+sums_around_writer fails (Ok around) blames = by around.sums around.damaged
+  where
+    by : (all : Sums) (damaged : Option DamagedUnits)
+        → BlamesWriter fails (unless_damaged damaged (all_whole (summed (Ok all))))
+    by all (Some units) = tt
+    by sums.Agree None = tt
+    by sums.Differ None = tt
 
 pub stopped_writer : (fails : Type 0) (answer : Result Survey RunFault) → BlamesWriter fails answer
     → stops.BlamesWriter fails (stopped answer)

@@ -1,10 +1,6 @@
 -- When a command has read a section to its end.
-use Rattle.std.proofs.Common.{◌≡◌, None, Some, Option, Result, Ok, Err, refl, subst}
+use Rattle.std.proofs.Common.{◌≡◌, None, Some, Option, Result, Ok, Err, refl, subst, ap, ◌∙◌}
 use Rattle.std.specs.Prelude.{OnOk, IfOk}
-use Rattle.dl_addr.specs.declared.question.WhichFound.{WhichFound}
-use Rattle.dl_addr.specs.declared.question.WhichFound.TheVariants.{All, NotAll}
-use Rattle.dl_addr.specs.declared.question.FoundAround.{FoundAround}
-use Rattle.dl_addr.specs.declared.question.Question.{Question}
 use Rattle.dl_look.specs.declared.place.Place.{Place}
 use Rattle.dl_print.specs.declared.summary.Summary.{Summary}
 use Rattle.dl_sections.specs.Ending.{WhereWhole}
@@ -12,10 +8,11 @@ use Rattle.dl_sections.specs.declared.around.DamagedUnits.{DamagedUnits}
 use Rattle.dl_sections.specs.declared.around.Survey.{Survey}
 use Rattle.dl_sections.specs.declared.fault.RunFault.{RunFault}
 use Rattle.dl_sections.specs.declared.fault.RunFault.TheVariants as fault
-use Rattle.dl_program.specs.Asked.{all_whole, answered, answered_around, unless_damaged}
+use Rattle.dl_program.specs.Answers.{all_whole, unless_damaged}
 use Rattle.dl_program.specs.Whole.{HasReadAll}
 use Rattle.dl_program.specs.declared.command.Command.{Command}
-use Rattle.dl_program.specs.declared.command.Command.TheVariants.{Addr, AddrAround, Find}
+use Rattle.dl_program.specs.declared.command.Command.TheVariants.{Addr, AddrAround, Find, Lines, LinesAround, Sources}
+use Rattle.dl_program.specs.declared.command.Command.TheVariants.{SourcesAround}
 
 -- an answer of a command, by its name
 as_named : (own command : Command) (result answer : Result Survey RunFault) → own ≡ command → result ≡ answer
@@ -52,33 +49,50 @@ find_over P own place answer result is told over read =
     by (Err fault.NotFound) over read = over refl
     by (Err other) over read = absurd read
 
--- `addr`, whose reading doesn't end with the fault that something wasn't found
-pub addr_over : (P : Type 0) (own : Command) (q : Question) (answer : Result WhichFound RunFault) (result : Result Survey RunFault)
-    → own ≡ Addr q → result ≡ all_whole (answered answer) → ¬ (answer ≡ Err fault.NotFound) → OnOk answer P
-    → HasReadAll own result → P
-addr_over P own q answer result is told never over read =
-    by answer never over (as_named own (Addr q) result (all_whole (answered answer)) is told read)
-  where
-    by : (answer : Result WhichFound RunFault) → ¬ (answer ≡ Err fault.NotFound) → OnOk answer P
-        → HasReadAll (Addr q) (all_whole (answered answer)) → P
-    by (Ok All) never over read = over
-    by (Ok NotAll) never over read = over
-    by (Err fault.NotFound) never over read = absurd (never refl)
-    by (Err other) never over read = absurd read
+-- the fault that a command answers where it has read all
+abbrev pub lack_of : Command → RunFault
+lack_of (Sources q) = fault.TwoSums
+lack_of (SourcesAround q) = fault.TwoSums
+lack_of other = fault.NotFound
 
-pub addr_around_over : (P : Type 0) (own : Command) (q : Question) (answer : Result FoundAround RunFault)
-    (result : Result Survey RunFault) → own ≡ AddrAround q → result ≡ answered_around answer
-    → ¬ (answer ≡ Err fault.NotFound) → IfOk answer (λ around. around.damaged ≡ None → P) → HasReadAll own result → P
-addr_around_over P own q answer result is told never over read =
-    by answer never over (as_named own (AddrAround q) result (answered_around answer) is told read)
-  where
-    of : (damaged : Option DamagedUnits) (found : WhichFound) → (damaged ≡ None → P)
-        → HasReadAll (AddrAround q) (unless_damaged damaged (all_whole (answered (Ok found)))) → P
-    of None found over read = over refl
-    of (Some units) found over read = absurd (cc read)
+lacks : (command : Command) (f : RunFault) → HasReadAll command (Err f) → f ≡ lack_of command
+lacks (Find place) fault.NotFound read = refl
+lacks (Addr q) fault.NotFound read = refl
+lacks (AddrAround q) fault.NotFound read = refl
+lacks (Lines q) fault.NotFound read = refl
+lacks (LinesAround q) fault.NotFound read = refl
+lacks (Sources q) fault.TwoSums read = refl
+lacks (SourcesAround q) fault.TwoSums read = refl
+lacks command f read = absurd read
 
-    by : (answer : Result FoundAround RunFault) → ¬ (answer ≡ Err fault.NotFound)
-        → IfOk answer (λ around. around.damaged ≡ None → P) → HasReadAll (AddrAround q) (answered_around answer) → P
-    by (Ok around) never over read = of around.damaged around.found over read
-    by (Err fault.NotFound) never over read = absurd (never refl)
-    by (Err other) never over read = absurd read
+is_whole : (command : Command) (survey : Survey) → HasReadAll command (Ok survey) → survey.damaged ≡ None
+is_whole (Find place) survey read = absurd read
+is_whole command survey read = read
+
+-- one whose reading doesn't end with that fault. tells: what is told of its answer
+module _ {A : Type 0} (P : Type 0) (own command : Command) (is : own ≡ command) (tells : Result A RunFault → Result Survey RunFault)
+    (faults : (f : RunFault) → tells (Err f) ≡ Err f) where
+  failed : (f : RunFault) (result : Result Survey RunFault) → result ≡ tells (Err f)
+      → ¬ (◌≡◌ {A = Result A RunFault} (Err f) (Err (lack_of command))) → HasReadAll own result → P
+  failed f result told never read =
+      absurd (never (ap Err (lacks command f (as_named own command result (Err f) is (told ∙ faults f) read))))
+
+  pub told_over : (answer : Result A RunFault) (result : Result Survey RunFault) → result ≡ tells answer
+      → ¬ (answer ≡ Err (lack_of command)) → OnOk answer P → HasReadAll own result → P
+  told_over (Ok a) result told never over read = over
+  told_over (Err f) result told never over read = failed f result told never read
+
+  -- of one that goes on after damaged units
+  module _ (damaged : A → Option DamagedUnits) (good : A → Result Survey RunFault)
+      (around : (a : A) → tells (Ok a) ≡ unless_damaged (damaged a) (good a)) where
+    by_damaged : (units : Option DamagedUnits) (answer result : Result Survey RunFault) → result ≡ unless_damaged units answer
+        → (units ≡ None → P) → HasReadAll own result → P
+    by_damaged None answer result told over read = over refl
+    by_damaged (Some units) answer result told over read =
+        let some : ◌≡◌ {A = Option DamagedUnits} (Some units) None = is_whole command _
+        (as_named own command result (unless_damaged (Some units) answer) is told read) in absurd cc
+
+    pub told_around_over : (answer : Result A RunFault) (result : Result Survey RunFault) → result ≡ tells answer
+        → ¬ (answer ≡ Err (lack_of command)) → IfOk answer (λ a. damaged a ≡ None → P) → HasReadAll own result → P
+    told_around_over (Ok a) result told never over read = by_damaged (damaged a) (good a) result (told ∙ around a) over read
+    told_around_over (Err f) result told never over read = failed f result told never read

@@ -1,7 +1,6 @@
 -- What a request asks: which command, of which file, or of which section on the input.
 use Rattle.std.specs.Prelude.{ℕ, Bool, true, false, List, [], Option, Some, None, option_map, option_and_then, Result}
-use Rattle.std.specs.Prelude.{Ok}
-use Rattle.std.specs.Prelude.{Err, ◌≡◌, codes, if◌then◌else◌}
+use Rattle.std.specs.Prelude.{◌≡◌, codes, if◌then◌else◌}
 use Rattle.std.specs.Io.KnownBytes.{Consumes, Keeps}
 use Rattle.std.specs.Option.{option_copied}
 use Rattle.std.specs.Str.{bytes_eq}
@@ -12,36 +11,42 @@ use Rattle.dl_head.specs.Dialect.{version_5}
 use Rattle.dl_dirs.specs.declared.compilation.CompilationDirectories.{CompilationDirectories}
 use Rattle.dl_dirs.specs.Compilation.{directory_by}
 use Rattle.dl_look.specs.declared.place.Place.{Place}
-use Rattle.dl_sections.specs.declared.options.Detail.{Detail}
 use Rattle.dl_sections.specs.declared.options.TheConstants.{SECTION_LIMIT}
 use Rattle.dl_sections.specs.declared.fault.RunFault.{RunFault}
 use Rattle.dl_sections.specs.declared.around.Damage.{Damage}
-use Rattle.dl_sections.specs.declared.around.DamagedUnits.{DamagedUnits}
 use Rattle.dl_sections.specs.declared.around.Survey.{Survey}
 use Rattle.dl_print.specs.declared.summary.Summary.{Summary}
 use Rattle.dl_cmd.specs.Address.{address_in}
-use Rattle.dl_sections.specs.Commands.{Checks, Copies, CopiesTo5, Dumps, Finds}
-use Rattle.dl_sections.specs.AroundCommands.{ChecksAround, DumpsAround}
-use Rattle.dl_cmd.specs.Job.{Request, Text, addr, check, copy, dump, find, index}
+use Rattle.dl_sections.specs.Commands.{Checks, Copies, CopiesTo5, Finds}
+use Rattle.dl_sections.specs.AroundCommands.{ChecksAround}
+use Rattle.dl_cmd.specs.Job.{Request, Text, addr, check, copy, dump, find, index, lines, sources}
 use Rattle.dl_print.specs.ValueText.{Strings}
 use Rattle.dl_open.specs.declared.named.Sections.{Sections}
-use Rattle.dl_open.specs.declared.named.Sections.TheVariants.{Lines, LinesAndTexts}
+use Rattle.dl_open.specs.declared.named.Sections.TheVariants as looked
+use Rattle.dl_dump.specs.Commands.{DumpsDetails, DumpsDetailsAround}
+use Rattle.dl_program.specs.Shown.{ShownTexts, directories_asked, shown_seen}
 use Rattle.dl_program.specs.Units.{are_sizes, older_by, units_of}
 use Rattle.dl_program.specs.declared.command.Command.{Command}
 use Rattle.dl_program.specs.declared.command.Command.TheVariants.{Addr, Dump, DumpAround, Check, CheckAround, Find, Copy}
 use Rattle.dl_program.specs.declared.command.Command.TheVariants.{AddrAround, CopyTo5, Index, IndexAround, IndexUntil}
-use Rattle.dl_program.specs.declared.command.Command.TheVariants.{IndexUntilAround}
-use Rattle.dl_program.specs.declared.command.TheConstants.{NOTHING}
+use Rattle.dl_program.specs.declared.command.Command.TheVariants.{IndexUntilAround, Lines, LinesAround, Sources, SourcesAround}
+use Rattle.dl_program.specs.Answers.{all_whole, answered, answered_around, summed, summed_around}
 use Rattle.dl_addr.specs.declared.question.WhichFound.{WhichFound}
 use Rattle.dl_addr.specs.declared.question.FoundAround.{FoundAround}
 use Rattle.dl_addr.specs.declared.question.Question.{Question}
-use Rattle.dl_addr.specs.declared.question.WhichFound.TheVariants as found
 use Rattle.dl_addr.specs.AroundCommands.{LocatesAround}
 use Rattle.dl_addr.specs.Commands.{Locates}
 use Rattle.dl_making.specs.declared.making.Table.{Table}
 use Rattle.dl_making.specs.Writes.{Writes, WritesAround}
 use Rattle.dl_making.specs.WritesUntil.{WritesUntil, WritesUntilAround}
-use Rattle.dl_sections.specs.declared.fault.RunFault.TheVariants.{NotFound}
+use Rattle.dl_lines.specs.declared.question.LinesQuestion.{LinesQuestion}
+use Rattle.dl_lines.specs.AroundCommands.{TellsLinesAround}
+use Rattle.dl_lines.specs.Commands.{TellsLines}
+use Rattle.dl_sources.specs.declared.question.SourcesAround as listed
+use Rattle.dl_sources.specs.declared.question.SourcesQuestion.{SourcesQuestion}
+use Rattle.dl_sources.specs.declared.question.Sums.{Sums}
+use Rattle.dl_sources.specs.AroundCommands.{ListsAround}
+use Rattle.dl_sources.specs.Commands.{Lists}
 
 -- the place of `find`; none where ADDRESS is no address
 abbrev pub place_of : (address : Option Text) (op : ℕ) → Option Place
@@ -49,8 +54,8 @@ place_of address op = option_map (λ n. record { address = n; op_index = op }) (
 
 -- a command, by the text of its word
 pub data CommandData : Type 0 where
-  dumps : Detail → CommandData
-  dumps_around : Detail → CommandData
+  dumps : ShownTexts → CommandData
+  dumps_around : ShownTexts → CommandData
   checks : CommandData
   checks_around : CommandData
   finds : Place → CommandData
@@ -62,10 +67,14 @@ pub data CommandData : Type 0 where
   indexes_around : Table → CommandData
   indexes_until : Table → CommandData
   indexes_until_around : Table → CommandData
+  tells_lines : LinesQuestion → CommandData
+  tells_lines_around : LinesQuestion → CommandData
+  tells_sources : SourcesQuestion → CommandData
+  tells_sources_around : SourcesQuestion → CommandData
 
 abbrev pub command_seen : Command → CommandData
-command_seen (Dump detail) = dumps detail
-command_seen (DumpAround detail) = dumps_around detail
+command_seen (Dump details) = dumps (shown_seen details)
+command_seen (DumpAround details) = dumps_around (shown_seen details)
 command_seen Check = checks
 command_seen CheckAround = checks_around
 command_seen (Find place) = finds place
@@ -77,12 +86,18 @@ command_seen (Index table) = indexes table
 command_seen (IndexAround table) = indexes_around table
 command_seen (IndexUntil table) = indexes_until table
 command_seen (IndexUntilAround table) = indexes_until_around table
+command_seen (Lines question) = tells_lines question
+command_seen (LinesAround question) = tells_lines_around question
+command_seen (Sources question) = tells_sources question
+command_seen (SourcesAround question) = tells_sources_around question
 
--- the command; none where ADDRESS is no address, where a section of an object file is named without FILE, of `addr`,
--- which asks for many, and of `index`, which is made with what the file tells
+-- the command; none where ADDRESS is no address, where a section of an object file is named without FILE, and of `addr`, `lines`,
+-- `index` and `sources`, which are asked with what the file tells
 abbrev pub command_asked : Request → Option CommandData
-command_asked (dump file big units line_str str true header) = Some (dumps_around (record { header = header }))
-command_asked (dump file big units line_str str false header) = Some (dumps (record { header = header }))
+command_asked (dump file big units line_str str true header operations paths comp_dir) = Some (dumps_around
+    (record { header = header; operations = operations; paths = paths; directories = directories_asked comp_dir }))
+command_asked (dump file big units line_str str false header operations paths comp_dir) = Some (dumps
+    (record { header = header; operations = operations; paths = paths; directories = directories_asked comp_dir }))
 command_asked (check file big units true) = Some checks_around
 command_asked (check file big units false) = Some checks
 command_asked (find None big units address op (Some section) line_str str) = None
@@ -91,6 +106,8 @@ command_asked (copy file big units true comp_dir) = Some (copies_to_5 comp_dir)
 command_asked (copy file big units false comp_dir) = Some copies
 command_asked (addr words) = None
 command_asked (index words) = None
+command_asked (lines words) = None
+command_asked (sources words) = None
 
 -- the same; none also where a size is no size
 abbrev pub command_of : Request → Option CommandData
@@ -98,29 +115,33 @@ command_of request = if are_sizes (units_of request) then command_asked request 
 
 -- the path of the ELF file
 abbrev pub file_of : Request → Option Text
-file_of (dump file big units line_str str keep_going header) = file
+file_of (dump file big units line_str str keep_going header operations paths comp_dir) = file
 file_of (check file big units keep_going) = file
 file_of (find file big units address op section line_str str) = file
 file_of (copy file big units to_5 comp_dir) = file
 file_of (addr words) = words.file
 file_of (index words) = words.file
+file_of (lines words) = words.file
+file_of (sources words) = words.file
 
 -- `-` is no path of a file
 abbrev pub unless_input : Option Text → Option Text
 unless_input None = None
 unless_input (Some path) = if bytes_eq path (codes "-") then None else Some path
 
--- the path of the ELF file in which addresses are looked up, or whose addresses an index tells
+-- the path of the ELF file in which addresses or lines are looked up, or whose addresses an index tells
 abbrev pub looked_into : Request → Option Text
 looked_into (find file big units address op section line_str str) = file
 looked_into (addr words) = unless_input words.file
 looked_into (index words) = if words.list then None else words.file
+looked_into (lines words) = unless_input words.file
 looked_into other = None
 
 -- the path of the ELF file in whose place one with its debug information may be read
 abbrev pub followed_path : Request → Option Text
-followed_path (dump file big units line_str str keep_going header) = file
+followed_path (dump file big units line_str str keep_going header operations paths comp_dir) = file
 followed_path (check file big units keep_going) = file
+followed_path (sources words) = words.file
 followed_path other = looked_into other
 
 -- the section of an object file that is looked into
@@ -128,6 +149,7 @@ abbrev pub part_name_of : Request → Option Text
 part_name_of (find file big units address op section line_str str) = section
 part_name_of (addr words) = words.section
 part_name_of (index words) = words.section
+part_name_of (lines words) = words.section
 part_name_of other = None
 
 -- what is said of a section on the input; older: the size of an address in units before version 5
@@ -138,7 +160,7 @@ pub record SectionWords : Type 0 where
   pub strings : Option Text
 
 abbrev pub section_of : Request → SectionWords
-section_of (dump file big units line_str str keep_going header) =
+section_of (dump file big units line_str str keep_going header operations paths comp_dir) =
     record { big = big; older = units.older; line_str = line_str; strings = str }
 section_of (check file big units keep_going) =
     record { big = big; older = units.older; line_str = None; strings = None }
@@ -149,6 +171,10 @@ section_of (copy file big units to_5 comp_dir) =
 section_of (addr words) =
     record { big = words.big; older = words.units.older; line_str = words.line_str; strings = words.strings }
 section_of (index words) = record { big = false; older = words.units.older; line_str = None; strings = None }
+section_of (lines words) =
+    record { big = words.big; older = words.units.older; line_str = words.line_str; strings = words.strings }
+section_of (sources words) =
+    record { big = words.big; older = words.units.older; line_str = words.line_str; strings = words.strings }
 
 abbrev pub order_of : (big : Bool) → Order
 order_of big = if big then Big else Little
@@ -163,13 +189,13 @@ is_copy other = false
 
 -- what a command looks into of a file: the string sections where it tells their texts
 abbrev pub sections_of : Command → Sections
-sections_of Check = Lines
-sections_of CheckAround = Lines
-sections_of Copy = Lines
-sections_of (CopyTo5 comp_dir) = Lines
-sections_of other = LinesAndTexts
+sections_of Check = looked.Lines
+sections_of CheckAround = looked.Lines
+sections_of Copy = looked.Lines
+sections_of (CopyTo5 comp_dir) = looked.Lines
+sections_of other = looked.LinesAndTexts
 
--- it looks addresses up, or tells what is looked up
+-- it looks up addresses or lines, or tells what is looked up
 abbrev pub looks_up : Command → Bool
 looks_up (Find place) = true
 looks_up (Addr question) = true
@@ -178,33 +204,14 @@ looks_up (Index table) = true
 looks_up (IndexAround table) = true
 looks_up (IndexUntil table) = true
 looks_up (IndexUntilAround table) = true
+looks_up (Lines question) = true
+looks_up (LinesAround question) = true
 looks_up other = false
-
--- what `addr` answered, as the other commands answer
-abbrev pub answered : Result WhichFound RunFault → Result Summary RunFault
-answered (Ok found.All) = Ok NOTHING
-answered (Ok found.NotAll) = Err NotFound
-answered (Err f) = Err f
 
 -- what is said of a command. start, now: what the output held at first, and holds now; hears: which damaged units were
 -- told of, after which the command goes on; then what it answers, or why it stops
 abbrev pub Outcome : (Reason : Type 0) → Type 1
 Outcome Reason = (start now : Option (List ℕ)) (hears : List Damage → Type 0) → Result Survey Reason → Type 0
-
--- what a command answered that ends at the first damaged unit, as those answer that go on
-abbrev pub all_whole : Result Summary RunFault → Result Survey RunFault
-all_whole (Ok summary) = Ok (record { summary = summary; damaged = None })
-all_whole (Err f) = Err f
-
--- where units are damaged their number is answered, else this
-abbrev pub unless_damaged : Option DamagedUnits → Result Survey RunFault → Result Survey RunFault
-unless_damaged (Some units) answer = Ok (record { summary = NOTHING; damaged = Some units })
-unless_damaged None answer = answer
-
--- what `addr_around` answered, as the other commands answer
-abbrev pub answered_around : Result FoundAround RunFault → Result Survey RunFault
-answered_around (Ok around) = unless_damaged around.damaged (all_whole (answered (Ok around.found)))
-answered_around (Err f) = Err f
 
 -- the command ends at the first damaged unit, of which its answer tells: it tells of none beside that
 abbrev pub EndsThere : (Answers : Result Summary RunFault → Type 0) (hears : List Damage → Type 0)
@@ -220,10 +227,10 @@ GoesOn Answers hears result = hears [] × Answers result
 -- what the command answers, writes and tells. bytes: what was read of a section, which has `left` left. refuses: for how
 -- many items memory is refused
 abbrev pub Does : (refuses : ℕ → Type 0) → Command → Dialect → Strings → (limit : ℕ) (bytes : List ℕ) (left : Option (List ℕ)) → Outcome RunFault
-Does refuses (Dump detail) dialect s limit bytes left start now =
-    EndsThere (Dumps dialect (record { detail = detail; strings = s }) limit bytes left start now)
-Does refuses (DumpAround detail) dialect s limit bytes left start now =
-    DumpsAround dialect (record { detail = detail; strings = s }) limit bytes left start now
+Does refuses (Dump details) dialect s limit bytes left start now =
+    EndsThere (DumpsDetails dialect (record { details = details; strings = s }) limit bytes left start now)
+Does refuses (DumpAround details) dialect s limit bytes left start now =
+    DumpsDetailsAround dialect (record { details = details; strings = s }) limit bytes left start now
 Does refuses Check dialect s limit bytes left start now = EndsThere (Checks dialect limit bytes left start now)
 Does refuses CheckAround dialect s limit bytes left start now = ChecksAround dialect limit bytes left start now
 Does refuses (Find place) dialect s limit bytes left start now = EndsThere (Finds dialect s place limit bytes left start now)
@@ -247,6 +254,18 @@ Does refuses (IndexUntil table) dialect s limit bytes left start now =
     EndsThere (WritesUntil refuses dialect s table limit bytes left start now)
 Does refuses (IndexUntilAround table) dialect s limit bytes left start now =
     GoesOn (WritesUntilAround refuses dialect s table limit bytes left start now)
+Does refuses (Lines question) dialect s limit bytes left start now = EndsThere (λ answer.
+    (found : Result WhichFound RunFault) × (answer ≡ answered found)
+    × TellsLines refuses dialect s question limit bytes left start now found)
+Does refuses (LinesAround question) dialect s limit bytes left start now = GoesOn (λ answer.
+    (found : Result FoundAround RunFault) × (answer ≡ answered_around found)
+    × TellsLinesAround refuses dialect s question limit bytes left start now found)
+Does refuses (Sources question) dialect s limit bytes left start now = EndsThere (λ answer.
+    (sums : Result Sums RunFault) × (answer ≡ summed sums)
+    × Lists refuses dialect s question limit bytes left start now sums)
+Does refuses (SourcesAround question) dialect s limit bytes left start now = GoesOn (λ answer.
+    (around : Result listed.SourcesAround RunFault) × (answer ≡ summed_around around)
+    × ListsAround refuses dialect s question limit bytes left start now around)
 
 -- what `addr` writes of a section without bytes, so that each address has no answer
 abbrev pub Unfound : (refuses : ℕ → Type 0) → Question → (start now : Option (List ℕ)) → Type 0

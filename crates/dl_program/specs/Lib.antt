@@ -2,6 +2,8 @@
 pub mod Stops
 pub mod Units
 pub mod Damages
+pub mod Shown
+pub mod Answers
 pub mod Asked
 pub mod Whole
 pub mod Tables

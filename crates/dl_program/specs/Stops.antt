@@ -13,7 +13,7 @@ use Rattle.dl_open.specs.Shown.{shown_bytes, shown_word}
 use Rattle.dl_open.specs.Stops.{file_fault_status, file_fault_text}
 use Rattle.dl_program.specs.declared.stop.Stop.{Stop}
 use Rattle.dl_program.specs.declared.stop.Stop.TheVariants.{Damaged, NoAddress, NoSection, NotAddress, NotUnderstood, Run}
-use Rattle.dl_program.specs.declared.stop.Stop.TheVariants.{File, Index, OtherFile}
+use Rattle.dl_program.specs.declared.stop.Stop.TheVariants.{File, Index, NotLine, OtherFile}
 
 -- how many units are damaged beside the first
 abbrev pub others_text : ℕ → List ℕ
@@ -35,6 +35,7 @@ index_status (NoIndex f) = 1
 abbrev pub stop_text : Stop → Option (List ℕ)
 stop_text NotUnderstood = Some (codes "words not understood")
 stop_text (NotAddress word) = Some (shown_word word.now ++ codes " is no address")
+stop_text (NotLine word) = Some (shown_word word.now ++ codes " is no PATH:LINE")
 stop_text (Run f) = Some (run_fault_text f)
 stop_text (File path f) = option_map (λ text. shown_word path.now ++ codes ": " ++ text) (file_fault_text f)
 stop_text (Index path f) = None
@@ -53,6 +54,7 @@ MayFail fails stop = ⊤
 abbrev pub stop_status : Stop → ℕ
 stop_status NotUnderstood = 2
 stop_status (NotAddress word) = 2
+stop_status (NotLine word) = 2
 stop_status (Run f) = status f
 stop_status (File path f) = file_fault_status f
 stop_status (Index path f) = index_status f

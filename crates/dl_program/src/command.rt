@@ -7,36 +7,35 @@ ghost use Rattle.dl_sections.specs.Blaming.{BlamesWriter};
 ghost use Rattle.dl_sections.specs.Commands.{strings_in};
 ghost use Rattle.dl_cmd.specs.Job.{request_made};
 ghost use Rattle.dl_dirs.specs.Compilation.{directory_by};
-ghost use Rattle.dl_program.specs.Asked.{Does, WithoutTable, answered, command_asked, command_seen, command_of, is_copy, looks_up, place_of};
-ghost use Rattle.dl_program.specs.Asked.{all_whole, answered_around, sections_of};
+ghost use Rattle.std.specs.Prelude.{if◌then◌else◌};
+ghost use Rattle.dl_program.specs.declared.command.Command.TheVariants.{Dump, DumpAround};
+ghost use Rattle.dl_program.specs.Asked.{Does, WithoutTable, command_asked, command_seen, command_of, is_copy, looks_up, place_of};
+ghost use Rattle.dl_program.specs.Asked.{sections_of};
+ghost use Rattle.dl_program.specs.Shown.{directories_asked, directories_seen, under, wants_directories};
 ghost use Rattle.dl_program.specs.Whole.{HasReadAll};
 
+use crate::answers::{all_whole, answered, answered_around, summed, summed_around};
 use crate::unit_words::{are_sizes, units_of};
-use dl_addr::{FoundAround, Question, WhichFound, addr, addr_around};
+use dl_addr::{Question, addr, addr_around};
 use dl_cmd::{Job, read_address};
 use dl_dirs::CompilationDirectories;
+use dl_dump::{Details, dump_details, dump_details_around};
 use dl_head::{Dialect, Older};
 use dl_input::Source;
+use dl_lines::{LinesQuestion, lines, lines_around};
 use dl_look::Place;
 use dl_making::{
-    SetMemory, Table, write_index, write_index_around, write_index_until, write_index_until_around,
+    Table, write_index, write_index_around, write_index_until, write_index_until_around,
 };
 use dl_memory::Memory;
 use dl_num::Order;
 use dl_open::Sections;
 use dl_output::Destination;
 use dl_sections::{
-    DamageSink, Detail, Options, RunFault, SECTION_LIMIT, Summary, Survey, check, check_around,
-    copy, copy_to_5, dump_around, dump_with, find,
+    DamageSink, Options, RunFault, SECTION_LIMIT, Survey, check, check_around, copy, copy_to_5,
+    find,
 };
-
-/// What `addr` counts.
-pub const NOTHING: Summary = Summary {
-    units: 0,
-    skipped: 0,
-    sequences: 0,
-    rows: 0,
-};
+use dl_sources::{MapMemory, SourcesQuestion, sources, sources_around};
 
 /// The options of a section without string sections.
 const NO_STRINGS: Options<'static> = Options {
@@ -52,10 +51,10 @@ const NO_STRINGS: Options<'static> = Options {
 /// What is asked of a line table.
 #[derive(Clone, Copy)]
 pub enum Command<'a> {
-    /// Print all units, and what is shown besides.
-    Dump(Detail),
+    /// Print all units, with these details.
+    Dump(Details<'a>),
     /// Print all units, those that are damaged as far as they are not, and tell of these.
-    DumpAround(Detail),
+    DumpAround(Details<'a>),
     /// Count units, sequences and rows.
     Check,
     /// Count them, and the units that are damaged, and tell of these.
@@ -78,6 +77,14 @@ pub enum Command<'a> {
     IndexUntil(Table<'a>),
     /// Write that of the whole units before them, around damaged ones.
     IndexUntilAround(Table<'a>),
+    /// Print the addresses of source lines.
+    Lines(LinesQuestion<'a>),
+    /// Print them, by all units that are whole.
+    LinesAround(LinesQuestion<'a>),
+    /// Print the source files.
+    Sources(SourcesQuestion<'a>),
+    /// Print those of all units that are whole.
+    SourcesAround(SourcesQuestion<'a>),
 }
 
 /// The place that the words name; None where ADDRESS is no address.
@@ -90,9 +97,21 @@ fn place(address: Option<&str>, op: u8) -> Option<Place>
     })
 }
 
+/// The command that shows these details, after damaged units too or up to the first one.
+fn dump_of(keeps_going: bool, details: Details<'_>) -> Command<'_>
+    ensures { result ≡ (if keeps_going then DumpAround details.entry else Dump details.entry) }
+{
+    if keeps_going {
+        Command::DumpAround(details)
+    } else {
+        Command::Dump(details)
+    }
+}
+
 /// The compilation directory of all units, where it is said.
 pub fn directory_said(directory: Option<&str>) -> CompilationDirectories<'_>
-    ensures { (n : ℕ) → directory_by result n ≡ option_copied directory.entry }
+    ensures by { (n : ℕ) → directory_by result n ≡ option_copied directory.entry }
+    ensures said { directories_seen result ≡ directories_asked (option_map (λ s. s.now) directory.entry) }
 {
     match directory {
         Some(directory) => CompilationDirectories::Said(directory.as_bytes()),
@@ -100,48 +119,10 @@ pub fn directory_said(directory: Option<&str>) -> CompilationDirectories<'_>
     }
 }
 
-/// What `addr` answered, as the other commands answer.
-fn answered(found: Result<WhichFound, RunFault>) -> Result<Summary, RunFault>
-    ensures { result ≡ answered found }
-{
-    match found {
-        Ok(WhichFound::All) => Ok(NOTHING),
-        Ok(WhichFound::NotAll) => Err(RunFault::NotFound),
-        Err(fault) => Err(fault),
-    }
-}
-
-/// What `addr_around` answered, as the other commands answer. Where a unit is damaged it isn't said whether each address
-/// has an answer.
-fn answered_around(found: Result<FoundAround, RunFault>) -> Result<Survey, RunFault>
-    ensures { result ≡ answered_around found }
-{
-    let FoundAround { found, damaged } = found?;
-    match damaged {
-        Some(units) => Ok(Survey {
-            summary: NOTHING,
-            damaged: Some(units),
-        }),
-        None => all_whole(answered(Ok(found))),
-    }
-}
-
-/// What a command answered that ends at the first damaged unit, as those answer that go on.
-fn all_whole(answer: Result<Summary, RunFault>) -> Result<Survey, RunFault>
-    ensures { result ≡ all_whole answer }
-{
-    match answer {
-        Ok(summary) => Ok(Survey {
-            summary,
-            damaged: None,
-        }),
-        Err(fault) => Err(fault),
-    }
-}
-
 impl<'a> Command<'a> {
     /// What a job asks; None where its ADDRESS is no address or a size no size, where it names a section of an object
-    /// file without a file, of `addr`, which asks for many, and of `index`, which is made with what the file tells.
+    /// file without a file, of `addr`, `lines`, `index` and
+    /// `sources`, which are asked with what the file tells.
     pub fn of(job: &Job<'a>) -> Option<Command<'a>>
         ensures { option_map command_seen result ≡ command_of (request_made job.now) }
     {
@@ -157,11 +138,21 @@ impl<'a> Command<'a> {
     {
         match job {
             Job::Dump {
-                keep_going: true,
+                keep_going,
                 header,
+                operations,
+                paths,
+                comp_dir,
                 ..
-            } => Some(Command::DumpAround(Detail { header: *header })),
-            Job::Dump { header, .. } => Some(Command::Dump(Detail { header: *header })),
+            } => {
+                let details = Details {
+                    header: *header,
+                    operations: *operations,
+                    paths: *paths,
+                    directories: directory_said(*comp_dir),
+                };
+                Some(dump_of(*keep_going, details))
+            }
             Job::Check {
                 keep_going: true,
                 ..
@@ -179,7 +170,36 @@ impl<'a> Command<'a> {
                 ..
             } => Some(Command::CopyTo5(*comp_dir)),
             Job::Copy { .. } => Some(Command::Copy),
-            Job::Addr(_) | Job::Index(_) => None,
+            Job::Addr(_) | Job::Index(_) | Job::Lines(_) | Job::Sources(_) => None,
+        }
+    }
+
+    /// Whether it shows paths by the directories in which units were compiled, of which none is said.
+    pub fn wants_directories(self) -> bool
+        ensures { result ≡ wants_directories self.entry }
+    {
+        match self {
+            Command::Dump(details) | Command::DumpAround(details) => {
+                details.paths && matches!(details.directories, CompilationDirectories::Unknown)
+            }
+            _ => false,
+        }
+    }
+
+    /// The same, of units that were compiled in these directories, where it shows paths by them.
+    pub fn under(self, directories: CompilationDirectories<'a>) -> Command<'a>
+        ensures { result ≡ under self.entry directories.entry }
+    {
+        match self {
+            Command::Dump(details) => Command::Dump(Details {
+                directories,
+                ..details
+            }),
+            Command::DumpAround(details) => Command::DumpAround(Details {
+                directories,
+                ..details
+            }),
+            other => other,
         }
     }
 
@@ -196,14 +216,18 @@ impl<'a> Command<'a> {
             | Command::Index(_)
             | Command::IndexAround(_)
             | Command::IndexUntil(_)
-            | Command::IndexUntilAround(_) => Sections::LinesAndTexts,
+            | Command::IndexUntilAround(_)
+            | Command::Lines(_)
+            | Command::LinesAround(_)
+            | Command::Sources(_)
+            | Command::SourcesAround(_) => Sections::LinesAndTexts,
             Command::Check | Command::CheckAround | Command::Copy | Command::CopyTo5(_) => {
                 Sections::Lines
             }
         }
     }
 
-    /// Whether it looks addresses up, or tells what is looked up.
+    /// Whether it looks up addresses or lines, or tells what is looked up.
     pub fn looks_up(self) -> bool
         ensures { result ≡ looks_up self.entry }
     {
@@ -216,6 +240,8 @@ impl<'a> Command<'a> {
                 | Command::IndexAround(_)
                 | Command::IndexUntil(_)
                 | Command::IndexUntilAround(_)
+                | Command::Lines(_)
+                | Command::LinesAround(_)
         )
     }
 
@@ -240,7 +266,7 @@ impl<'a> Command<'a> {
     }
 
     /// Works through the section, and tells of the units that are damaged where it goes on after them.
-    pub fn run<M: SetMemory, R: Source, W: Destination, D: DamageSink>(
+    pub fn run<M: MapMemory, R: Source, W: Destination, D: DamageSink>(
         self,
         memory: &M,
         input: &mut R,
@@ -260,11 +286,13 @@ impl<'a> Command<'a> {
     {
         let alloc = memory.alloc();
         match self {
-            Command::DumpAround(detail) => {
-                dump_around(alloc, input, output, options, detail, damages)
+            Command::DumpAround(details) => {
+                dump_details_around(alloc, input, output, options, &details, damages)
             }
             Command::CheckAround => check_around(alloc, input, output, options, damages),
-            Command::Dump(detail) => all_whole(dump_with(alloc, input, output, options, detail)),
+            Command::Dump(details) => {
+                all_whole(dump_details(alloc, input, output, options, &details))
+            }
             Command::Check => all_whole(check(alloc, input, output, options)),
             Command::Find(place) => all_whole(find(alloc, input, output, place, options)),
             Command::Copy => all_whole(copy(memory, input, output, options)),
@@ -289,6 +317,18 @@ impl<'a> Command<'a> {
             }
             Command::IndexUntilAround(table) => {
                 write_index_until_around(memory, input, output, &table, options)
+            }
+            Command::Lines(question) => {
+                all_whole(answered(lines(memory, input, output, &question, options)))
+            }
+            Command::LinesAround(question) => {
+                answered_around(lines_around(memory, input, output, &question, options))
+            }
+            Command::Sources(question) => {
+                all_whole(summed(sources(memory, input, output, &question, options)))
+            }
+            Command::SourcesAround(question) => {
+                summed_around(sources_around(memory, input, output, &question, options))
             }
         }
     }

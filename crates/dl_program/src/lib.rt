@@ -1,6 +1,7 @@
 //! What the program does for a job over the line table of a file, or over a section on its input.
 #![tactic(auto)]
 
+mod answers;
 mod command;
 mod damages;
 mod fault_line;
@@ -12,8 +13,9 @@ mod working;
 
 pub use command::{Command, directory_said};
 pub use damages::{StopLines, Unheard};
+pub use dl_sources::MapMemory;
 pub use over_file::on_file;
 pub use over_input::{Section, on_input};
 pub use stop::{Stop, answer_over_file};
 pub use unit_words::{are_sizes, file_units, is_size, units_of_file};
-pub use working::{INPUT, followed_path, looked_into, work};
+pub use working::{INPUT, followed_path, looked_into, unless_input, work};

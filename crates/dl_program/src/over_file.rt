@@ -12,16 +12,16 @@ ghost use Rattle.dl_program.specs.Tables.{OnFile, OnFound, OnLines, OnTable, Run
 use crate::command::Command;
 use dl_elf::ReadAt;
 use dl_file::{LineFile, LineReader};
-use dl_making::SetMemory;
 use dl_open::{
     FileFault, FileStop, FileUnits, Part, StringSections, file_dialect, kept_bytes, open_table,
     part_of,
 };
 use dl_output::Destination;
 use dl_sections::{DamageSink, Options, SECTION_LIMIT, Survey};
+use dl_sources::MapMemory;
 
 /// Works through the line section of the file at this path.
-fn on_section<'p, M: SetMemory, S: ReadAt, W: Destination, D: DamageSink>(
+fn on_section<'p, M: MapMemory, S: ReadAt, W: Destination, D: DamageSink>(
     memory: &M,
     path: &'p str,
     command: Command<'_>,
@@ -46,7 +46,7 @@ fn on_section<'p, M: SetMemory, S: ReadAt, W: Destination, D: DamageSink>(
 }
 
 /// Works through what is left of the line section of the object file at this path.
-fn on_kept<'p, M: SetMemory, W: Destination, D: DamageSink>(
+fn on_kept<'p, M: MapMemory, W: Destination, D: DamageSink>(
     memory: &M,
     path: &'p str,
     command: Command<'_>,
@@ -70,7 +70,7 @@ fn on_kept<'p, M: SetMemory, W: Destination, D: DamageSink>(
 }
 
 /// Works through the line section of the file at this path, or through the sequences of a part of it.
-fn on_lines<'p, M: SetMemory, S: ReadAt, W: Destination, D: DamageSink>(
+fn on_lines<'p, M: MapMemory, S: ReadAt, W: Destination, D: DamageSink>(
     memory: &M,
     path: &'p str,
     command: Command<'_>,
@@ -109,7 +109,7 @@ fn on_lines<'p, M: SetMemory, S: ReadAt, W: Destination, D: DamageSink>(
 }
 
 /// Does what is asked of the line table of the file at this path, which is opened, or of a part of it.
-fn on_table<'p, M: SetMemory, S: ReadAt, W: Destination, D: DamageSink>(
+fn on_table<'p, M: MapMemory, S: ReadAt, W: Destination, D: DamageSink>(
     memory: &M,
     path: &'p str,
     command: Command<'_>,
@@ -156,7 +156,7 @@ fn on_table<'p, M: SetMemory, S: ReadAt, W: Destination, D: DamageSink>(
 
 /// Does what is asked of the line table of the file at this path, whose table was found. Addresses are looked up in the
 /// section of this name.
-fn on_found<'p, M: SetMemory, S: ReadAt, W: Destination, D: DamageSink>(
+fn on_found<'p, M: MapMemory, S: ReadAt, W: Destination, D: DamageSink>(
     memory: &M,
     path: &'p str,
     file: &S,
@@ -197,7 +197,7 @@ fn on_found<'p, M: SetMemory, S: ReadAt, W: Destination, D: DamageSink>(
 /// Does what is asked of the line table of the file at this path, which is open. In an object file addresses are looked
 /// up in the section of this name, or where none is named in that of its code. Where the table can't be had, `addr`
 /// says of each address that it has no answer.
-pub fn on_file<'p, M: SetMemory, S: ReadAt, W: Destination, D: DamageSink>(
+pub fn on_file<'p, M: MapMemory, S: ReadAt, W: Destination, D: DamageSink>(
     memory: &M,
     path: &'p str,
     file: &S,

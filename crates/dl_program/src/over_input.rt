@@ -12,11 +12,11 @@ use crate::stop::Stop;
 use crate::unit_words::older_by;
 use dl_head::Dialect;
 use dl_input::Source;
-use dl_making::SetMemory;
 use dl_num::Order;
 use dl_open::{FileSource, StringSections};
 use dl_output::Destination;
 use dl_sections::{DamageSink, RunFault, Survey};
+use dl_sources::MapMemory;
 
 /// What the words say of a section on the input.
 #[derive(Clone, Copy)]
@@ -56,7 +56,7 @@ fn stopped<'a>(answer: Result<Survey, RunFault>) -> Result<Survey, Stop<'a>>
 }
 
 /// Does what is asked of the section on the input. The string sections are read first.
-pub fn on_input<'p, M: SetMemory, F: FileSource, R: Source, W: Destination, D: DamageSink>(
+pub fn on_input<'p, M: MapMemory, F: FileSource, R: Source, W: Destination, D: DamageSink>(
     memory: &M,
     files: &F,
     section: Section<'_>,

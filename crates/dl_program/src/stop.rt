@@ -17,8 +17,10 @@ use std::{fmt, io};
 pub enum Stop<'a> {
     /// The words name no work, or what they name isn't an address.
     NotUnderstood,
-    /// This word of `addr` is no address. Only `locate` answers it.
+    /// This word of `addr` is no address. Nothing here answers it.
     NotAddress { word: &'a str },
+    /// This word of `lines` is no line of a path. Nothing here answers it.
+    NotLine { word: &'a str },
     /// A string section couldn't be read, or the command stopped.
     Run(RunFault),
     /// The ELF file at this path stops it.
@@ -41,7 +43,7 @@ impl<'a> Stop<'a> {
         ensures { result ≡ stop_status self.now }
     {
         match self {
-            Stop::NotUnderstood | Stop::NotAddress { .. } => 2,
+            Stop::NotUnderstood | Stop::NotAddress { .. } | Stop::NotLine { .. } => 2,
             Stop::Run(fault) => fault.status(),
             Stop::File { fault, .. } => fault.status(),
             Stop::Index { fault, .. } => index_status(fault),
@@ -128,6 +130,7 @@ impl fmt::Display for Stop<'_> {
         match self {
             Stop::NotUnderstood => write!(f, "words not understood"),
             Stop::NotAddress { word } => write!(f, "{} is no address", Shown(word)),
+            Stop::NotLine { word } => write!(f, "{} is no PATH:LINE", Shown(word)),
             Stop::Run(fault) => write!(f, "{fault}"),
             Stop::File { path, fault } => write!(f, "{}: {fault}", Shown(path)),
             Stop::Index { path, fault } => write!(f, "{}: {fault}", Shown(path)),

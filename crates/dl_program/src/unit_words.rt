@@ -78,6 +78,8 @@ pub fn units_of<'a>(job: &Job<'a>) -> UnitWords<'a>
         | Job::Copy { units, .. } => *units,
         Job::Addr(words) => words.units,
         Job::Index(words) => words.units,
+        Job::Lines(words) => words.units,
+        Job::Sources(words) => words.units,
     }
 }
 

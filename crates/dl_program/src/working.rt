@@ -2,34 +2,35 @@
 ghost use Rattle.std.specs.Prelude.{◌≡◌, ℕ, List, [], option_map};
 ghost use Rattle.std.specs.Io.KnownBytes.{Consumes};
 ghost use Rattle.dl_input.specs.Failing.{Blames};
-ghost use Rattle.dl_cmd.specs.Job.{addr_words_made, request_made};
+ghost use Rattle.dl_cmd.specs.Job.{request_made};
 ghost use Rattle.dl_program.specs.Asked.{file_of, followed_path, looked_into, part_name_of, section_of, unless_input};
 ghost use Rattle.dl_elf.specs.Source.{ForBytes};
 ghost use Rattle.dl_program.specs.Held.{section_seen};
-ghost use Rattle.dl_program.specs.Tables.{OnFile};
 ghost use Rattle.dl_program.specs.Blaming.{BlamesOver, BlamesWriter};
-ghost use Rattle.dl_program.specs.Work.{BlamesInput, Works};
+ghost use Rattle.dl_program.specs.Work.{BlamesInput, OnHeld, OnOpened, Works};
 
 use crate::command::Command;
 use crate::over_file::on_file;
 use crate::over_input::{Section, on_input};
 use crate::stop::{Stop, answer_over_file};
 use crate::unit_words::file_units;
-use dl_cmd::{AddrWords, Job};
+use dl_cmd::Job;
+use dl_dirs::CompilationDirectories;
+use dl_elf::ReadAt;
 use dl_input::Source;
-use dl_making::SetMemory;
-use dl_open::{FileSource, FileStop, FileUnits, open_file};
+use dl_open::{FileFault, FileSource, FileStop, FileUnits, directories_of, open_file};
 use dl_output::Destination;
 use dl_sections::{DamageSink, Survey};
+use dl_sources::MapMemory;
 
 /// The path that stands for a section on the input.
 pub const INPUT: &str = "-";
 
-/// The path of the ELF file that they name.
-fn file_of_words<'a>(words: &AddrWords<'a>) -> Option<&'a str>
-    ensures { option_map (λ s. s.now) result ≡ unless_input (addr_words_made words.now).file }
+/// The path, unless it stands for the section on the input.
+pub fn unless_input<'a>(path: Option<&'a str>) -> Option<&'a str>
+    ensures { option_map (λ s. s.now) result ≡ unless_input (option_map (λ s. s.now) path.entry) }
 {
-    let path = words.file?;
+    let path = path?;
     if path == INPUT { None } else { Some(path) }
 }
 
@@ -44,6 +45,8 @@ fn file<'a>(job: &Job<'a>) -> Option<&'a str>
         | Job::Copy { file, .. } => *file,
         Job::Addr(words) => words.file,
         Job::Index(words) => words.file,
+        Job::Lines(words) => words.file,
+        Job::Sources(words) => words.file,
     }
 }
 
@@ -55,19 +58,21 @@ fn part_name<'a>(job: &Job<'a>) -> Option<&'a str>
         Job::Find { section, .. } => *section,
         Job::Addr(words) => words.section,
         Job::Index(words) => words.section,
-        Job::Dump { .. } | Job::Check { .. } | Job::Copy { .. } => None,
+        Job::Lines(words) => words.section,
+        Job::Dump { .. } | Job::Check { .. } | Job::Copy { .. } | Job::Sources(_) => None,
     }
 }
 
-/// The path of the ELF file in which a job looks addresses up, or whose addresses its index tells.
+/// The path of the ELF file in which a job looks up addresses or lines, or whose addresses its index tells.
 pub fn looked_into<'a>(job: &Job<'a>) -> Option<&'a str>
     ensures { option_map (λ s. s.now) result ≡ looked_into (request_made job.now) }
 {
     match job {
         Job::Find { file, .. } => *file,
-        Job::Addr(words) => file_of_words(words),
+        Job::Addr(words) => unless_input(words.file),
+        Job::Lines(words) => unless_input(words.file),
         Job::Index(words) => { if words.list { None } else { words.file } }
-        Job::Dump { .. } | Job::Check { .. } | Job::Copy { .. } => None,
+        Job::Dump { .. } | Job::Check { .. } | Job::Copy { .. } | Job::Sources(_) => None,
     }
 }
 
@@ -77,7 +82,9 @@ pub fn followed_path<'a>(job: &Job<'a>) -> Option<&'a str>
 {
     match job {
         Job::Dump { file, .. } | Job::Check { file, .. } => *file,
-        Job::Find { .. } | Job::Addr(_) | Job::Index(_) | Job::Copy { .. } => looked_into(job),
+        Job::Sources(words) => words.file,
+        Job::Find { .. } | Job::Addr(_) | Job::Index(_) | Job::Lines(_) | Job::Copy { .. } =>
+            looked_into(job),
     }
 }
 
@@ -123,11 +130,57 @@ fn section<'a>(job: &Job<'a>) -> Section<'a>
             line_str: None,
             strings: None,
         },
+        Job::Lines(words) => Section {
+            big: words.big,
+            older: words.units.older,
+            line_str: words.line_str,
+            strings: words.strings,
+        },
+        Job::Sources(words) => Section {
+            big: words.big,
+            older: words.units.older,
+            line_str: words.line_str,
+            strings: words.strings,
+        },
+    }
+}
+
+/// Does what is asked of the line table of the file at this path, which is open. Where paths are shown by the directories in which
+/// units were compiled, and none is said, these are those that the file says.
+fn on_opened<'p, M: MapMemory, S: ReadAt, W: Destination, D: DamageSink>(
+    memory: &M,
+    path: &'p str,
+    file: &S,
+    units: FileUnits,
+    section: Option<&'p str>,
+    command: Command<'_>,
+    output: &mut W,
+    damages: &mut D,
+) -> Result<Survey, FileStop<'p>>
+    ensures ran { D.hears damages.old damages.old [] → ForBytes (S.all_bytes file.now) (λ f. OnOpened (M.refuses memory.now) units
+        (S.fails_with file.now) path.entry.now (option_map (λ s. s.now) section.entry) command.entry f
+        (W.contents output.old) (W.contents output.new) (D.hears damages.old damages.new) result) }
+    ensures blames { D.hears damages.old damages.old [] → BlamesOver W.fails result }
+{
+    if !command.wants_directories() {
+        return on_file(memory, path, file, units, section, command, output, damages);
+    }
+    match directories_of(memory, file) {
+        Ok(found) => {
+            let command = command.under(CompilationDirectories::Found(&found));
+            on_file(memory, path, file, units, section, command, output, damages)
+        }
+        Err(fault) => {
+            Err(FileStop::File {
+                path,
+                fault: FileFault::Elf(fault),
+            })
+        }
     }
 }
 
 /// Does what is asked of the line table of the file at this path. Addresses are looked up in the section of this name.
-fn on_named<'p, M: SetMemory, F: FileSource, W: Destination, D: DamageSink>(
+fn on_named<'p, M: MapMemory, F: FileSource, W: Destination, D: DamageSink>(
     memory: &M,
     files: &F,
     path: &'p str,
@@ -137,13 +190,13 @@ fn on_named<'p, M: SetMemory, F: FileSource, W: Destination, D: DamageSink>(
     output: &mut W,
     damages: &mut D,
 ) -> Result<Survey, FileStop<'p>>
-    ensures ran { D.hears damages.old damages.old [] → ForBytes (F.held files.now path.entry.now) (λ f. OnFile (M.refuses memory.now) units
+    ensures ran { D.hears damages.old damages.old [] → ForBytes (F.held files.now path.entry.now) (λ f. OnHeld (M.refuses memory.now) units
         (F.fails_with files.now path.entry.now) path.entry.now (option_map (λ s. s.now) section.entry) command.entry f
         (W.contents output.old) (W.contents output.new) (D.hears damages.old damages.new) result) }
     ensures blames { D.hears damages.old damages.old [] → BlamesOver W.fails result }
 {
     match open_file(files, path) {
-        Ok(file) => on_file(
+        Ok(file) => on_opened(
             memory, path, &file, units, section, command, output, damages,
         ),
         Err(fault) => {
@@ -162,9 +215,9 @@ fn on_named<'p, M: SetMemory, F: FileSource, W: Destination, D: DamageSink>(
 /// where that is asked for, and the answer says how many there are.
 ///
 /// `NotUnderstood` where there is no job, ADDRESS is no address, a size is no size, a section of an object file is named without a file,
-/// or the job is `addr`, which is that of `locate`, or `index`, which is that of `index`; then, and at each fault before the command, nothing is
+/// or the job is `addr`, `lines`, `index` or `sources`, which are asked with what the file tells; then, and at each fault before the command, nothing is
 /// written. Of the input nothing is read then, nor where a file is named.
-pub fn work<'a, M: SetMemory, F: FileSource, R: Source, W: Destination, D: DamageSink>(
+pub fn work<'a, M: MapMemory, F: FileSource, R: Source, W: Destination, D: DamageSink>(
     memory: &M,
     job: Option<Job<'a>>,
     files: &F,

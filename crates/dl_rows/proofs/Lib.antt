@@ -3,6 +3,8 @@ pub mod CallLemmas
 pub mod FirstLemmas
 pub mod HeadFeeds
 pub mod HeaderParams
+pub mod HeardLemmas
+pub mod ItemLemmas
 pub mod JoinLemmas
 pub mod Judged
 pub mod OperandLemmas
@@ -14,6 +16,7 @@ pub mod PhaseLemmas
 pub mod PlaceLemmas
 pub mod ProgramLaws
 pub mod ProgramSteps
+pub mod ProgramTells
 pub mod ProgramWalks
 pub mod ReaderFeeds
 pub mod ReaderLemmas

@@ -1,11 +1,12 @@
 -- A reader inside a program, and the bytes of one operation more.
-use Rattle.std.proofs.Common.{◌≡◌, ℕ, ◌+◌, ◌-◌, ◌^◌, List, [], ◌∷◌, ◌++◌, length, min, Option, Some, None, Ok, Err}
+use Rattle.std.proofs.Common.{◌≡◌, ℕ, ◌+◌, ◌-◌, ◌^◌, List, [], ◌∷◌, ◌++◌, length, map, min, Option, Some, None, Ok, Err}
 use Rattle.std.proofs.Common.{refl, sym, ap, ◌∙◌, arith, inl, inr, append_assoc, append-nil, length-append}
 use Rattle.dl_num.specs.declared.fixed.Order.{Order}
 use Rattle.dl_num.specs.Front.{SpellsNowhere, SpellsFirst, Standing, standing_after}
 use Rattle.dl_num.specs.Laws.{AllBytes}
 use Rattle.dl_num.proofs.FrontLemmas.{then_standing, standing-append, nothing_yet, found_first, front_before}
 use Rattle.dl_field.specs.declared.params.Params.{Params}
+use Rattle.dl_field.specs.HeaderData.{HeaderData}
 use Rattle.dl_table.specs.declared.fault.FaultKind.{FaultKind}
 use Rattle.dl_rows.specs.declared.row.Row.{Row}
 use Rattle.dl_rows.specs.declared.operation.Operation.{Operation}
@@ -13,14 +14,16 @@ use Rattle.dl_rows.specs.declared.operation_state.OperationState.{OperationState
 use Rattle.dl_rows.specs.declared.operation_state.OperationState.TheVariants as phase
 use Rattle.dl_rows.specs.declared.operation_state.OperationStep.TheVariants as step
 use Rattle.dl_rows.specs.declared.program.Program.{Program}
-use Rattle.dl_rows.specs.Matrix.{matrix}
+use Rattle.dl_rows.specs.Items.{Item, a_byte, an_operation, a_row, items_after}
+use Rattle.dl_rows.specs.Matrix.{matrix, rows_after}
 use Rattle.dl_rows.specs.OperationSpelt.{good_one, operation_spelt, operations_in}
 use Rattle.dl_rows.specs.Phases.{StepIs}
 use Rattle.dl_rows.specs.LineUnit.{rows_in, ends_open}
-use Rattle.dl_rows.specs.Programs.{row_list, Finishes, ProgramStands, Unrefused, Walked, NothingGiven, RowGiven}
+use Rattle.dl_rows.specs.Programs.{row_list, Finishes, ProgramStands, Unrefused, NothingGiven, RowGiven}
 use Rattle.dl_rows.specs.Programs.{BadGiven}
 use Rattle.dl_rows.specs.Sums.{FitsProgram, HasRange, registers_after}
 use Rattle.dl_rows.proofs.FirstLemmas.{split_front, nowhere_nil}
+use Rattle.dl_rows.proofs.ItemLemmas.{items_whole, items_within, row_appended}
 use Rattle.dl_rows.proofs.Judged.{judged}
 use Rattle.dl_rows.proofs.OperandLemmas.{Verdict}
 use Rattle.dl_rows.proofs.OperandRanges.{range_of, bytes_front, bytes_joined}
@@ -61,11 +64,14 @@ pub record Before (order : Order) (h : Params) (b u : List ℕ) : Type 0 where
   pub unrefused : Unrefused order h b front
 
 -- an operation ends, and its row is appended
-pub record Turned (order : Order) (h : Params) (b u : List ℕ) (row : Option Row) (new : Program) : Type 0 where
+pub record Turned (order : Order) (h : Params) (b u : List ℕ) (o : Operation) (row : Option Row) (new : Program)
+    : Type 0 where
   pub stands : ProgramStands order h new (b ++ u)
   pub rows : rows_in order h (b ++ u) ≡ rows_in order h b ++ row_list row
   pub before : Before order h b u
   pub unrefused : Unrefused order h b u
+  pub items : (header : HeaderData)
+      → items_after order h header b u ≡ map a_byte u ++ an_operation header o ∷ map (a_row header) (row_list row)
 
 -- what a reader does at the end of an operation: its row, where it appends one, and what is kept
 abbrev pub Finishing : Params → Program → Operation → Option Row → Program → Type 0
@@ -77,6 +83,9 @@ Finishing h old o row new =
 module _ {order : Order} {h : Params} {p : Program} {b : List ℕ} (s : ProgramStands order h p b) where
   rows_here : rows_in order h b ≡ matrix h s.operations
   rows_here = ap (λ (t : Standing Operation). matrix h t.found) s.found
+
+  operations_here : (operations_in order h b).found ≡ s.operations
+  operations_here = ap (λ (t : Standing Operation). t.found) s.found
 
   pub rest_here : (operations_in order h b).rest ≡ s.begun
   rest_here = ap (λ (t : Standing Operation). t.rest) s.found
@@ -115,12 +124,14 @@ module _ {order : Order} {h : Params} {p : Program} {b : List ℕ} (s : ProgramS
   found_within u nowhere = found_none u (λ front back e. ap good_one (nowhere front back e))
 
   -- bytes that end in a bad one
+  bad_nowhere : (u : List ℕ) (k : FaultKind) → SpellsFirst (operation_spelt order h) (s.begun ++ u) (Err k)
+      → SpellsNowhere (spelt order h) (s.begun ++ u)
+  bad_nowhere u k first front [] e = ap good_one (rw (e, append-nil) at first.spells)
+  bad_nowhere u k first front (y ∷ back) e = ap good_one (first.shortest front y back e)
+
   found_bad : (u : List ℕ) (k : FaultKind) → SpellsFirst (operation_spelt order h) (s.begun ++ u) (Err k)
       → operations_in order h (b ++ u) ≡ record { found = s.operations; rest = s.begun ++ u }
-  found_bad u k first = found_none u bad_nowhere where
-    bad_nowhere : SpellsNowhere (spelt order h) (s.begun ++ u)
-    bad_nowhere front [] e = ap good_one (rw (e, append-nil) at first.spells)
-    bad_nowhere front (y ∷ back) e = ap good_one (first.shortest front y back e)
+  found_bad u k first = found_none u (bad_nowhere u k first)
 
   unrefused_within : (u : List ℕ) → SpellsNowhere (operation_spelt order h) (s.begun ++ u) → Unrefused order h b u
   unrefused_within u none front back e k bad =
@@ -150,6 +161,16 @@ module _ {order : Order} {h : Params} {p : Program} {b : List ℕ} (s : ProgramS
         grown = rw append-nil (ap (λ (t : Standing Operation). matrix h t.found) found ∙ sym rows_here);
         unrefused = unrefused_within u w.1;
       }
+
+  -- these bytes are all that a sink hears
+  pub items_nowhere : (header : HeaderData) (u : List ℕ) → SpellsNowhere (operation_spelt order h) (s.begun ++ u)
+      → items_after order h header b u ≡ map a_byte u
+  items_nowhere header u none =
+      items_within order h header b s.begun u rest_here (λ front back e. ap good_one (none front back e))
+
+  pub items_bad : (header : HeaderData) (u : List ℕ) (k : FaultKind)
+      → SpellsFirst (operation_spelt order h) (s.begun ++ u) (Err k) → items_after order h header b u ≡ map a_byte u
+  items_bad header u k first = items_within order h header b s.begun u rest_here (bad_nowhere u k first)
 
   -- ---- bytes that end one, or decide that it is bad
 
@@ -211,7 +232,7 @@ module _ {order : Order} {h : Params} {p : Program} {b : List ℕ} (s : ProgramS
 
   turned : {new : Program} (u : List ℕ) {o : Operation} {row : Option Row}
       → SpellsFirst (operation_spelt order h) (s.begun ++ u) (Ok o) → Finishes h s.operations o row new
-      → new.phase ≡ phase.Start → new.begun ≡ 0 → Turned order h b u row new
+      → new.phase ≡ phase.Start → new.begun ≡ 0 → Turned order h b u o row new
   turned [] first f at zero = absurd (none_some none_here (rw append-nil at first.spells))
   turned {new} (x ∷ u) {o} {row} first f at zero =
       let found = found_one x u o first in
@@ -231,8 +252,20 @@ module _ {order : Order} {h : Params} {p : Program} {b : List ℕ} (s : ProgramS
         rows = rw rows_here (ap (λ (t : Standing Operation). matrix h t.found) found ∙ f.rows);
         before = m;
         unrefused = unrefused m (ap (λ (t : Standing Operation). t.rest) found);
+        items = λ header. whole header ∙ ap (with_rows header) (ap (λ (os : List Operation). rows_after h os (o ∷ [])) operations_here
+            ∙ row_appended h s.operations o (row_list row) f.rows);
       }
     where
+      with_rows : HeaderData → List Row → List Item
+      with_rows header rows = map a_byte (x ∷ u) ++ an_operation header o ∷ map (a_row header) rows
+
+      whole : (header : HeaderData) → items_after order h header b (x ∷ u)
+          ≡ with_rows header (rows_after h (operations_in order h b).found (o ∷ []))
+      whole header = items_whole order h header b s.begun x u o rest_here (record {
+        spells = ap good_one first.spells;
+        shortest = λ front y back e. ap good_one (first.shortest front y back e);
+      })
+
       unrefused : Before order h b (x ∷ u) → (operations_in order h (b ++ x ∷ u)).rest ≡ []
           → Unrefused order h b (x ∷ u)
       unrefused m ends front [] e k bad =
@@ -245,7 +278,7 @@ module _ {order : Order} {h : Params} {p : Program} {b : List ℕ} (s : ProgramS
   pub turned_at : {new : Program} {o : Operation} {row : Option Row} {u : List ℕ} (front tail : List ℕ)
       → FitsProgram h → AllBytes u → u ≡ front ++ tail
       → SpellsFirst (operation_spelt order h) (s.begun ++ front) (Ok o) → Finishing h p o row new
-      → new.phase ≡ phase.Start → new.begun ≡ 0 → Turned order h b front row new
+      → new.phase ≡ phase.Start → new.begun ≡ 0 → Turned order h b front o row new
   turned_at {o = o} front tail fits all e first finishing at zero =
       let w = s.begun ++ front in
       let taken = bytes_joined s.begun front s.bytes (bytes_front front tail (rw e at all)) in
@@ -264,25 +297,13 @@ module _ {order : Order} {h : Params} {p : Program} {b : List ℕ} (s : ProgramS
   pub turned_whole : {new : Program} {o : Operation} {row : Option Row} {u : List ℕ} (front tail : List ℕ)
       → FitsProgram h → AllBytes u → p.phase ≡ phase.Start → u ≡ front ++ tail
       → SpellsFirst (operation_spelt order h) front (Ok o) → Finishing h p o row new
-      → new.phase ≡ p.phase → new.begun ≡ p.begun → Turned order h b front row new
+      → new.phase ≡ p.phase → new.begun ≡ p.begun → Turned order h b front o row new
   turned_whole front tail fits all at e first finishing same_phase same_count =
       let none = none_begun at in
       turned_at front tail fits all e (rw none.0 first) finishing (same_phase ∙ at) (same_count ∙ none.1)
 
--- an operation of which no row came
-pub walked_on : {order : Order} {h : Params} {b front : List ℕ} {new : Program} {bytes tail : List ℕ}
-    → Turned order h b front None new → bytes ≡ front ++ tail → Walked order h b bytes [] new tail
-walked_on {front = front} t e =
-    record { done = front; split = e; stands = t.stands; grown = t.rows; unrefused = t.unrefused }
-
--- its row
-pub walked_row : {order : Order} {h : Params} {b front : List ℕ} {row : Row} {new : Program} {bytes tail : List ℕ}
-    → Turned order h b front (Some row) new → bytes ≡ front ++ tail → Walked order h b bytes (row ∷ []) new tail
-walked_row {front = front} t e =
-    record { done = front; split = e; stands = t.stands; grown = t.rows; unrefused = t.unrefused }
-
-pub row_given : {order : Order} {h : Params} {b front : List ℕ} {row : Row} {new : Program} {bytes tail : List ℕ}
-    → Turned order h b front (Some row) new → bytes ≡ front ++ tail → RowGiven order h b bytes [] row tail new
+pub row_given : {order : Order} {h : Params} {b front : List ℕ} {o : Operation} {row : Row} {new : Program}
+    {bytes tail : List ℕ} → Turned order h b front o (Some row) new → bytes ≡ front ++ tail → RowGiven order h b bytes [] row tail new
 row_given t e = record {
   front = t.before.front;
   last = t.before.last;
@@ -292,3 +313,10 @@ row_given t e = record {
   grown = rw append-nil (rw t.before.bytes at t.rows);
   unrefused = rw t.before.bytes at t.unrefused;
 }
+
+-- what a sink is told of an operation, and of its row
+pub items_told : {order : Order} {h : Params} {b u : List ℕ} {o : Operation} {row : Option Row} {new : Program}
+    → Turned order h b u o row new → (header : HeaderData) (heard : List Item)
+    → (heard ++ (map a_byte u ++ an_operation header o ∷ [])) ++ map (a_row header) (row_list row)
+    ≡ heard ++ items_after order h header b u
+items_told t header heard = rw (t.items header) (simp append_assoc)

@@ -3,6 +3,7 @@ use Rattle.std.proofs.Common.{◌≡◌, ◌↔◌, ℕ, List, [], ◌∷◌, �
 use Rattle.dl_num.specs.declared.fixed.Order.{Order}
 use Rattle.dl_num.specs.Laws.{AllBytes}
 use Rattle.dl_field.specs.declared.params.Params.{Params}
+use Rattle.dl_field.specs.HeaderData.{HeaderData}
 use Rattle.dl_rows.specs.declared.row.Row.{Row}
 use Rattle.dl_rows.specs.declared.operation_state.OperationState.{OperationState}
 use Rattle.dl_rows.specs.declared.operation_state.OperationState.TheVariants as phase
@@ -11,10 +12,12 @@ use Rattle.dl_rows.specs.declared.program.ProgramStep.{ProgramStep}
 use Rattle.dl_rows.specs.declared.program.ProgramStep.TheVariants as given
 use Rattle.dl_rows.specs.OperationSpelt.{operations_in}
 use Rattle.dl_rows.specs.Phases.{PhaseStands}
+use Rattle.dl_rows.specs.Items.{Item, items_after}
 use Rattle.dl_rows.specs.LineUnit.{rows_in}
-use Rattle.dl_rows.specs.Programs.{ProgramStands, Walked, NothingGiven, GivenIs, Telling, StandsAfter, Tells}
+use Rattle.dl_rows.specs.Programs.{ProgramStands, Walked, NothingGiven, GivenIs, Telling, StandsAfter, Tells, left_by}
 use Rattle.dl_rows.specs.Sinks.{Story}
 use Rattle.dl_rows.proofs.FirstLemmas.{nil_front}
+use Rattle.dl_rows.proofs.ItemLemmas.{items_join}
 use Rattle.dl_rows.proofs.OperandRanges.{bytes_back}
 use Rattle.dl_rows.proofs.ProgramSteps.{rest_here, none_here, none_some, unrefused_join}
 
@@ -105,38 +108,67 @@ nothing_left w none =
 
 -- ---- what a sink hears
 
-pub tell_start : {S : Type 0} {story : Story S} {order : Order} {h : Params} {b : List ℕ} (bytes : List ℕ)
-    {before : List Row} {p : Program} {s : S} → ProgramStands order h p b → story.hears s before
-    → Telling story order h b bytes before p bytes s
+pub tell_start : {S : Type 0} {story : Story S} {order : Order} {h : Params} {header : HeaderData} {b : List ℕ} (bytes : List ℕ)
+    {before : List Item} {p : Program} {s : S} → ProgramStands order h p b → story.hears s before
+    → Telling story order h header b bytes before p bytes s
+unfolding walk_start
 tell_start bytes stands hears =
     record { rows = []; walked = walk_start bytes stands; hears = rw append-nil hears }
 
-module _ {S : Type 0} {story : Story S} {order : Order} {h : Params} {b bytes : List ℕ} {before : List Row}
-    {p : Program} {rest : List ℕ} {s : S} (t : Telling story order h b bytes before p rest s)
+-- what a sink hears of some bytes, and then of more
+heard_join : (order : Order) (h : Params) (header : HeaderData) (before : List Item) (b u v : List ℕ)
+    → (before ++ items_after order h header b u) ++ items_after order h header (b ++ u) v
+    ≡ before ++ items_after order h header b (u ++ v)
+heard_join order h header before b u v =
+    rw (items_join order h header b u v)
+    (append_assoc before (items_after order h header b u) (items_after order h header (b ++ u) v))
+
+module _ {S : Type 0} {story : Story S} {order : Order} {h : Params} {header : HeaderData} {b bytes : List ℕ}
+    {before : List Item} {p : Program} {rest : List ℕ} {s : S} (t : Telling story order h header b bytes before p rest s)
     (all : AllBytes bytes) where
   rest_bytes : AllBytes rest
   rest_bytes = bytes_back t.walked.done rest (rw t.walked.split at all)
 
   -- whatever was taken before: more of the bytes is taken
   pub tell_after : {new : Program} {tail : List ℕ} {new_s : S}
-      → ((v : List ℕ) (heard : List Row) → AllBytes rest → ProgramStands order h p v → story.hears s heard
-      → Telling story order h v rest heard new tail new_s) → Telling story order h b bytes before new tail new_s
+      → ((v : List ℕ) (heard : List Item) → AllBytes rest → ProgramStands order h p v → story.hears s heard
+      → Telling story order h header v rest heard new tail new_s)
+      → Telling story order h header b bytes before new tail new_s
+  unfolding walk_join
   tell_after more =
-      let u = more (b ++ t.walked.done) (before ++ t.rows) rest_bytes t.walked.stands t.hears in
-      record { rows = t.rows ++ u.rows; walked = walk_join t.walked u.walked; hears = rw append_assoc at u.hears }
+      let u = more (b ++ t.walked.done) (before ++ items_after order h header b t.walked.done) rest_bytes t.walked.stands t.hears in
+      record {
+        rows = t.rows ++ u.rows;
+        walked = walk_join t.walked u.walked;
+        hears = rw (heard_join order h header before b t.walked.done u.walked.done) at u.hears;
+      }
 
   -- the same, up to a stop
   pub tells_after : {new : Program} (step : ProgramStep) {new_s : S}
-      → ((v : List ℕ) (heard : List Row) → AllBytes rest → ProgramStands order h p v → story.hears s heard
-      → Tells story order h v rest heard step new new_s) → Tells story order h b bytes before step new new_s
+      → ((v : List ℕ) (heard : List Item) → AllBytes rest → ProgramStands order h p v → story.hears s heard
+      → Tells story order h header v rest heard step new new_s) → Tells story order h header b bytes before step new new_s
   tells_after {new} step {new_s} more =
-      let u = more (b ++ t.walked.done) (before ++ t.rows) rest_bytes t.walked.stands t.hears in
+      let u = more (b ++ t.walked.done) (before ++ items_after order h header b t.walked.done) rest_bytes t.walked.stands t.hears in
       record {
         rows = t.rows ++ u.rows;
         gives = given_join t.walked step u.rows new u.gives;
-        sink = subst (λ (rows : List Row). StandsAfter story new_s rows step) (append_assoc before t.rows u.rows)
-            u.sink;
+        taken = t.walked.done ++ u.taken;
+        split = joined t.walked u.taken (left_by step) u.split;
+        sink = subst (λ (items : List Item). StandsAfter story new_s items step)
+            (heard_join order h header before b t.walked.done u.taken) u.sink;
       }
+
+-- all bytes are taken, and nothing is given
+pub tells_all : {S : Type 0} {story : Story S} {order : Order} {h : Params} {header : HeaderData} {b bytes : List ℕ}
+    {before : List Item} {p : Program} {rest : List ℕ} {s : S} → Telling story order h header b bytes before p rest s
+    → rest ≡ [] → Tells story order h header b bytes before given.Nothing p s
+tells_all t none = record {
+  rows = t.rows;
+  gives = nothing_left t.walked none;
+  taken = t.walked.done;
+  split = rw none at t.walked.split;
+  sink = t.hears;
+}
 
 -- ---- between operations
 

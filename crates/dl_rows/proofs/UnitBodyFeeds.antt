@@ -1,7 +1,7 @@
 -- What a reader answers after the header of a unit, or after a foreign version.
 use Rattle.dl_head.specs.declared.dialect.Dialect.{Dialect}
 use Rattle.std.proofs.Common.{◌≡◌, ◌≢◌, ◌⊎◌, inl, inr, ℕ, suc, get_or, ◌+◌, ◌-◌, ◌<◌, ◌≤◌, List, [], ◌∷◌, ◌++◌, length}
-use Rattle.std.proofs.Common.{map, take, drop, Some, refl, sym, ap, ◌∙◌, arith, length-append, append_assoc, append-nil}
+use Rattle.std.proofs.Common.{map, take, drop, Some, refl, subst, sym, ap, ◌∙◌, arith, length-append, append_assoc, append-nil}
 use Rattle.std.proofs.Common.{length-take, Ok, Err}
 use Rattle.std.proofs.lemmas.Bool.Decides.{nat_tests}
 use Rattle.std.proofs.lemmas.Bool.{cases_eq}
@@ -23,15 +23,16 @@ use Rattle.dl_rows.specs.declared.reader.Fed.{Fed}
 use Rattle.dl_rows.specs.declared.row.Row.{Row}
 use Rattle.dl_rows.specs.declared.unit_body.UnitBody.{UnitBody}
 use Rattle.dl_rows.specs.declared.unit_body.UnitBytes.{UnitBytes}
+use Rattle.dl_rows.specs.Items.{Item}
 use Rattle.dl_rows.specs.LineUnit.{IsUnit, rows_in, ends_open, events}
 use Rattle.dl_rows.specs.Programs.{ProgramStands, NothingGiven, RowGiven, BadGiven, Tells}
-use Rattle.dl_rows.specs.Reading.{WithinUnit, told, EventHoldsAfter, FeedsAfter, FailsAfter, IsPause, SinkAt, Fails}
-use Rattle.dl_rows.specs.Reading.{Feeds}
+use Rattle.dl_rows.specs.Reading.{WithinUnit, told, EventHoldsAfter, FeedsAfter, FailsAfter, Fails, Feeds}
 use Rattle.dl_rows.specs.Refusal.{Refused}
 use Rattle.dl_rows.specs.Sinks.{Story}
 use Rattle.dl_rows.specs.Sums.{FitsProgram}
 use Rattle.dl_rows.specs.UnitBodies.{Counts, AfterHeader, InProgram, Stops, paused, BodyStopped, ProgramTells}
 use Rattle.dl_rows.specs.UnitBodies.{BodyTells, InForeign}
+use Rattle.dl_rows.proofs.HeardLemmas.{TakenOf, hears_nothing, taken_of}
 use Rattle.dl_rows.proofs.OperandRanges.{bytes_front}
 use Rattle.dl_rows.proofs.ProgramSteps.{rest_here, in_sequence_is}
 use Rattle.dl_rows.proofs.RowBytes.{row_ends, front_is}
@@ -44,24 +45,6 @@ use Rattle.dl_rows.specs.declared.unit_body.BodyState.TheVariants as body
 use Rattle.dl_rows.specs.declared.unit_body.BodyStop.{BodyStop}
 use Rattle.dl_head.proofs.ForeignLemmas.{foreign_on}
 use Rattle.dl_rows.proofs.UnitQuiet.{foreign_quiet}
-
--- u is what is taken of the piece, of which at most so many bytes are of the unit
-record TakenOf (piece : List ℕ) (most : ℕ) (u : List ℕ) (used : ℕ) : Type 0 where
-  exact : used ≡ length u
-  few : length u ≤ most
-  within : used ≤ length piece
-  is : take used piece ≡ u
-
-taken_of : (piece u tail : List ℕ) (most used : ℕ) → take most piece ≡ u ++ tail
-    → used ≡ length (take most piece) - length tail → TakenOf piece most u used
-taken_of piece u tail most used e size =
-    let exact : used ≡ length u = omega (arith, size, ap length e, length-append u tail) in
-    record {
-      exact = exact;
-      few = omega (arith, ap length e, length-take most piece, length-append u tail);
-      within = omega (arith, exact, ap length e, length-take most piece, length-append u tail);
-      is = rw exact (front_is piece u tail most e);
-    }
 
 taken_all : (piece : List ℕ) (most used : ℕ) → used ≡ length (take most piece)
     → TakenOf piece most (take most piece) used
@@ -136,16 +119,18 @@ all_bytes (b ∷ w) h = (h 0 (omega arith), all_bytes w (λ i lt. h (suc i) (ome
 
 -- what the reader of a program gives for the bytes that are left of the unit
 pub tells_in : {S : Type 0} {story : Story S} {dialect : Dialect} {h : HeaderData} {p : Params} {t : UnitBody}
-    {b bytes : List ℕ} {before : List Row} {step : ProgramStep} {new : Program} {s : S} (is : InProgram dialect h t b)
+    {b bytes : List ℕ} {before : List Item} {step : ProgramStep} {new : Program} {s : S} (is : InProgram dialect h t b)
     (piece : List ℕ) → h.params ≡ p → bytes ≡ take t.bytes.left piece
     → ((i : ℕ) → i < length piece → get_or piece i 0 < 256)
     → ((c : List ℕ) → FitsProgram p → AllBytes bytes → ProgramStands dialect.order p t.program c
-    → Tells story dialect.order p c bytes before step new s)
-    → Tells story dialect.order h.params is.at.program (take t.bytes.left piece) before step new s
-tells_in {t = t} is piece params front all gives =
+    → Tells story dialect.order p h c bytes before step new s)
+    → Tells story dialect.order h.params h is.at.program (take t.bytes.left piece) before step new s
+tells_in {story = story} {dialect = dialect} {h = h} {t = t} {before = before} {step = step} {new = new} {s = s} is piece
+    params front all gives =
     let some : AllBytes (take t.bytes.left piece) =
     bytes_front (take t.bytes.left piece) (drop t.bytes.left piece) (rw take-append-drop (all_bytes piece all)) in
-    rw (params, ← front) (gives is.at.program (rw params at is.fits) (rw front some) (rw params at is.stands))
+    subst (λ (p : Params). Tells story dialect.order p h is.at.program (take t.bytes.left piece) before step new s)
+    (sym params) (rw front at (gives is.at.program (rw params at is.fits) (rw front some) (rw params at is.stands)))
 
 pub feeds_row : {dialect : Dialect} {h : HeaderData} {t new : UnitBody} {b piece tail : List ℕ} {rows : List Row}
     {row : Row} {used : ℕ} (is : InProgram dialect h t b)
@@ -201,15 +186,14 @@ fails_with : {dialect : Dialect} {h : HeaderData} {t new : UnitBody} {b piece u 
     → new.program.in_sequence ≡ ends_open (rows_in dialect.order h.params (is.at.program ++ u))
     → answer ≡ record { offset = new.bytes.taken - new.program.begun; kind = kind }
     → Refused dialect (b ++ u) (new.bytes.taken - new.program.begun) kind
-    → (n : ℕ) × FailsAfter dialect (events dialect b ++ map event.Row rows) b piece answer n
-    × Stops dialect new (b ++ take n piece)
+    → FailsAfter dialect (events dialect b ++ map event.Row rows) b piece answer used
+    × Stops dialect new (b ++ take used piece)
 fails_with {dialect} {h} {t} {new} {b} {piece} {u} {used} is rows taken counted grown is_open answer_is refused =
     let counts = counts_on u is.counts taken.few counted in
     let stops : Stops dialect new (b ++ u) = record {
       counts = counts;
       in_sequence = rw (rows_at (later is.at u)) is_open;
     } in (
-      used,
       record {
         within = taken.within;
         in_unit = rw taken.is (counts_within counts);
@@ -226,8 +210,8 @@ pub fails_overrun : {dialect : Dialect} {h : HeaderData} {t new : UnitBody} {b p
     → bytes ≡ take t.bytes.left piece → Counted t.bytes new.bytes (length bytes) → new.bytes.left ≡ 0
     → begun_in dialect.order h.params (is.at.program ++ take t.bytes.left piece) ≢ []
     → answer ≡ record { offset = new.bytes.taken - new.program.begun; kind = fault.OpcodeOverrun }
-    → (n : ℕ) × FailsAfter dialect (events dialect b ++ map event.Row rows) b piece answer n
-    × Stops dialect new (b ++ take n piece)
+    → FailsAfter dialect (events dialect b ++ map event.Row rows) b piece answer (length (take t.bytes.left piece))
+    × Stops dialect new (b ++ take (length (take t.bytes.left piece)) piece)
 fails_overrun {dialect} {h} {t} {new} {b} {piece} {rows = rows} is g front counts none begun answer_is =
     let u = take t.bytes.left piece in
     let counted = rw front at counts in
@@ -247,8 +231,8 @@ pub fails_bad : {dialect : Dialect} {h : HeaderData} {t new : UnitBody} {b piece
     → BadGiven dialect.order h.params is.at.program (take t.bytes.left piece) rows kind tail new.program
     → used ≡ length (take t.bytes.left piece) - length tail → Counted t.bytes new.bytes used
     → answer ≡ record { offset = new.bytes.taken - new.program.begun; kind = kind }
-    → (n : ℕ) × FailsAfter dialect (events dialect b ++ map event.Row rows) b piece answer n
-    × Stops dialect new (b ++ take n piece)
+    → FailsAfter dialect (events dialect b ++ map event.Row rows) b piece answer used
+    × Stops dialect new (b ++ take used piece)
 fails_bad {t = t} {new = new} {piece = piece} {tail = tail} {rows = rows} {kind = kind} {used = used} is g size
     counts answer_is =
     let u = g.front ++ g.last ∷ [] in
@@ -257,15 +241,6 @@ fails_bad {t = t} {new = new} {piece = piece} {tail = tail} {rows = rows} {kind 
     fails_with is rows taken counted g.grown g.is_open answer_is
     (refused_on is u taken.few new kind (bad_at (later is.at u) kind g.spelt) (λ f x back k. (let z =
     front_before g.front f g.last x back k in g.unrefused f z.0 z.1)) counted g.count)
-
-pub no_row_paused : (e : Event) → IsPause e → (r : Row) → e ≢ event.Row r
-no_row_paused e pause r is = grind arith
-
--- after an event that is no row a sink goes on
-pub sink_goes_on : {S : Type 0} (story : Story S) (s : S) (rows : List Row) (e : Event)
-    → ((r : Row) → e ≢ event.Row r) → story.hears s rows → SinkAt story s rows e
-sink_goes_on story s rows (event.Row r) none hears = absurd (none r refl)
-sink_goes_on story s rows other none hears = hears
 
 -- ---- the fault that stops a reader
 
@@ -279,13 +254,17 @@ fails_again dialect b piece fault in_unit refused = record {
   no_event = rw append-nil;
 }
 
-module _ {S : Type 0} {story : Story S} {dialect : Dialect} {h : HeaderData} {b piece : List ℕ} {before : List Row}
+module _ {S : Type 0} {story : Story S} {dialect : Dialect} {h : HeaderData} {b piece : List ℕ} {before : List Item}
     {sink : S} where
   -- an answer of an event
   pub tells_fed : {new : UnitBody} {fed : Fed} → ProgramTells story dialect h b piece before (Ok fed) new sink
       → BodyTells story dialect h b piece before (Ok fed) (body.InProgram new) sink
-  tells_fed t =
-      record { rows = t.rows; fed = record { answered = t.fed.answered; stands = t.fed.stands }; sink = t.sink }
+  tells_fed t = record {
+    rows = t.rows;
+    used = t.used;
+    fed = (t.fed.0, record { answered = t.fed.1.answered; stands = t.fed.1.stands });
+    heard = t.heard;
+  }
 
   -- the first answer of a fault
   pub tells_fault : {old new : UnitBody} {fault : Fault} {stop : BodyStop} → InProgram dialect h old b
@@ -294,17 +273,17 @@ module _ {S : Type 0} {story : Story S} {dialect : Dialect} {h : HeaderData} {b 
       → BodyTells story dialect h b piece before (Err fault) (body.Stopped stop) sink
   tells_fault is made t = rw made (record {
     rows = t.rows;
+    used = t.used;
     fed = (
       t.fed.0,
-      t.fed.1,
       record {
-        refused = t.fed.1.refused;
-        counts = t.fed.2.counts;
-        in_sequence = t.fed.2.in_sequence;
-        at = later is.at (take t.fed.0 piece);
+        refused = t.fed.0.refused;
+        counts = t.fed.1.counts;
+        in_sequence = t.fed.1.in_sequence;
+        at = later is.at (take t.used piece);
       },
     );
-    sink = t.sink;
+    heard = t.heard;
   })
 
   -- it is answered again
@@ -312,12 +291,12 @@ module _ {S : Type 0} {story : Story S} {dialect : Dialect} {h : HeaderData} {b 
       → BodyTells story dialect h b piece before (Err stop.fault) (body.Stopped stop) sink
   tells_again {stop} is hears = record {
     rows = [];
+    used = 0;
     fed = (
-      0,
       rw (append-nil (events dialect b)) (fails_again dialect b piece stop.fault (counts_within is.counts) is.refused),
       rw append-nil is,
     );
-    sink = rw append-nil hears;
+    heard = hears_nothing (Err stop.fault) refl refl hears;
   }
 
 -- ---- a unit of another version

@@ -1,4 +1,4 @@
--- Rows that are told inside one call of `feed_rows`, and the calls of `feed` that tell the same, one after the other.
+-- Rows that are told inside one call of `feed_program`, and the calls of `feed` that tell the same, one after the other.
 use Rattle.std.specs.Prelude.{◌≡◌, ◌⊎◌, ◌+◌, ◌<◌, ◌↔◌, ℕ, List, [], ◌∷◌, ◌++◌, length, map, take, drop, Result, Ok, Err}
 use Rattle.dl_head.specs.declared.dialect.Dialect.{Dialect}
 use Rattle.dl_head.specs.declared.fault.Fault.{Fault}
@@ -14,7 +14,7 @@ MayGiveAfter dialect before b piece used (Ok event) =
     AnsweredAfter dialect before b piece (record { used = used; event = event })
 MayGiveAfter dialect before b piece used (Err fault) = FailsAfter dialect before b piece fault used
 
--- what `feed_rows` may answer after b to a piece, having told these rows on the way
+-- what `feed_program` may answer after b to a piece, having told these rows on the way
 abbrev pub MayTell : Dialect → (b piece : List ℕ) → List Row → ℕ → Result Event Fault → Type 0
 MayTell dialect b piece rows used gave = MayGiveAfter dialect (events dialect b ++ map event.Row rows) b piece used gave
 
@@ -28,7 +28,7 @@ Calls dialect b piece (row ∷ rows) used gave = (n : ℕ) × MayGive dialect b 
     ⊎ ((n < length piece) × (more : ℕ) × (used ≡ n + more)
     × Calls dialect (b ++ take n piece) (drop n piece) rows more gave))
 
--- `feed_rows` may answer exactly what calls of `feed` may
+-- `feed_program` may answer exactly what calls of `feed` may
 abbrev pub RowsAreCalls : Type 0
 RowsAreCalls = (dialect : Dialect) (b piece : List ℕ) (rows : List Row) (used : ℕ) (gave : Result Event Fault)
     → MayTell dialect b piece rows used gave ↔ Calls dialect b piece rows used gave

@@ -8,10 +8,11 @@ use Rattle.dl_head.specs.Header.{header_in, lengths_in}
 use Rattle.dl_rows.specs.declared.reader.Fed.{Fed}
 use Rattle.dl_rows.specs.declared.reader.Reader.{Reader}
 use Rattle.dl_rows.specs.declared.row.Row.{Row}
+use Rattle.dl_rows.specs.Items.{Item}
 use Rattle.dl_rows.specs.declared.reader.Event.{Event}
 use Rattle.dl_rows.specs.declared.reader.Event.TheVariants as event
 use Rattle.dl_rows.specs.LineUnit.{events}
-use Rattle.dl_rows.specs.Reading.{Feeds, FeedsAfter, Fails, FailsAfter, SinkAfter}
+use Rattle.dl_rows.specs.Reading.{Feeds, FeedsAfter, Fails, FailsAfter, HearsOf}
 use Rattle.dl_rows.specs.Sinks.{Story}
 use Rattle.dl_rows.specs.ReaderStands.{StandsFor}
 
@@ -21,18 +22,21 @@ ReaderFed dialect b piece (Ok fed) new = Feeds StandsFor dialect b piece fed new
 ReaderFed dialect b piece (Err fault) new =
     (used : ℕ) × Fails dialect b piece fault used × StandsFor new (b ++ take used piece)
 
--- an answer after the events before
-abbrev pub FedAfter : Dialect → (before : List Event) → (b piece : List ℕ) → Result Fed Fault → Reader → Type 0
-FedAfter dialect before b piece (Ok fed) new = FeedsAfter StandsFor dialect before b piece fed new
-FedAfter dialect before b piece (Err fault) new =
-    (used : ℕ) × FailsAfter dialect before b piece fault used × StandsFor new (b ++ take used piece)
+-- an answer after the events before, `used` bytes being taken
+abbrev pub FedAfter : Dialect → (before : List Event) → (b piece : List ℕ) → (used : ℕ) → Result Fed Fault → Reader
+    → Type 0
+FedAfter dialect before b piece used (Ok fed) new =
+    (fed.used ≡ used) × FeedsAfter StandsFor dialect before b piece fed new
+FedAfter dialect before b piece used (Err fault) new =
+    FailsAfter dialect before b piece fault used × StandsFor new (b ++ take used piece)
 
--- `feed_rows`: the sink, which had heard the rows before, heard those that come before the answer
-pub record RowsFed {S : Type 0} (story : Story S) (dialect : Dialect) (b piece : List ℕ) (before : List Row)
+-- `feed_program`: the sink, which had heard the items before, heard what the bytes that were taken come to
+pub record SinkFed {S : Type 0} (story : Story S) (dialect : Dialect) (b piece : List ℕ) (before : List Item)
     (result : Result Fed Fault) (new : Reader) (s : S) : Type 0 where
   pub rows : List Row
-  pub fed : FedAfter dialect (events dialect b ++ map event.Row rows) b piece result new
-  pub sink : SinkAfter story s (before ++ rows) result
+  pub used : ℕ
+  pub fed : FedAfter dialect (events dialect b ++ map event.Row rows) b piece used result new
+  pub heard : HearsOf story dialect b piece used rows before result s
 
 -- `header` and `into_header`: the header that b begins with
 abbrev pub HeaderIs : Reader → Option HeaderData → Type 0

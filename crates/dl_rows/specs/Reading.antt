@@ -1,6 +1,6 @@
 -- What a reader of a unit answers. Places count from the unit's first byte. DWARF 5, section 6.2.4.
 use Rattle.std.specs.Prelude.{◌≡◌, ◌≢◌, ◌<◌, ◌≤◌, ◌⊎◌, ◌-◌, ℕ, List, [], ◌∷◌, ◌++◌, length, take, Some, None, slice_get}
-use Rattle.std.specs.Prelude.{Result, Ok, Err}
+use Rattle.std.specs.Prelude.{Result, Ok, Err, Bool, true, false}
 use Rattle.dl_head.specs.declared.dialect.Dialect.{Dialect}
 use Rattle.dl_head.specs.declared.fault.Fault.{Fault}
 use Rattle.dl_table.specs.declared.fault.FaultKind.{FaultKind}
@@ -13,6 +13,7 @@ use Rattle.dl_rows.specs.declared.reader.Fed.{Fed}
 use Rattle.dl_rows.specs.declared.reader.Finish.{Finish}
 use Rattle.dl_rows.specs.declared.reader.Finish.TheVariants as finish
 use Rattle.dl_rows.specs.declared.row.Row.{Row}
+use Rattle.dl_rows.specs.Items.{Item, rows_of_items, unit_items}
 use Rattle.dl_rows.specs.LineUnit.{IsUnit, events}
 use Rattle.dl_rows.specs.Sinks.{Story}
 use Rattle.dl_rows.specs.Refusal.{Refused}
@@ -93,15 +94,44 @@ pub record FailsAfter (dialect : Dialect) (before : List Event) (b piece : List 
 abbrev pub Fails : Dialect → (b piece : List ℕ) → Fault → ℕ → Type 0
 Fails dialect b piece fault used = FailsAfter dialect (events dialect b) b piece fault used
 
--- the sink stopped at the row of this event, or goes on
-abbrev pub SinkAt : {S : Type 0} → Story S → S → List Row → Event → Type 0
-SinkAt story s rows (event.Row r) = story.stops s (rows ++ r ∷ [])
-SinkAt story s rows other = story.hears s rows
+-- the rows that an event is
+abbrev pub row_told : Event → List Row
+row_told (event.Row r) = r ∷ []
+row_told other = []
 
--- a sink that heard these rows in a call, after which stands this answer: it stopped at the answer's row, or goes on
-abbrev pub SinkAfter : {S : Type 0} → Story S → S → List Row → Result Fed Fault → Type 0
-SinkAfter story s rows (Ok fed) = SinkAt story s rows fed.event
-SinkAfter story s rows (Err fault) = story.hears s rows
+abbrev pub row_answered : Result Fed Fault → List Row
+row_answered (Ok fed) = row_told fed.event
+row_answered (Err fault) = []
+
+-- whether an event comes before the program
+abbrev pub is_opening : Event → Bool
+is_opening event.Header = true
+is_opening (event.Foreign version) = true
+is_opening other = false
+
+abbrev pub opening_answered : Result Fed Fault → Bool
+opening_answered (Ok fed) = is_opening fed.event
+opening_answered (Err fault) = false
+
+-- the sink stopped at the last of these items, the row of this event, or goes on
+abbrev pub SinkAt : {S : Type 0} → Story S → S → List Item → Event → Type 0
+SinkAt story s items (event.Row r) = story.stops s items
+SinkAt story s items other = story.hears s items
+
+-- a sink that heard these items up to this answer: it stopped at the answer's row, or goes on
+abbrev pub SinkAfter : {S : Type 0} → Story S → S → List Item → Result Fed Fault → Type 0
+SinkAfter story s items (Ok fed) = SinkAt story s items fed.event
+SinkAfter story s items (Err fault) = story.hears s items
+
+-- after b the first `used` bytes of a piece were taken, which gave these rows and then the answer; a sink that had heard
+-- the items before has heard what these bytes come to
+pub record HearsOf {S : Type 0} (story : Story S) (dialect : Dialect) (b piece : List ℕ) (used : ℕ) (rows : List Row)
+    (before : List Item) (result : Result Fed Fault) (s : S) : Type 0 where
+  pub items : List Item
+  pub grown : unit_items dialect (b ++ take used piece) ≡ unit_items dialect b ++ items
+  pub of_rows : rows_of_items items ≡ rows ++ row_answered result
+  pub opening : opening_answered result ≡ true → unit_items dialect (b ++ take used piece) ≡ []
+  pub sink : SinkAfter story s (before ++ items) result
 
 -- `finish`: no byte was taken; a unit was; b is refused; or it is none of these
 abbrev pub FinishIs : Dialect → List ℕ → Result Finish Fault → Type 0

@@ -4,6 +4,7 @@ ghost use Rattle.dl_rows.specs.Laws.{SpeltIsSpelled, BadIsFaulty, NoOperationBeg
 ghost use Rattle.dl_rows.specs.Laws.{NoSpellingIsFaulty, OneProgram, ProgramIsFound, FoundIsProgram, NoneBeginsRest};
 ghost use Rattle.dl_rows.specs.Laws.{RowForByte};
 ghost use Rattle.dl_rows.specs.Calls.{RowsAreCalls};
+ghost use Rattle.dl_rows.specs.Items.{ItemsAreThese, ItemsGrow};
 ghost use Rattle.dl_rows.specs.Runs.{TraceRuns, TraceOfUnit};
 ghost use Rattle.dl_rows.specs.UnitLaws.{HeaderFits, LengthIsComputed, NoUnitBeginsAnother, ForeignComesTo};
 ghost use Rattle.dl_rows.specs.UnitLaws.{UnitComesTo, OneRefusal, RefusedInHeader, RefusedInProgram};
@@ -30,6 +31,13 @@ pub fn program_is_found()
     ensures program { ProgramIsFound }
     ensures found { FoundIsProgram }
     ensures rest { NoneBeginsRest }
+{}
+
+/// What a sink hears of a program are its bytes, the operations that are complete in it, and its rows; of more bytes it
+/// hears more.
+pub fn items_of_a_program()
+    ensures these { ItemsAreThese }
+    ensures grow { ItemsGrow }
 {}
 
 /// A program has at most one row for each of its bytes, and so has the program of a unit. Section 6.2.2.
@@ -81,7 +89,7 @@ pub fn turns()
     ensures unit { TraceOfUnit }
 {}
 
-/// What `feed_rows` may answer, and the rows that it may tell on the way, are what calls of `feed` may
+/// What `feed_program` may answer, and the rows that it may tell on the way, are what calls of `feed` may
 /// answer, one after the other.
 pub fn rows_are_calls()
     ensures { RowsAreCalls }

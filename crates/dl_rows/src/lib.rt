@@ -16,4 +16,4 @@ pub use front::operation_at_front;
 pub use operation::Operation;
 pub use reader::{Event, Fed, Finish, Listener, Reader, Run};
 pub use row::Row;
-pub use sink::{Flow, RowSink};
+pub use sink::{Flow, ProgramSink};

@@ -8,8 +8,8 @@ use crate::operation::Operation;
 use crate::operation_state::{OperationState, OperationStep, short_operation};
 use crate::registers::Registers;
 use crate::row::Row;
-use crate::sink::{Flow, RowSink};
-use dl_head::{FaultKind, Params};
+use crate::sink::{Flow, ProgramSink, tell_operation};
+use dl_head::{FaultKind, Header, Params};
 use dl_num::Order;
 
 /// What bytes of a program give.
@@ -26,7 +26,7 @@ pub enum ProgramStep<'a> {
 /// Up to where operations were taken.
 #[derive(Clone, Copy)]
 pub enum Taken<'a> {
-    /// Up to these bytes; the sink has heard their rows.
+    /// Up to these bytes; the sink has heard them.
     UpTo(&'a [u8]),
     /// Up to the operation of this row, at which the sink stopped, and the bytes after it.
     Row(Row, &'a [u8]),
@@ -47,7 +47,7 @@ pub struct Program {
 
 impl Program {
     ghost use Rattle.dl_rows.specs.declared.operation.Operation.{Operation};
-    ghost use Rattle.dl_rows.specs.declared.row.Row.{Row};
+    ghost use Rattle.dl_rows.specs.Items.{Item};
     ghost use Rattle.dl_rows.specs.Left.{GivenLeaves, TakenLeaves, rows_of};
     ghost use Rattle.dl_rows.specs.Matrix.{matrix};
     ghost use Rattle.dl_rows.specs.OperationSpelt.{operations_in};
@@ -95,24 +95,25 @@ impl Program {
         self.in_sequence
     }
 
-    /// Takes bytes, and lets the sink hear each row, up to the end of the operation of the row at which it stops.
+    /// Takes bytes, and lets the sink hear them, up to the end of the operation of the row at which it stops.
     #[inline(always)]
-    pub fn push<'a, S: RowSink>(
+    pub fn push<'a, S: ProgramSink>(
         &mut self,
         order: Order,
         params: &Params,
+        header: &Header,
         mut bytes: &'a [u8],
         sink: &mut S,
     ) -> ProgramStep<'a>
         requires { IsUsable params.now }
         ensures left { GivenLeaves (length bytes.entry.now) result }
-        ensures given { (b : List ℕ) (before : List Row) (first : S) → FitsProgram params.now → AllBytes bytes.entry.now
+        ensures given { (b : List ℕ) (before : List Item) (first : S) → FitsProgram params.now → AllBytes bytes.entry.now
             → ProgramStands order params.now self.old b
             → (S.story first).hears sink.old before
-            → Tells (S.story first) order params.now b bytes.entry.now before result self.new sink.new }
+            → Tells (S.story first) order params.now header.now b bytes.entry.now before result self.new sink.new }
     {
         while !bytes.is_empty() {
-            match self.short_operations(order, params, bytes, sink) {
+            match self.short_operations(order, params, header, bytes, sink) {
                 Taken::UpTo(tail) => bytes = tail,
                 Taken::Row(row, tail) => return ProgramStep::Row(row, tail),
             }
@@ -120,12 +121,14 @@ impl Program {
                 OperationStep::Within(phase) => {
                     self.phase = phase;
                     self.begun = self.begun.saturating_add(bytes.len() as u64);
+                    sink.bytes(bytes);
                     return ProgramStep::Nothing;
                 }
                 OperationStep::Ends(operation, tail) => {
+                    tell_operation(sink, header, bytes, tail, operation);
                     bytes = tail;
                     if let Some(row) = self.complete(params, operation) {
-                        match sink.row(&row) {
+                        match sink.row(header, &row) {
                             Flow::On => {}
                             Flow::Stop => return ProgramStep::Row(row, tail),
                         }
@@ -134,6 +137,7 @@ impl Program {
                 OperationStep::Refuses(kind, tail) => {
                     let used = bytes.len() - tail.len();
                     self.begun = self.begun.saturating_add(used as u64);
+                    sink.bytes(&bytes[..used]);
                     return ProgramStep::Refuses(kind, tail);
                 }
             }
@@ -142,28 +146,29 @@ impl Program {
     }
 
     /// Takes operations whose bytes all stand at the front of these, one after the other, where none has begun
-    /// before and the bytes are not few, and lets the sink hear each row.
+    /// before and the bytes are not few, and lets the sink hear them.
     #[inline(always)]
-    fn short_operations<'a, S: RowSink>(
+    fn short_operations<'a, S: ProgramSink>(
         &mut self,
         order: Order,
         params: &Params,
+        header: &Header,
         bytes: &'a [u8],
         sink: &mut S,
     ) -> Taken<'a>
         requires { IsUsable params.now }
         ensures left { TakenLeaves (length bytes.entry.now) result }
         ensures phase { self.new.phase ≡ self.old.phase }
-        ensures told { (b : List ℕ) (before : List Row) (first : S) → FitsProgram params.now → AllBytes bytes.entry.now
+        ensures told { (b : List ℕ) (before : List Item) (first : S) → FitsProgram params.now → AllBytes bytes.entry.now
             → ProgramStands order params.now self.old b
             → (S.story first).hears sink.old before
-            → TakenTells (S.story first) order params.now b bytes.entry.now before result self.new sink.new }
+            → TakenTells (S.story first) order params.now header.now b bytes.entry.now before result self.new sink.new }
     {
         if bytes.len() < SHORT_PIECE || !self.is_between() {
             return Taken::UpTo(bytes);
         }
         let mut program = *self;
-        let taken = program.run(order, params, bytes, sink);
+        let taken = program.run(order, params, header, bytes, sink);
         self.registers = program.registers;
         self.in_sequence = program.in_sequence;
         taken
@@ -172,10 +177,11 @@ impl Program {
     /// `short_operations` between operations, where the program stands in a local of its own, so that its registers
     /// need no memory.
     #[inline(always)]
-    fn run<'a, S: RowSink>(
+    fn run<'a, S: ProgramSink>(
         &mut self,
         order: Order,
         params: &Params,
+        header: &Header,
         mut bytes: &'a [u8],
         sink: &mut S,
     ) -> Taken<'a>
@@ -184,15 +190,16 @@ impl Program {
         ensures left { TakenLeaves (length bytes.entry.now) result }
         ensures phase { self.new.phase ≡ self.old.phase }
         ensures begun { self.new.begun ≡ self.old.begun }
-        ensures told { (b : List ℕ) (before : List Row) (first : S) → FitsProgram params.now → AllBytes bytes.entry.now
+        ensures told { (b : List ℕ) (before : List Item) (first : S) → FitsProgram params.now → AllBytes bytes.entry.now
             → ProgramStands order params.now self.old b
             → (S.story first).hears sink.old before
-            → TakenTells (S.story first) order params.now b bytes.entry.now before result self.new sink.new }
+            → TakenTells (S.story first) order params.now header.now b bytes.entry.now before result self.new sink.new }
     {
         while let Some((operation, tail)) = short_operation(order, params, bytes) {
+            tell_operation(sink, header, bytes, tail, operation);
             bytes = tail;
             if let Some(row) = self.finish(params, operation) {
-                match sink.row(&row) {
+                match sink.row(header, &row) {
                     Flow::On => {}
                     Flow::Stop => return Taken::Row(row, tail),
                 }

@@ -18,7 +18,7 @@ mod run;
 
 use crate::program::Program;
 use crate::row::Row;
-use crate::sink::{EachRow, RowSink};
+use crate::sink::{EachRow, ProgramSink};
 use crate::unit_body::{BodyState, UnitBody, UnitBytes};
 use dl_head::{Dialect, Fault, FaultKind, HeadReader, HeadStep, Header, HeaderLengths};
 use dl_num::Order;
@@ -95,10 +95,11 @@ pub struct Reader {
 
 impl Reader {
     ghost use Rattle.dl_rows.specs.Progress.{taken_of};
-    ghost use Rattle.dl_rows.specs.Reading.{IsPause};
+    ghost use Rattle.dl_rows.specs.HeadFed.{HeadFed};
+    ghost use Rattle.dl_rows.specs.Reading.{IsPause, row_answered};
     ghost use Rattle.dl_rows.specs.ReaderStands.{StandsFor};
-    ghost use Rattle.dl_rows.specs.ReaderAnswers.{HeaderIs, LengthsAre, ReaderFed, RowsFed};
-    ghost use Rattle.dl_rows.specs.declared.row.Row.{Row};
+    ghost use Rattle.dl_rows.specs.ReaderAnswers.{HeaderIs, LengthsAre, ReaderFed, SinkFed};
+    ghost use Rattle.dl_rows.specs.Items.{Item};
 
     /// No byte yet of a unit whose numbers stand in this order; units of other versions than 5 aren't read. It takes no
     /// memory.
@@ -133,19 +134,19 @@ impl Reader {
         ensures dialect { self.new.dialect ≡ self.old.dialect }
         ensures refused { IfOk result (λ fed. fed.event ≡ Event.NoMemory → WasRefused SystemRefuses) }
     {
-        self.feed_rows(piece, &mut EachRow)
+        self.feed_program(piece, &mut EachRow)
     }
 
     /// Takes bytes of the piece up to the next event that is no row, or up to the row at which the sink
-    /// stops, and lets the sink hear each row on the way, that one too. After a fault it answers the
-    /// fault again.
-    pub fn feed_rows<S: RowSink>(&mut self, piece: &[u8], sink: &mut S) -> Result<Fed, Fault>
+    /// stops, and lets the sink hear what the bytes of the program come to on the way, that row too. After a fault it
+    /// answers the fault again.
+    pub fn feed_program<S: ProgramSink>(&mut self, piece: &[u8], sink: &mut S) -> Result<Fed, Fault>
         ensures used { IfOk result (λ fed. fed.used ≤ length piece.now) }
         ensures progress { IfOk result (λ fed. IsPause fed.event ⊎ (1 ≤ fed.used)) }
         ensures end { IfOk result (λ fed. fed.event ≡ Event.End → 1 ≤ taken_of self.old + fed.used) }
-        ensures fed { (b : List ℕ) (before : List Row) (first : S) → StandsFor self.old b
+        ensures fed { (b : List ℕ) (before : List Item) (first : S) → StandsFor self.old b
             → (S.story first).hears sink.old before
-            → RowsFed (S.story first) self.old.dialect b piece.now before result self.new sink.new }
+            → SinkFed (S.story first) self.old.dialect b piece.now before result self.new sink.new }
         ensures dialect { self.new.dialect ≡ self.old.dialect }
         ensures refused { IfOk result (λ fed. fed.event ≡ Event.NoMemory → WasRefused SystemRefuses) }
     {
@@ -154,7 +155,7 @@ impl Reader {
             UnitStage::StoppedInHeader(stop) => Err(stop.fault),
             UnitStage::Foreign(bytes) => Ok(bytes.pass_over(piece)),
             UnitStage::AfterHeader(header, _, body) => {
-                body.feed(self.dialect, header.params(), piece, sink)
+                body.feed(self.dialect, header, piece, sink)
             }
         }
     }
@@ -264,8 +265,8 @@ impl Reader {
         ensures used { IfOk result (λ fed. fed.used ≤ length piece.now) }
         ensures progress { IfOk result (λ fed. IsPause fed.event ⊎ (1 ≤ fed.used)) }
         ensures not_end { IfOk result (λ fed. fed.event ≢ Event.End) }
-        ensures no_row { IfOk result (λ fed. (r : Row) → fed.event ≢ Event.Row r) }
-        ensures fed { (b : List ℕ) → StandsFor self.old b → ReaderFed self.old.dialect b piece.now result self.new }
+        ensures no_row { row_answered result ≡ [] }
+        ensures fed { (b : List ℕ) → StandsFor self.old b → HeadFed self.old.dialect b piece.now result self.new }
         ensures dialect { self.new.dialect ≡ self.old.dialect }
         ensures refused { IfOk result (λ fed. fed.event ≡ Event.NoMemory → WasRefused SystemRefuses) }
     {

@@ -1,15 +1,14 @@
 //! A unit after its header, or after a version that isn't 5. Section 6.2.4.
 
 ghost use Rattle.std.specs.Prelude.{◌≡◌, ◌≢◌, ◌≤◌, ◌+◌, ◌-◌, ◌^◌, ◌⊎◌, ℕ, List, Ok, Err, Some, length, min, take, IfOk};
-ghost use Rattle.dl_field.specs.Usable.{IsUsable};
 ghost use Rattle.dl_field.specs.HeaderData.{HeaderData};
 ghost use Rattle.dl_head.specs.Header.{unit_len};
 ghost use Rattle.dl_rows.specs.Reading.{IsPause};
 
 use crate::program::{Program, ProgramStep};
 use crate::reader::{Event, Fed, Finish};
-use crate::sink::RowSink;
-use dl_head::{Dialect, Fault, FaultKind, Params};
+use crate::sink::ProgramSink;
+use dl_head::{Dialect, Fault, FaultKind, Header};
 
 /// How many bytes of a unit were taken, and how many are left.
 #[derive(Clone, Copy)]
@@ -107,29 +106,30 @@ impl UnitBytes {
 }
 
 impl UnitBody {
-    ghost use Rattle.dl_rows.specs.declared.row.Row.{Row};
+    ghost use Rattle.dl_rows.specs.Items.{Item};
     ghost use Rattle.dl_rows.specs.UnitBodies.{InProgram, ProgramTells};
 
     /// Takes bytes of the program up to the next event.
-    pub fn feed<S: RowSink>(
+    pub fn feed<S: ProgramSink>(
         &mut self,
         dialect: Dialect,
-        params: &Params,
+        header: &Header,
         piece: &[u8],
         sink: &mut S,
     ) -> Result<Fed, Fault>
-        requires { IsUsable params.now }
         ensures used { IfOk result (λ fed. fed.used ≤ length piece.now) }
         ensures progress { IfOk result (λ fed. IsPause fed.event ⊎ (1 ≤ fed.used)) }
         ensures end { IfOk result (λ fed. fed.event ≡ Event.End → 1 ≤ self.old.bytes.taken + fed.used) }
         ensures no_want { IfOk result (λ fed. fed.event ≢ Event.NoMemory) }
-        ensures fed { (h : HeaderData) (b : List ℕ) (before : List Row) (first : S) → h.params ≡ params.now
-            → InProgram dialect h self.old b
+        ensures fed { (b : List ℕ) (before : List Item) (first : S) → InProgram dialect header.now self.old b
             → (S.story first).hears sink.old before
-            → ProgramTells (S.story first) dialect h b piece.now before result self.new sink.new }
+            → ProgramTells (S.story first) dialect header.now b piece.now before result self.new sink.new }
     {
         let bytes = front(piece, self.bytes.left);
-        match self.program.push(dialect.order, params, bytes, sink) {
+        match self
+            .program
+            .push(dialect.order, header.params(), header, bytes, sink)
+        {
             ProgramStep::Row(row, tail) => {
                 let used = bytes.len() - tail.len();
                 self.bytes.count(used);
@@ -180,32 +180,30 @@ impl UnitBody {
 }
 
 impl BodyState {
-    ghost use Rattle.dl_rows.specs.declared.row.Row.{Row};
+    ghost use Rattle.dl_rows.specs.Items.{Item};
     ghost use Rattle.dl_rows.specs.LineUnit.{ends_open, unit_rows};
     ghost use Rattle.dl_rows.specs.Reading.{FinishIs};
     ghost use Rattle.dl_rows.specs.UnitBodies.{BodyStands, BodyTells, taken_in_body};
 
     /// Takes bytes up to the next event. After a fault it answers the fault again.
-    pub fn feed<S: RowSink>(
+    pub fn feed<S: ProgramSink>(
         &mut self,
         dialect: Dialect,
-        params: &Params,
+        header: &Header,
         piece: &[u8],
         sink: &mut S,
     ) -> Result<Fed, Fault>
-        requires { IsUsable params.now }
         ensures used { IfOk result (λ fed. fed.used ≤ length piece.now) }
         ensures progress { IfOk result (λ fed. IsPause fed.event ⊎ (1 ≤ fed.used)) }
         ensures end { IfOk result (λ fed. fed.event ≡ Event.End → 1 ≤ taken_in_body self.old + fed.used) }
         ensures no_want { IfOk result (λ fed. fed.event ≢ Event.NoMemory) }
-        ensures fed { (h : HeaderData) (b : List ℕ) (before : List Row) (first : S) → h.params ≡ params.now
-            → BodyStands dialect h self.old b
+        ensures fed { (b : List ℕ) (before : List Item) (first : S) → BodyStands dialect header.now self.old b
             → (S.story first).hears sink.old before
-            → BodyTells (S.story first) dialect h b piece.now before result self.new sink.new }
+            → BodyTells (S.story first) dialect header.now b piece.now before result self.new sink.new }
     {
         match self {
             BodyState::InProgram(body) => {
-                let fed = body.feed(dialect, params, piece, sink);
+                let fed = body.feed(dialect, header, piece, sink);
                 if let Err(fault) = fed {
                     let stop = body.stop(fault);
                     self.stop_by(stop);

@@ -95,7 +95,7 @@ module _ {S : Type 0} {story : Story S} {dialect : Dialect} {t : List ℕ} {firs
           }
 
     -- one is
-    pub cuts_off : (damage : Damage) → CutOff (Some damage) → {new : S} → IsTold story old new damage
+    pub cuts_off : (damage : Damage) → CutOff (Some damage) → {new : S} → IsTold story old new a.units.offset damage
         → (damaged : Option DamagedUnits)
         → ((faults : List Damage) → length faults + 1 < 2 ^ 64 → a.damaged ≡ damaged_units faults
         → damaged ≡ damaged_units (faults ++ damage ∷ []))
@@ -114,10 +114,12 @@ module _ {S : Type 0} {story : Story S} {dialect : Dialect} {t : List ℕ} {firs
           let few = few_faults dialect 0 is.blocks is.cut.each in
           let before = visits_around dialect is.blocks (begun b) in
           let s = rw e at is.settled in
-          let told_all : before ++ of_damage damage.offset damage.kind ∷ []
+          let here : a.units.offset ≡ n = (are is b e).offset ∙ ap length (append-nil (bytes_of is.blocks)) in
+          let told_all : before ++ of_damage a.units.offset damage.offset damage.kind ∷ []
           ≡ visits_around dialect is.blocks (cut_off b) =
-          ap (λ (d : Damage). before ++ of_damage d.offset d.kind ∷ []) place
-          ∙ append_assoc (blocks_visits dialect 0 is.blocks) (visits dialect n b) (of_damage (n + length b) Truncated ∷ []) in
+          ap (λ (m : ℕ). before ++ of_damage m damage.offset damage.kind ∷ []) here
+          ∙ ap (λ (d : Damage). before ++ of_damage n d.offset d.kind ∷ []) place
+          ∙ append_assoc (blocks_visits dialect 0 is.blocks) (visits dialect n b) (of_damage n (n + length b) Truncated ∷ []) in
           inl (
             is.blocks,
             cut_off b,

@@ -32,10 +32,10 @@ use Rattle.dl_sections.proofs.TellingLemmas.{front_heard, heard_after-append, un
 module _ (dialect : Dialect) where
   -- a unit that is damaged leaves the units as they were, and no rows
   damage_heard : (heard : Heard) (offset : ℕ) (b : List ℕ) (at : ℕ) (kind : FaultKind)
-      → ((heard_after heard (visits dialect offset b ++ of_damage at kind ∷ [])).units ≡ heard.units)
-      × ((heard_after heard (visits dialect offset b ++ of_damage at kind ∷ [])).rows ≡ [])
+      → ((heard_after heard (visits dialect offset b ++ of_damage offset at kind ∷ [])).units ≡ heard.units)
+      × ((heard_after heard (visits dialect offset b ++ of_damage offset at kind ∷ [])).rows ≡ [])
   damage_heard heard offset b at kind =
-      let is = heard_after-append heard (visits dialect offset b) (of_damage at kind ∷ []) in (
+      let is = heard_after-append heard (visits dialect offset b) (of_damage offset at kind ∷ []) in (
         ap (λ (h : Heard). h.units) is ∙ (front_heard dialect offset heard b).0,
         ap (λ (h : Heard). h.rows) is,
       )
@@ -61,7 +61,7 @@ module _ (dialect : Dialect) where
       )
   blocks_heard heard offset (damaged front back at kind ∷ blocks) none all =
       let n = offset + length (front ++ back) in
-      let own = visits dialect offset front ++ of_damage (offset + at) kind ∷ [] in
+      let own = visits dialect offset front ++ of_damage offset (offset + at) kind ∷ [] in
       let is = heard_after-append heard own (blocks_visits dialect n blocks) in
       let left = damage_heard heard offset front (offset + at) kind in
       let rest = blocks_heard (heard_after heard own) n blocks left.1 all.1 in (
@@ -208,6 +208,7 @@ module _ {U : Type 0} (story : UnitStory U) (dialect : Dialect) (s : List ℕ) (
       stopped fault.Read w = absurd (neither fault.Read (λ e. absurd cc) w)
       stopped fault.SectionTooLong w = absurd (neither fault.SectionTooLong (λ e. absurd cc) w)
       stopped fault.NotFound w = absurd (neither fault.NotFound (λ e. absurd cc) w)
+      stopped fault.TwoSums w = absurd (neither fault.TwoSums (λ e. absurd cc) w)
       stopped (fault.ForeignUnit unit) w = absurd (neither (fault.ForeignUnit unit) (λ e. absurd cc) w)
       stopped (fault.Emit unit f) w = absurd (neither (fault.Emit unit f) (λ e. absurd cc) w)
 

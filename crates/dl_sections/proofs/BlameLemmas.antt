@@ -15,7 +15,8 @@ use Rattle.dl_sections.specs.Blaming.{BlamesWriter, IsBlamed}
 use Rattle.dl_sections.specs.Commands.{Made}
 use Rattle.dl_sections.specs.Copying.{Progress, copy_story, made_by, goes, stopped, stop_in, ended_as, visited, comes_to}
 use Rattle.dl_sections.specs.GoingOn.{AroundFed}
-use Rattle.dl_sections.specs.Section.{Visit, of_header, of_version, of_row, of_open, of_damage, of_end}
+use Rattle.dl_rows.specs.Items.{a_byte, a_row, an_operation}
+use Rattle.dl_sections.specs.Section.{Visit, of_header, of_version, of_item, of_open, of_damage, of_end}
 use Rattle.dl_sections.specs.UnitsRead.{Before, Finishes, Worked}
 use Rattle.dl_sections.specs.Visiting.{Story}
 use Rattle.dl_sections.proofs.AroundPieces.{no_cell_other}
@@ -89,9 +90,11 @@ none_copied made order p none (visit ∷ visits) = none_copied made order (visit
     one (stopped text f) visit none e = none e
     one (goes offset rows text) (of_header n l h) none e = absurd cc
     one (goes offset rows text) (of_version n version) none e = absurd cc
-    one (goes offset rows text) (of_row r) none e = absurd cc
+    one (goes offset rows text) (of_item (a_byte x)) none e = absurd cc
+    one (goes offset rows text) (of_item (an_operation header o)) none e = absurd cc
+    one (goes offset rows text) (of_item (a_row header r)) none e = absurd cc
     one (goes offset rows text) of_open none e = absurd cc
-    one (goes offset rows text) (of_damage n kind) none e = absurd cc
+    one (goes offset rows text) (of_damage unit n kind) none e = absurd cc
     one (goes offset rows text) (of_end None) none e = absurd cc
     one (goes offset rows text) (of_end (Some h)) none e =
         ended (unit_of order (made offset h) rows) text offset (refusal (made offset h) rows) e

@@ -113,7 +113,7 @@ module _ (dialect : Dialect) where
   none_in_block : (n : ℕ) (block : Block) → header_told None (block_visits dialect n block) ≡ None
   none_in_block n (whole u) = none_at_end dialect n u
   none_in_block n (damaged front back at kind) =
-      header_told-append None (visits dialect n front) (of_damage (n + at) kind ∷ [])
+      header_told-append None (visits dialect n front) (of_damage n (n + at) kind ∷ [])
 
   pub none_in_blocks : (n : ℕ) (blocks : List Block) → header_told None (blocks_visits dialect n blocks) ≡ None
   none_in_blocks n [] = refl

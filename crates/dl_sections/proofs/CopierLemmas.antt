@@ -2,11 +2,12 @@
 use Rattle.dl_memory.specs.Refusals.{IsRefused}
 use Rattle.dl_emit.specs.declared.fault.EmitFault.TheVariants.{RowRange}
 use Rattle.dl_emit.specs.declared.program.TheConstants.{ROW}
+use Rattle.dl_rows.specs.Items.{a_row}
 use Rattle.dl_sections.proofs.Names.{◌*◌, ◌≤◌, ◌++◌, ◌+◌, ◌<◌, ◌∙◌, ◌∷◌, ◌≡◌, [], ap, Appends, Appends-nil, arith, bytes_of_rows}
 use Rattle.dl_sections.proofs.Names.{Copier, copy_story, Copying, EmitFault, Err, fold-append, goes, HasOut-pending}
 use Rattle.dl_sections.proofs.Names.{HasPrinted, HasPrinted-flushed, HasPrinted-more, HasPrinted-nothing, header_bytes}
 use Rattle.dl_sections.proofs.Names.{header_told, HeaderData, HeaderLengths, IsGrown, IsGrowth, length, length-append, length-drop, List}
-use Rattle.dl_sections.proofs.Names.{made_by, None, of_end, of_header, of_open, of_row, of_version, Ok, Option, option_map, Order}
+use Rattle.dl_sections.proofs.Names.{made_by, None, of_end, of_header, of_item, of_version, Ok, Option, option_map, Order}
 use Rattle.dl_sections.proofs.Names.{Params, Printed, PrintsPart, program_len, ProgramData, refl, refusal, Result, Row, row_count}
 use Rattle.dl_sections.proofs.Names.{rows_refusal, RunFault, Some, StopsIn, sym, take, TellsOut, TellsOut-front, told_to}
 use Rattle.dl_sections.proofs.Names.{unit_of, Visit, visited, visits, Write, ℕ, ⊤}
@@ -40,20 +41,21 @@ grows_from visits offset l g c order grown h told =
     rw (← same) (own_order c.program order (made_by c.becomes c.unit g).params [] grown)
 
 -- a row was told
-pub grows_by : {M : Type 0} (visits : List Visit) (r : Row) (old new : Copier M) (rows : List Row) → new.becomes ≡ old.becomes
+pub grows_by : {M : Type 0} (visits : List Visit) (header : HeaderData) (r : Row) (old new : Copier M) (rows : List Row) → new.becomes ≡ old.becomes
     → new.unit ≡ old.unit → Grows old visits rows
     → ((h : Params) (rows : List Row) → IsGrown old.program old.program.order h rows
     → IsGrown new.program old.program.order h (rows ++ r ∷ []))
-    → Grows new (visits ++ of_row r ∷ []) (rows ++ r ∷ [])
-grows_by visits r old new rows becomes unit before grows h told =
+    → Grows new (visits ++ of_item (a_row header r) ∷ []) (rows ++ r ∷ [])
+grows_by visits header r old new rows becomes unit before grows h told =
     let params = (made_by old.becomes old.unit h).params in
     rw (becomes, unit) (own_order new.program old.program.order params (rows ++ r ∷ [])
-    (grows params rows (before h (sym (header_told-append None visits (of_row r ∷ [])) ∙ told))))
+    (grows params rows (before h (sym (header_told-append None visits (of_item (a_row header r) ∷ [])) ∙ told))))
 
--- an open sequence was told
-pub grows_past_open : {M : Type 0} (visits : List Visit) (c : Copier M) (rows : List Row) → Grows c visits rows
-    → Grows c (visits ++ of_open ∷ []) rows
-grows_past_open visits c rows before h told = before h (sym (header_told-append None visits (of_open ∷ [])) ∙ told)
+-- a visit was told that is neither a header nor an end
+pub grows_past : {M : Type 0} (visits : List Visit) (v : Visit) (c : Copier M) (rows : List Row)
+    → ((h : Option HeaderData) → header_told h (v ∷ []) ≡ h) → Grows c visits rows → Grows c (visits ++ v ∷ []) rows
+grows_past visits v c rows none before h told =
+    before h (sym (none (header_told None visits)) ∙ sym (header_told-append None visits (v ∷ [])) ∙ told)
 
 -- after an end there is no current unit
 pub grows_no_more : {M : Type 0} (visits : List Visit) (g : Option HeaderData) (c : Copier M) → Grows c (visits ++ of_end g ∷ []) []
@@ -140,9 +142,17 @@ module _ {M : Type 0} {first old : Copier M} {start held : Option (List ℕ)} {v
   few_still now visit same =
       omega (arith, s.few, no_fewer visits visit, ap (λ (p : ProgramData). p.rows) same)
 
-  pub few_and_one : (now : ProgramData) (r : Row) → now.rows ≤ old.program.rows + 1
-      → now.rows ≤ row_count (visits ++ of_row r ∷ [])
-  few_and_one now r more = omega (arith, s.few, row_more visits r, more)
+  -- it was told a visit of which it takes no notice
+  pub copies_past : (visit : Visit) → visited (made_by first.becomes) first.program.order (goes old.unit s.rows s.text) visit
+      ≡ goes old.unit s.rows s.text → ((h : Option HeaderData) → header_told h (visit ∷ []) ≡ h)
+      → Copying first old start held (visits ++ visit ∷ [])
+  copies_past visit same none =
+      copies_on old held visit s.rows s.text refl refl refl same (few_still old.program visit refl)
+      (grows_past visits visit old s.rows none s.grown) s.printed
+
+  pub few_and_one : (now : ProgramData) (header : HeaderData) (r : Row) → now.rows ≤ old.program.rows + 1
+      → now.rows ≤ row_count (visits ++ of_item (a_row header r) ∷ [])
+  few_and_one now header r more = omega (arith, s.few, row_more visits header r, more)
 
   -- it stops at a visit
   pub stops_at_version : (refuses : M → ℕ → Type 0) (offset version : ℕ)

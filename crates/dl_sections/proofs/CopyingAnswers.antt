@@ -13,6 +13,9 @@ use Rattle.dl_sections.proofs.CopierLemmas.{told_more}
 use Rattle.dl_sections.proofs.CopyingSections.{StopIs, Now, Heard, heard_of, WantsBy}
 use Rattle.dl_sections.proofs.Fronts.{none_is_some, value_same}
 use Rattle.dl_sections.proofs.RangeLemmas.{KeepsRanges, too_long}
+use Rattle.dl_rows.specs.Items.{a_byte, a_row, an_operation}
+use Rattle.dl_sections.specs.Section.{NoneBefore, of_item}
+use Rattle.dl_sections.proofs.FeedLemmas.{foreign_before, sound_before}
 use Rattle.dl_sections.proofs.RowCounts.{few_rows_before, growth_more}
 use Rattle.dl_sections.proofs.SectionLemmas.{has_front}
 
@@ -26,6 +29,9 @@ stop_adds made order offset rows text own (of_end (Some h)) f e =
       by : (unit : List ℕ) (o : Option EmitFault) → ended_as unit text offset o ≡ stopped own f → own ≡ text
       by unit None e = cc
       by unit (Some g) e = cc
+stop_adds made order offset rows text own (of_item (a_byte x)) f e = cc
+stop_adds made order offset rows text own (of_item (an_operation header o)) f e = cc
+stop_adds made order offset rows text own (of_item (a_row header r)) f e = cc
 stop_adds made order offset rows text own visit f e = cc
 
 module _ {M : Type 0} (refuses : M → ℕ → Type 0) (dialect : Dialect) (limit : ℕ) (bytes : List ℕ) (left : Option (List ℕ))
@@ -98,11 +104,11 @@ module _ {M : Type 0} (refuses : M → ℕ → Type 0) (dialect : Dialect) (limi
 
     -- bytes after units, of which the first are c
     after_units : (done after : List (List ℕ)) (c tail : List ℕ) → units ≡ done ++ after → concat after ++ b ≡ c ++ tail
-        → WithinUnit dialect c → HasBegun dialect s done c (tail ++ back)
-    after_units done after c tail all whole within =
+        → WithinUnit dialect c → NoneBefore dialect c → HasBegun dialect s done c (tail ++ back)
+    after_units done after c tail all whole within none =
         let rest : concat after ++ (b ++ back) ≡ c ++ (tail ++ back) =
         cc (append_assoc (concat after) b back, append_assoc c tail back) in
-        record { has = rw rest at (has_front dialect s units done after (b ++ back) all has); in_unit = within }
+        record { has = rw rest at (has_front dialect s units done after (b ++ back) all has); in_unit = within; none_before = none }
 
     no_memory : Sound dialect b → StopsAt refuses first (stops.before ++ stops.visit ∷ []) fault.NoMemory
         → Copied (Err fault.NoMemory)
@@ -123,7 +129,7 @@ module _ {M : Type 0} (refuses : M → ℕ → Type 0) (dialect : Dialect) (limi
           h.done,
           a.c,
           a.tail ++ back,
-          after_units h.done h.after a.c a.tail h.whole a.whole a.within,
+          after_units h.done h.after a.c a.tail h.whole a.whole a.within (sound_before dialect a.c a.sound),
           a.sound,
           a.not_foreign,
           inr (rw (h.at ∙ zero-add (length (concat h.done))) at a.wants),
@@ -142,7 +148,7 @@ module _ {M : Type 0} (refuses : M → ℕ → Type 0) (dialect : Dialect) (limi
       c,
       more ++ back,
       version,
-      after_units told.done told.after c more told.whole whole within,
+      after_units told.done told.after c more told.whole whole within (foreign_before dialect c version foreign within),
       at ∙ told.at ∙ zero-add (length (concat told.done)),
       foreign,
       out,
@@ -186,6 +192,7 @@ module _ {M : Type 0} (refuses : M → ℕ → Type 0) (dialect : Dialect) (limi
   settled units b back (fault.Emit offset f) ends s = absurd ends
   settled units b back (fault.Write out) ends s = absurd ends
   settled units b back fault.NotFound ends s = absurd ends
+  settled units b back fault.TwoSums ends s = absurd ends
   settled units b back f ends s =
       let (no_version, all) = all_copied units b ends.0.each s in (units, b, back, ends, no_version, all)
 

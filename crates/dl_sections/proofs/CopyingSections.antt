@@ -2,12 +2,14 @@
 use Rattle.dl_sections.proofs.Names.{◌++◌, ◌+◌, ◌∙◌, ◌∷◌, ◌≡◌, ◌≢◌, ◌⊎◌, [], AllByRecursion, ap, append-nil, append_assoc}
 use Rattle.dl_sections.proofs.Names.{AreMade, arith, Bool, comes_to, concat, Dialect, EmitFault, ended_as, ends_open}
 use Rattle.dl_sections.proofs.Names.{false, fold-append, foreign_in, foreign_of, goes, header_in, header_is_found}
-use Rattle.dl_sections.proofs.Names.{Becomes, header_of, HeaderData, inl, inr, IsGrowth, IsMade, IsUnit, length, length-append, map, of_row, RenewsTables, true}
+use Rattle.dl_sections.proofs.Names.{Becomes, header_of, HeaderData, inl, inr, IsGrowth, IsMade, IsUnit, length, length-append, map, of_item, RenewsTables, true}
 use Rattle.dl_sections.proofs.Names.{length_of_unit, lengths_in, List, Made, None, of_end, of_header, of_version, open_visit, Option}
 use Rattle.dl_sections.proofs.Names.{Progress, refl, refusal, Row, RunFault, Some, some_same, Sound, stopped, sym, unit_as}
 use Rattle.dl_sections.proofs.Names.{unit_is_not_refused, unit_of, unit_rows, units_as, units_visits, Visit, visited}
 use Rattle.dl_sections.proofs.Names.{visits, WithinUnit, ℕ}
 use Rattle.dl_sections.proofs.Names.fault
+use Rattle.dl_rows.proofs.ItemLemmas.{rows_of_unit}
+use Rattle.dl_rows.specs.Items.{Item, a_byte, a_row, an_operation, rows_of_items, unit_items}
 use Rattle.dl_sections.proofs.CopyingVisits.{stays_stopped, Foreign, Own, Neither, one_of}
 use Rattle.dl_sections.proofs.CopyingVisits.{foreign_visits, own_visits, no_visits, Front, at_version, before_version}
 use Rattle.dl_sections.proofs.CopyingVisits.{goes_on, front_of, header_is, own_front, foreign_front}
@@ -81,16 +83,16 @@ open_ends_none : (is_open : Bool) → EndNone (open_visit is_open)
 open_ends_none true = (refl, tt)
 open_ends_none false = tt
 
-rows_end_none : (rows : List Row) (is_open : Bool) → EndNone (map of_row rows ++ open_visit is_open)
-rows_end_none [] is_open = open_ends_none is_open
-rows_end_none (r ∷ rows) is_open = (refl, rows_end_none rows is_open)
+items_end_none : (items : List Item) (is_open : Bool) → EndNone (map of_item items ++ open_visit is_open)
+items_end_none [] is_open = open_ends_none is_open
+items_end_none (item ∷ items) is_open = (refl, items_end_none items is_open)
 
 visits_end_none : (dialect : Dialect) (n : ℕ) (c : List ℕ) (is_open : Bool)
     → EndNone (visits dialect n c ++ open_visit is_open)
 visits_end_none dialect n c is_open = by (one_of dialect n c) where
   by : Foreign dialect n c ⊎ (Own dialect n c ⊎ Neither dialect n c) → EndNone (visits dialect n c ++ open_visit is_open)
   by (inl v) = rw (foreign_visits dialect n c v) (refl, open_ends_none is_open)
-  by (inr (inl own)) = rw (own_visits dialect n c own) (refl, rows_end_none (unit_rows dialect c) is_open)
+  by (inr (inl own)) = rw (own_visits dialect n c own) (refl, items_end_none (unit_items dialect c) is_open)
   by (inr (inr none)) = rw (no_visits dialect n c none) (open_ends_none is_open)
 
 module _ (Refused : Type 0) (refuses : ℕ → Type 0) (becomes : Becomes) (dialect : Dialect) (n offset : ℕ) (c : List ℕ) where
@@ -102,16 +104,33 @@ module _ (Refused : Type 0) (refuses : ℕ → Type 0) (becomes : Becomes) (dial
     alone w [] e = let same : visit ≡ w = cc in rw same at growth
     alone w (x ∷ heard) e = absurd (omega (arith, ap length e, length-append heard (visit ∷ others)))
 
+    -- no item is one at which memory grows, where none is a row
+    quiet : (items : List Item) (heard : List Visit) → rows_of_items items ≡ []
+        → map of_item items ≡ heard ++ visit ∷ others → ⊥
+    quiet [] heard rows e = omega (arith, ap length e, length-append heard (visit ∷ others))
+    quiet (a_row header r ∷ items) heard rows e = absurd cc
+    quiet (a_byte x ∷ items) [] rows e = (let same : visit ≡ of_item (a_byte x) = cc in rw same at growth)
+    quiet (an_operation header o ∷ items) [] rows e = (let same : visit ≡ of_item (an_operation header o) = cc in rw same at growth)
+    quiet (a_byte x ∷ items) (w ∷ heard) rows e = quiet items heard rows cc
+    quiet (an_operation header o ∷ items) (w ∷ heard) rows e = quiet items heard rows cc
+
+    in_program : (w : Visit) → (IsGrowth Refused refuses becomes offset w → ⊥) → (heard : List Visit) (items : List Item)
+        → rows_of_items items ≡ [] → w ∷ map of_item items ≡ heard ++ visit ∷ others → ⊥
+    in_program w never [] items rows e = (let same : visit ≡ w = cc in never (rw same at growth))
+    in_program w never (v ∷ heard) items rows e = quiet items heard rows cc
+
     by : Foreign dialect n c ⊎ (Own dialect n c ⊎ Neither dialect n c) → ⊥
     by (inl v) = alone (of_version n v.0) heard (sym (foreign_visits dialect n c v) ∙ at)
-    by (inr (inl own)) = alone (of_header n (lengths_in dialect c own.0) own.0) heard (rw none at (sym (own_visits dialect n c own) ∙ at))
+    by (inr (inl own)) =
+        in_program (of_header n (lengths_in dialect c own.0) own.0) (λ k. k) heard (unit_items dialect c)
+        (rows_of_unit dialect c ∙ none) (sym (own_visits dialect n c own) ∙ at)
     by (inr (inr neither)) =
         let e = sym (no_visits dialect n c neither) ∙ at in
         omega (arith, ap length e, length-append heard (visit ∷ others))
 
   -- what grows without an end is a row, for which memory was refused
   growth_refused : (visit : Visit) → is_end visit ≡ false → IsGrowth Refused refuses becomes offset visit → Refused
-  growth_refused (of_row r) no_end growth = growth
+  growth_refused (of_item (a_row header r)) no_end growth = growth
   growth_refused (of_end h) no_end growth = absurd cc
   growth_refused visit no_end growth = absurd growth
 

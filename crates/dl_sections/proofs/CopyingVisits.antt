@@ -1,10 +1,13 @@
 -- What is copied of visits one after the other, and of those of a unit.
 use Rattle.dl_sections.proofs.Names.{◌++◌, ◌∙◌, ◌∷◌, ◌≡◌, ◌⊎◌, [], ap, append-nil, append_assoc, Bool, comes_to, Dialect}
-use Rattle.dl_sections.proofs.Names.{false, fold_stays, foreign_in, foreign_no_header, goes, header_in, header_of, header_read}
-use Rattle.dl_sections.proofs.Names.{HeaderData, inl, inr, lengths_in, List, Made, map, None, of_header, of_open, of_row, of_version}
+use Rattle.dl_sections.proofs.Names.{false, fold_stays, foreign_in, foreign_no_header, goes, header_in, header_of}
+use Rattle.dl_sections.proofs.Names.{HeaderData, inl, inr, lengths_in, List, Made, map, None, of_header, of_item, of_open, of_version}
 use Rattle.dl_sections.proofs.Names.{open_visit, Option, Order, parts, refl, Row, rows_in, RunFault, Some, stopped, sym}
 use Rattle.dl_sections.proofs.Names.{true, unit_rows, Visit, visited, visits, ℕ}
 use Rattle.dl_sections.proofs.Names.fault
+use Rattle.dl_sections.proofs.Names.{subst}
+use Rattle.dl_rows.proofs.ItemLemmas.{rows_of_unit}
+use Rattle.dl_rows.specs.Items.{Item, a_byte, a_row, an_operation, items_in, rows_of_items, unit_items}
 use Rattle.dl_sections.proofs.EventLemmas.{rows_visited}
 use Rattle.dl_sections.proofs.Fronts.{empty_both, none_is_some}
 
@@ -15,32 +18,48 @@ module _ (made : Made) (order : Order) where
       → comes_to made order (stopped text f) visits ≡ stopped text f
   stays_stopped text f visits = fold_stays (visited made order) (stopped text f) (λ v. refl) visits
 
-  -- rows, and that the last isn't an end row
-  pub after_rows : (offset : ℕ) (before : List Row) (text : List ℕ) (rows : List Row) (is_open : Bool)
-      → comes_to made order (goes offset before text) (map of_row rows ++ open_visit is_open)
-      ≡ goes offset (before ++ rows) text
-  after_rows offset before text [] true = rw append-nil refl
-  after_rows offset before text [] false = rw append-nil refl
-  after_rows offset before text (r ∷ rows) is_open =
-      rw (append_assoc before (r ∷ []) rows) at (after_rows offset (before ++ r ∷ []) text rows is_open)
+  -- a program, and that its last row isn't an end row
+  pub after_items : (offset : ℕ) (before : List Row) (text : List ℕ) (items : List Item) (is_open : Bool)
+      → comes_to made order (goes offset before text) (map of_item items ++ open_visit is_open)
+      ≡ goes offset (before ++ rows_of_items items) text
+  after_items offset before text [] true = rw append-nil refl
+  after_items offset before text [] false = rw append-nil refl
+  after_items offset before text (a_byte x ∷ items) is_open = after_items offset before text items is_open
+  after_items offset before text (an_operation header o ∷ items) is_open = after_items offset before text items is_open
+  after_items offset before text (a_row header r ∷ items) is_open =
+      rw (append_assoc before (r ∷ []) (rows_of_items items)) at
+      (after_items offset (before ++ r ∷ []) text items is_open)
+
+  -- visits that begin with this one
+  begun_with : (offset : ℕ) (before now : List Row) (text : List ℕ) (w v : Visit) (heard : List Visit) → w ≡ v
+      → comes_to made order (goes offset before text) (v ∷ heard) ≡ goes offset now text
+      → comes_to made order (goes offset before text) (w ∷ heard) ≡ goes offset now text
+  begun_with offset before now text w v heard same come =
+      subst (λ (z : Visit). comes_to made order (goes offset before text) (z ∷ heard) ≡ goes offset now text) (sym same)
+      come
 
   -- the first of these
-  pub after_some : (offset : ℕ) (before : List Row) (text : List ℕ) (rows : List Row) (is_open : Bool)
-      (heard x : List Visit) → map of_row rows ++ open_visit is_open ≡ heard ++ x
+  pub after_some : (offset : ℕ) (before : List Row) (text : List ℕ) (items : List Item) (is_open : Bool)
+      (heard x : List Visit) → map of_item items ++ open_visit is_open ≡ heard ++ x
       → (now : List Row) × (comes_to made order (goes offset before text) heard ≡ goes offset now text)
-  after_some offset before text rows is_open [] x e = (before, refl)
+  after_some offset before text items is_open [] x e = (before, refl)
   after_some offset before text [] false (w ∷ heard) x e = absurd cc
   after_some offset before text [] true (w ∷ heard) x e =
       let first : w ≡ of_open = cc in
       let nothing : heard ≡ [] = (empty_both heard x (let none : heard ++ x ≡ [] = cc in none)).0 in
       (before, rw (first, nothing) refl)
-  after_some offset before text (r ∷ rows) is_open (w ∷ heard) x e =
-      from_row w (cc) (after_some offset (before ++ r ∷ []) text rows is_open heard x (cc)) where
-        from_row : (w : Visit) → w ≡ of_row r
-            → (now : List Row)
-            × (comes_to made order (goes offset (before ++ r ∷ []) text) heard ≡ goes offset now text)
-            → (now : List Row) × (comes_to made order (goes offset before text) (w ∷ heard) ≡ goes offset now text)
-        from_row w first later = (later.0, rw first later.1)
+  after_some offset before text (a_row header r ∷ items) is_open (w ∷ heard) x e =
+      let first : w ≡ of_item (a_row header r) = cc in
+      let later = after_some offset (before ++ r ∷ []) text items is_open heard x cc in
+      (later.0, begun_with offset before later.0 text w (of_item (a_row header r)) heard first later.1)
+  after_some offset before text (a_byte n ∷ items) is_open (w ∷ heard) x e =
+      let first : w ≡ of_item (a_byte n) = cc in
+      let later = after_some offset before text items is_open heard x cc in
+      (later.0, begun_with offset before later.0 text w (of_item (a_byte n)) heard first later.1)
+  after_some offset before text (an_operation header o ∷ items) is_open (w ∷ heard) x e =
+      let first : w ≡ of_item (an_operation header o) = cc in
+      let later = after_some offset before text items is_open heard x cc in
+      (later.0, begun_with offset before later.0 text w (of_item (an_operation header o)) heard first later.1)
 
 -- ---- the visits of a unit, or of the front of one
 
@@ -75,12 +94,15 @@ module _ (dialect : Dialect) (n : ℕ) (c : List ℕ) where
 
   -- its visits, by its case
   pub foreign_visits : (f : Foreign) → visits dialect n c ≡ of_version n f.0 ∷ []
-  foreign_visits f = rw f.1 refl
+  foreign_visits f = rw (f.1, foreign_no_header dialect c f.0 f.1) refl
 
-  pub own_visits : (own : Own) → visits dialect n c ≡ of_header n (lengths_in dialect c own.0) own.0 ∷ map of_row (unit_rows dialect c)
+  pub own_visits : (own : Own)
+      → visits dialect n c ≡ of_header n (lengths_in dialect c own.0) own.0 ∷ map of_item (unit_items dialect c)
   own_visits own =
-      rw (not_foreign own, own.2) (ap (λ (l : List Visit). of_header n (lengths_in dialect c own.0) own.0 ∷ l)
-      (rows_visited n (Some (record { lengths = lengths_in dialect c own.0; header = own.0 })) (rows_in dialect.order own.0.params own.1)))
+      let read = Some (record { lengths = lengths_in dialect c own.0; header = own.0 }) in
+      rw (not_foreign own, own.2) (ap (λ (l : List Visit). of_header n (lengths_in dialect c own.0) own.0
+      ∷ (l ++ map of_item (items_in dialect.order own.0 own.1)))
+      (rows_visited n read (rows_in dialect.order own.0.params own.1)))
 
   pub no_visits : Neither → visits dialect n c ≡ []
   no_visits none = rw (none.0, none.1) refl
@@ -120,7 +142,7 @@ module _ (made : Made) (dialect : Dialect) (n : ℕ) (c : List ℕ) (is_open : B
     by (inr (inl own)) [] e = goes_on m [] refl (not_foreign dialect n c own)
     by (inr (inl own)) (w ∷ heard) e =
         let all = rw (own_visits dialect n c own) at e in
-        from_header own w heard (cc) (after_some made dialect.order n [] text (unit_rows dialect c) is_open heard x cc)
+        from_header own w heard (cc) (after_some made dialect.order n [] text (unit_items dialect c) is_open heard x cc)
     by (inr (inr none)) heard e =
         let all = rw (no_visits dialect n c none) at e in
         let later = after_some made dialect.order m [] text [] is_open heard x all in
@@ -131,7 +153,8 @@ module _ (made : Made) (dialect : Dialect) (n : ℕ) (c : List ℕ) (is_open : B
       → comes_to made dialect.order (goes m [] text) (visits dialect n c ++ open_visit is_open)
       ≡ goes n (unit_rows dialect c) text
   own_front own =
-      rw (own_visits dialect n c own) (after_rows made dialect.order n [] text (unit_rows dialect c) is_open)
+      rw (own_visits dialect n c own, ← rows_of_unit dialect c)
+      (after_items made dialect.order n [] text (unit_items dialect c) is_open)
 
   pub foreign_front : Foreign dialect n c → (more : List Visit)
       → comes_to made dialect.order (goes m [] text) ((visits dialect n c ++ open_visit is_open) ++ more)

@@ -84,9 +84,9 @@ pub record Hit {S : Type 0} {dialect : Dialect} (story : Story S) (past : Before
   pub settled : Settled story first start now (visits_since past units c) (story.tells first mid start now)
 
 hit_of : {S : Type 0} {dialect : Dialect} {story : Story S} {past : Before dialect} {s : List ℕ} {first mid new : S}
-    {start now : Option (List ℕ)} {u : SectionUnits} (damage : Damage)
+    {start now : Option (List ℕ)} {u : SectionUnits} {unit : ℕ} (damage : Damage)
     → Worked story past s first mid start now u (Err (fault.Damage damage.offset damage.kind))
-    → IsTold story mid new damage → Hit story past s first mid start now u damage
+    → IsTold story mid new unit damage → Hit story past s first mid start now u damage
 hit_of damage (units, c, back, has, inl (stops, settled)) told = record {
   units = units;
   c = c;
@@ -102,9 +102,9 @@ hit_of damage (units, c, back, has, inr (sound, v)) told =
     absurd (told.reasons _ (v.before ++ v.visit ∷ []) damage.offset damage.kind v.reason)
 
 pub hit : {S : Type 0} {dialect : Dialect} {story : Story S} {past : Before dialect} {s : List ℕ} {first mid new : S}
-    {start now : Option (List ℕ)} {u : SectionUnits} (damage : Damage) (f : RunFault)
+    {start now : Option (List ℕ)} {u : SectionUnits} {unit : ℕ} (damage : Damage) (f : RunFault)
     → Worked story past s first mid start now u (Err f) → damage_in f ≡ Some damage
-    → IsTold story mid new damage → Hit story past s first mid start now u damage
+    → IsTold story mid new unit damage → Hit story past s first mid start now u damage
 hit damage (fault.Damage offset kind) worked is told =
     let same : record { offset = offset; kind = kind } ≡ damage = cc in
     hit_of damage (rw (ap (λ (d : Damage). d.offset) same, ap (λ (d : Damage). d.kind) same) at worked) told
@@ -117,7 +117,7 @@ module _ {S : Type 0} {story : Story S} {dialect : Dialect} {read : List ℕ} {f
     {a : UnitsAround} (is : AroundIs story dialect read first old start before a) (b : List ℕ) (e : is.rest ≡ begun b)
     (rest : List ℕ) (short : length read + length rest ≤ 2 ^ 63) {u : SectionUnits} {mid new : S}
     {now : Option (List ℕ)} {damage : Damage}
-    (h : Hit story (past is b e) (b ++ rest) first mid start now u damage) (told : IsTold story mid new damage) where
+    (h : Hit story (past is b e) (b ++ rest) first mid start now u damage) (told : IsTold story mid new u.offset damage) where
   abbrev all : List Block
   all = blocks is b e rest h.units
 
@@ -142,11 +142,12 @@ module _ {S : Type 0} {story : Story S} {dialect : Dialect} {read : List ℕ} {f
       (story.tells first new start now)
   heard back =
       let before = visits_since (past is b e) h.units h.c in
-      let same : before ++ of_damage damage.offset damage.kind ∷ []
+      let same : before ++ of_damage u.offset damage.offset damage.kind ∷ []
       ≡ visits_around dialect all (broken h.c back h.at damage.kind) =
-      ap (λ (n : ℕ). before ++ of_damage n damage.kind ∷ []) place
-      ∙ ap (λ (l : List Visit). l ++ of_damage (m + h.at) damage.kind ∷ []) (told_is is b e rest h.units h.c)
-      ∙ append_assoc (blocks_visits dialect 0 all) (visits dialect m h.c) (of_damage (m + h.at) damage.kind ∷ []) in
+      ap (λ (n : ℕ). before ++ of_damage n damage.offset damage.kind ∷ []) (h.stops.offset ∙ m_is)
+      ∙ ap (λ (n : ℕ). before ++ of_damage m n damage.kind ∷ []) place
+      ∙ ap (λ (l : List Visit). l ++ of_damage m (m + h.at) damage.kind ∷ []) (told_is is b e rest h.units h.c)
+      ∙ append_assoc (blocks_visits dialect 0 all) (visits dialect m h.c) (of_damage m (m + h.at) damage.kind ∷ []) in
       rw (← same) (record {
         tells = told.tells first start now before h.settled.tells;
         out = rw (told.quiet first before) h.settled.out;

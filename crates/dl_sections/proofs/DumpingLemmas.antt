@@ -42,6 +42,17 @@ module _ {D : Type 0} {hears : D → D → List Damage → Type 0} {first old : 
     rw text_more (rw dumped.style at (loses start (visits_text (style_of first) visits) dumped.printed)),
   )
 
+-- a visit without text
+pub prints_nothing : {D : Type 0} {hears : D → D → List Damage → Type 0} {first old : Dumper D} {start held : Option (List ℕ)}
+    {visits : List Visit} → HasDumped hears first old start held visits → (v : Visit) → visit_text (style_of first) v ≡ []
+    → damage_of_visit v ≡ [] → HasDumped hears first old start held (visits ++ v ∷ [])
+prints_nothing {first = first} {visits = visits} dumped v none quiet = record {
+  style = dumped.style;
+  damages = dumped.damages;
+  heard = rw (flat_map-append damage_of_visit visits (v ∷ []), quiet, append-nil) dumped.heard;
+  printed = rw (flat_map-append (visit_text (style_of first)) visits (v ∷ []), none, append-nil) dumped.printed;
+}
+
 module _ {D : Type 0} (hears : D → D → List Damage → Type 0) (dialect : Dialect) (limit : ℕ) (bytes : List ℕ)
     (left : Option (List ℕ)) (first new : Dumper D) (start now : Option (List ℕ)) where
   -- what is out of the text of some visits is out of that of all

@@ -1,11 +1,12 @@
 -- Events of a unit, and the visits, rows and versions that they tell.
-use Rattle.dl_sections.proofs.Names.{◌++◌, ◌∙◌, ◌∷◌, ◌≡◌, [], ap, append_assoc, Dialect, Event, event_visits, events, events_of}
+use Rattle.dl_sections.proofs.Names.{◌++◌, ◌∙◌, ◌∷◌, ◌≡◌, ◌⊎◌, [], ap, append-nil, append_assoc, inl, inr, map-append, of_item, Dialect, Event, event_visits, events, events_of}
 use Rattle.dl_sections.proofs.Names.{false, flat_map, flat_map-append, foreign_in, foreign_no_header, found_is_header, header_in, header_of, header_read}
-use Rattle.dl_sections.proofs.Names.{header_on, HeaderData, HeaderRead, is_foreign, is_some, lengths_in, lengths_stay, List, map, no_rows, None, of_row, Option}
+use Rattle.dl_sections.proofs.Names.{header_on, HeaderData, HeaderRead, is_foreign, is_some, lengths_in, lengths_stay, List, map, no_rows, None, Option}
 use Rattle.dl_sections.proofs.Names.{option_map, Order, own_events, refl, Row, row_told, rows_in, rows_later, rows_told}
 use Rattle.dl_sections.proofs.Names.{Some, sym, told, unit_rows, Visit, visits, ℕ}
 use Rattle.dl_sections.proofs.Names.event
-use Rattle.dl_sections.proofs.Fronts.{none_is_some, value_same}
+use Rattle.dl_rows.specs.Items.{Item, unit_items}
+use Rattle.dl_sections.proofs.Fronts.{empty_both, none_is_some, value_same}
 
 -- ---- rows
 
@@ -37,11 +38,11 @@ pub none_told : (e : Event) → row_told e ≡ [] → rows_told (told e) ≡ []
 none_told (event.Row r) none = none
 none_told e none = refl
 
--- rows are visits of their own, whatever the header
+-- rows are among the items of a program, and no visits of their own
 pub rows_visited : (offset : ℕ) (h : Option HeaderRead) (rows : List Row)
-    → flat_map (event_visits offset h) (map event.Row rows) ≡ map of_row rows
+    → flat_map (event_visits offset h) (map event.Row rows) ≡ []
 rows_visited offset h [] = refl
-rows_visited offset h (r ∷ rows) = ap (λ (l : List Visit). of_row r ∷ l) (rows_visited offset h rows)
+rows_visited offset h (r ∷ rows) = rows_visited offset h rows
 
 -- ---- versions
 
@@ -72,7 +73,7 @@ headerless offset h order None = refl
 headerless offset h order (Some v) = refl
 
 -- more bytes don't change how long a unit and its header are
-lengths_on : (dialect : Dialect) (b x : List ℕ) (h : HeaderData) (program : List ℕ)
+pub lengths_on : (dialect : Dialect) (b x : List ℕ) (h : HeaderData) (program : List ℕ)
     → header_in dialect b ≡ Some (h, program) → lengths_in dialect (b ++ x) h ≡ lengths_in dialect b h
 lengths_on dialect b x h program is =
     let f = found_is_header dialect h b program is in
@@ -80,25 +81,40 @@ lengths_on dialect b x h program is =
     ∙ lengths_stay dialect h h f.0 (program ++ x) f.2
     ∙ sym (ap (λ (w : List ℕ). lengths_in dialect w h) f.1 ∙ lengths_stay dialect h h f.0 program f.2)
 
-same_visits : (dialect : Dialect) (offset : ℕ) (b x : List ℕ) (parts : Option (HeaderData × List ℕ))
+-- the visits that events are
+abbrev opened : (dialect : Dialect) (offset : ℕ) (b x : List ℕ) → List Event → List Visit
+opened dialect offset b x es = flat_map (event_visits offset (header_read dialect (b ++ x))) es
+
+same_opened : (dialect : Dialect) (offset : ℕ) (b x : List ℕ) (parts : Option (HeaderData × List ℕ))
     → header_in dialect b ≡ parts
-    → flat_map (event_visits offset (header_read dialect (b ++ x))) (events dialect b) ≡ visits dialect offset b
-same_visits dialect offset b x None is =
+    → opened dialect offset b x (events dialect b) ≡ flat_map (event_visits offset (header_read dialect b)) (events dialect b)
+same_opened dialect offset b x None is =
     rw is (headerless offset (header_read dialect (b ++ x)) dialect.order (foreign_in dialect b))
-same_visits dialect offset b x (Some (h, program)) is =
+same_opened dialect offset b x (Some (h, program)) is =
     rw (header_on dialect b x h program is, is, lengths_on dialect b x h program is) refl
 
--- where the events grow, so do the visits
-pub visits_grow : (dialect : Dialect) (offset : ℕ) (b x : List ℕ) (told : List Event)
+-- where the events and the items grow, so do the visits; what comes before a program comes before all items
+pub visits_grow : (dialect : Dialect) (offset : ℕ) (b x : List ℕ) (told : List Event) (items : List Item)
     → events dialect (b ++ x) ≡ events dialect b ++ told
-    → visits dialect offset (b ++ x) ≡ visits dialect offset b
-    ++ flat_map (event_visits offset (header_read dialect (b ++ x))) told
-visits_grow dialect offset b x told grows =
-    rw (
-      grows,
-      flat_map-append (event_visits offset (header_read dialect (b ++ x))) (events dialect b) told,
-      same_visits dialect offset b x (header_in dialect b) refl,
-    ) refl
+    → unit_items dialect (b ++ x) ≡ unit_items dialect b ++ items
+    → (opened dialect offset b x told ≡ []) ⊎ (unit_items dialect (b ++ x) ≡ [])
+    → visits dialect offset (b ++ x) ≡ (visits dialect offset b ++ map of_item items) ++ opened dialect offset b x told
+visits_grow dialect offset b x told items grows grown when =
+    let before = flat_map (event_visits offset (header_read dialect b)) (events dialect b) in
+    let both : opened dialect offset b x (events dialect (b ++ x)) ≡ before ++ opened dialect offset b x told =
+    rw grows (flat_map-append (event_visits offset (header_read dialect (b ++ x))) (events dialect b) told
+    ∙ rw (same_opened dialect offset b x (header_in dialect b) refl) refl) in
+    by both when
+  where
+    by : opened dialect offset b x (events dialect (b ++ x))
+        ≡ flat_map (event_visits offset (header_read dialect b)) (events dialect b) ++ opened dialect offset b x told
+        → (opened dialect offset b x told ≡ []) ⊎ (unit_items dialect (b ++ x) ≡ [])
+        → visits dialect offset (b ++ x) ≡ (visits dialect offset b ++ map of_item items) ++ opened dialect offset b x told
+    by both (inl none) =
+        rw (both, none, grown) (simp (append-nil, map-append, append_assoc))
+    by both (inr nothing) =
+        let parts = empty_both (unit_items dialect b) items (sym grown ∙ nothing) in
+        rw (both, nothing, parts.0, parts.1) (simp (append-nil, append_assoc))
 
 -- ---- headers
 

@@ -2,10 +2,13 @@
 use Rattle.dl_sections.proofs.Names.{◌++◌, ◌+◌, ◌∙◌, ◌∷◌, ◌≡◌, ◌⊎◌, [], answer, answer_under, ap, append-nil, append_assoc}
 use Rattle.dl_sections.proofs.Names.{arith, Bool, concat, Dialect, ends_open, false, finds, fold, fold-append, fold_stays}
 use Rattle.dl_sections.proofs.Names.{foreign_no_header, HasUnits, header_in, header_of, HeaderData, inl, inr, IsFound}
-use Rattle.dl_sections.proofs.Names.{length, length-append, List, map, no_rows, None, NoneAnswers, of_end, of_row}
+use Rattle.dl_sections.proofs.Names.{length, length-append, List, map, no_rows, None, NoneAnswers, of_end, of_item}
 use Rattle.dl_sections.proofs.Names.{open_visit, Option, Place, refl, Row, same_from_push, Search, search_of}
 use Rattle.dl_sections.proofs.Names.{section_visits, seeks, seen, Some, sym, told, true, unit_rows, units_visits, Visit}
 use Rattle.dl_sections.proofs.Names.{visits, ℕ}
+use Rattle.dl_rows.proofs.ItemLemmas.{rows_of_unit}
+use Rattle.dl_rows.specs.Items.{Item, a_byte, a_row, an_operation, rows_of_items, unit_items}
+use Rattle.dl_sections.proofs.Names.{end_visits, unit_visits}
 use Rattle.dl_sections.proofs.CopyingVisits.{Foreign, Own, Neither, one_of, foreign_visits, own_visits, no_visits}
 use Rattle.dl_sections.proofs.SectionLemmas.{has_front, section_visits-push}
 
@@ -35,11 +38,14 @@ last_of (x ∷ xs) = elim (last_of xs) [
 module _ (dialect : Dialect) (x : Place) where
   -- ---- visits
 
-  after_rows : (before rows : List Row) (more : List Visit)
-      → fold (seen x) (seeks before) (map of_row rows ++ more) ≡ fold (seen x) (seeks (before ++ rows)) more
-  after_rows before [] more = rw append-nil refl
-  after_rows before (r ∷ rows) more =
-      rw (append_assoc before (r ∷ []) rows) at (after_rows (before ++ r ∷ []) rows more)
+  after_items : (before : List Row) (items : List Item) (more : List Visit)
+      → fold (seen x) (seeks before) (map of_item items ++ more)
+      ≡ fold (seen x) (seeks (before ++ rows_of_items items)) more
+  after_items before [] more = rw append-nil refl
+  after_items before (a_byte n ∷ items) more = after_items before items more
+  after_items before (an_operation header o ∷ items) more = after_items before items more
+  after_items before (a_row header r ∷ items) more =
+      rw (append_assoc before (r ∷ []) (rows_of_items items)) at (after_items (before ++ r ∷ []) items more)
 
   after_visits : (n : ℕ) (c : List ℕ) (more : List Visit)
       → fold (seen x) (seeks []) (visits dialect n c ++ more) ≡ fold (seen x) (seeks (unit_rows dialect c)) more
@@ -48,7 +54,7 @@ module _ (dialect : Dialect) (x : Place) where
         → fold (seen x) (seeks []) (visits dialect n c ++ more) ≡ fold (seen x) (seeks (unit_rows dialect c)) more
     by (inl v) =
         rw (foreign_visits dialect n c v, no_rows dialect c (foreign_no_header dialect c v.0 v.1)) refl
-    by (inr (inl own)) = rw (own_visits dialect n c own) (after_rows [] (unit_rows dialect c) more)
+    by (inr (inl own)) = rw (own_visits dialect n c own, ← rows_of_unit dialect c) (after_items [] (unit_items dialect c) more)
     by (inr (inr neither)) = rw (no_visits dialect n c neither, no_rows dialect c neither.1) refl
 
   after_open : (rows : List Row) (is_open : Bool) (more : List Visit)
@@ -79,8 +85,12 @@ module _ (dialect : Dialect) (x : Place) where
         after_unit =
             let is_open = ends_open (unit_rows dialect u) in
             let end_is = of_end (header_of dialect u) ∷ rest in
-            simp append_assoc (after_visits n u (open_visit is_open ++ end_is)
-            ∙ after_open (unit_rows dialect u) is_open end_is)
+            let apart = append_assoc (unit_visits dialect n u) (units_visits dialect (n + length u) units) more
+            ∙ append_assoc (visits dialect n u) (end_visits dialect u) rest
+            ∙ ap (λ (z : List Visit). visits dialect n u ++ z)
+            (append_assoc (open_visit is_open) (of_end (header_of dialect u) ∷ []) rest) in
+            ap (fold (seen x) (seeks [])) apart ∙ after_visits n u (open_visit is_open ++ end_is)
+            ∙ after_open (unit_rows dialect u) is_open end_is
 
         silent : answer (unit_rows dialect u) x ≡ None → unit_seen u ≡ seeks []
             → Sought dialect x units rows (fold (seen x) (seeks []) rest)

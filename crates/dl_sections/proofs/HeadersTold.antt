@@ -1,8 +1,9 @@
 -- The header that visits tell of the current unit.
 use Rattle.dl_sections.proofs.Names.{◌++◌, ◌+◌, ◌∙◌, ◌∷◌, ◌≡◌, ◌⊎◌, [], Bool, Dialect, end_visits, ends_open}
 use Rattle.dl_sections.proofs.Names.{false, foreign_no_header, header_of, header_told, HeaderData, inl, inr, length, List}
-use Rattle.dl_sections.proofs.Names.{map, None, of_end, of_header, of_row, open_visit, Option, refl, Row}
+use Rattle.dl_sections.proofs.Names.{map, None, of_end, of_header, of_item, open_visit, Option, refl}
 use Rattle.dl_sections.proofs.Names.{Some, true, unit_rows, unit_visits, units_visits, Visit, visits, ℕ}
+use Rattle.dl_rows.specs.Items.{Item, unit_items}
 use Rattle.dl_sections.specs.Section.{of_damage}
 use Rattle.dl_sections.specs.UnitsRead.{Before, end_of, visits_since}
 use Rattle.dl_sections.proofs.CopyingVisits.{Foreign, Own, Neither, one_of, foreign_visits, own_visits, no_visits}
@@ -14,7 +15,7 @@ pub header_told-append : (h : Option HeaderData) (a b : List Visit)
 header_told-append h [] b = refl
 header_told-append h (of_header n l g ∷ a) b = header_told-append (Some g) a b
 header_told-append h (of_end g ∷ a) b = header_told-append None a b
-header_told-append h (of_damage n kind ∷ a) b = header_told-append None a b
+header_told-append h (of_damage unit n kind ∷ a) b = header_told-append None a b
 header_told-append h (v ∷ a) b = header_told-append h a b
 
 of_open_none : (h : Option HeaderData) (is_open : Bool) → header_told h (open_visit is_open) ≡ h
@@ -27,9 +28,9 @@ pub header_told-open : (a : List Visit) (is_open : Bool)
 header_told-open a is_open =
     header_told-append None a (open_visit is_open) ∙ of_open_none (header_told None a) is_open
 
-rows_tell_none : (h : Option HeaderData) (rows : List Row) → header_told h (map of_row rows) ≡ h
-rows_tell_none h [] = refl
-rows_tell_none h (r ∷ rows) = rows_tell_none h rows
+items_tell_none : (h : Option HeaderData) (items : List Item) → header_told h (map of_item items) ≡ h
+items_tell_none h [] = refl
+items_tell_none h (item ∷ items) = items_tell_none h items
 
 module _ (dialect : Dialect) where
   -- at the end of a unit none is told
@@ -52,7 +53,7 @@ module _ (dialect : Dialect) where
       → header_told None (visits dialect n b) ≡ header_of dialect b
   by_kind n b (inl f) = rw (foreign_visits dialect n b f, foreign_no_header dialect b f.0 f.1) refl
   by_kind n b (inr (inl own)) =
-      rw (own_visits dialect n b own, header_is dialect n b own) (rows_tell_none (Some own.0) (unit_rows dialect b))
+      rw (own_visits dialect n b own, header_is dialect n b own) (items_tell_none (Some own.0) (unit_items dialect b))
   by_kind n b (inr (inr none)) = rw (no_visits dialect n b none, none.1) refl
 
   -- that of the bytes after the units

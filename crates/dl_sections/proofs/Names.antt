@@ -75,7 +75,7 @@ pub use Rattle.dl_rows.specs.Matrix.{address, appends_row, fresh, is_end, last_p
 pub use Rattle.dl_rows.specs.Matrix.{moves, op_index, parts, row, row_from, sequence, set_column, set_discriminator}
 pub use Rattle.dl_rows.specs.Matrix.{set_file, set_isa}
 pub use Rattle.dl_rows.specs.OperationSpelt.{good_one, operation_spelt, operations_in}
-pub use Rattle.dl_rows.specs.ReaderAnswers.{RowsFed}
+pub use Rattle.dl_rows.specs.ReaderAnswers.{SinkFed}
 pub use Rattle.dl_rows.specs.Reading.{FeedsAfter, SinkAfter, SinkAt, told, WithinUnit}
 pub use Rattle.dl_rows.specs.Refusal.{Refused}
 pub use Rattle.dl_rows.specs.Runs.{Sound}
@@ -123,15 +123,16 @@ pub use Rattle.dl_sections.specs.PassedOver.{AreTold, IsGreatest, IsLeast, other
 pub use Rattle.dl_sections.specs.PassingOver.{IsPassedOver, Spans, version_story, version_told, versions_told}
 pub use Rattle.dl_sections.specs.RunOutput.{TellsOut}
 pub use Rattle.dl_sections.specs.Section.{end_visits, EndsAs, event_visits, HasBegun, HasUnits, header_of, header_read, HeaderRead, NoUnitBegins}
-pub use Rattle.dl_sections.specs.Section.{of_end, of_header, of_open, of_row, of_version, open_visit, section_visits}
+pub use Rattle.dl_sections.specs.Section.{of_end, of_header, of_item, of_open, of_version, open_visit, section_visits}
 pub use Rattle.dl_sections.specs.Section.{summary_of, unit_visits, units_visits, Visit, visits}
 pub use Rattle.dl_sections.specs.SectionLaws.{CopyIsFront, CopyTo5IsFront, DumpIsFront, IsOfBytes, MoreIsTold, OneChecking}
 pub use Rattle.dl_sections.specs.SectionLaws.{OneCopy, OneCopying, OneCopyingTo5, OneCopyTo5, OneCut, OneDump, OneDumping}
 pub use Rattle.dl_sections.specs.SectionLaws.{OneEnd, OneFinding, OneFound, OnePassingOver}
 pub use Rattle.dl_sections.specs.SectionText.{DumpStyle, section_text, visit_text, visits_text}
-pub use Rattle.dl_sections.specs.Told.{Counted, ends, HeardRows, NoRow, RowsOf, StopsAtRow, told_story}
+pub use Rattle.dl_sections.specs.Told.{Counted, ends, FeedsTold, HeardItems, ItemsOf, ItemsTaken, StopsWithin, told_story}
 pub use Rattle.dl_sections.specs.UnitPrinted.{PrintsPart}
-pub use Rattle.dl_sections.specs.UnitsRead.{counted, is_foreign, row_told, rows_told, UnitsAre}
+pub use Rattle.dl_sections.specs.UnitsRead.{counted, is_foreign, rows_told, UnitsAre}
+pub use Rattle.dl_rows.specs.Reading.{row_told}
 pub use Rattle.dl_sections.specs.Visiting.{header_told, Hears, Ran, Settled, StopsIn, Story, VisitorStops}
 pub use Rattle.dl_sections.specs.declared.checking.Checker.{Checker}
 pub use Rattle.dl_sections.specs.declared.copying.Becomes.{Becomes}

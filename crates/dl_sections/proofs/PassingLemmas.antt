@@ -3,11 +3,12 @@ use Rattle.dl_sections.proofs.Names.{◌++◌, ◌+◌, ◌∙◌, ◌∷◌, �
 use Rattle.dl_sections.proofs.Names.{Bool, cond, Contains, Contains-append_left, Contains-push, Dialect, end_visits, ends}
 use Rattle.dl_sections.proofs.Names.{ends_open, Err, false, flat_map-append, foreign_in, header_of, HeaderData, inl, inr}
 use Rattle.dl_sections.proofs.Names.{is_some, IsGreatest, IsLeast, IsPassedOver, length, length-append, List, map, max}
-use Rattle.dl_sections.proofs.Names.{min, None, of_end, of_row, Ok, open_visit, Option, option_to_list, other_versions}
-use Rattle.dl_sections.proofs.Names.{OtherVersions, PassedOver, PassesOver, Ran, refl, Row, RunFault, Some, Spans}
+use Rattle.dl_sections.proofs.Names.{min, None, of_end, of_item, Ok, open_visit, Option, option_to_list, other_versions}
+use Rattle.dl_sections.proofs.Names.{OtherVersions, PassedOver, PassesOver, Ran, refl, RunFault, Some, Spans}
 use Rattle.dl_sections.proofs.Names.{sum_by-cons, Summary, summary_of, true, unit_rows, unit_visits, units_visits}
 use Rattle.dl_sections.proofs.Names.{version_story, version_told, VersionRange, versions_told, Visit, visits, Write, ℕ}
 use Rattle.dl_sections.proofs.Names.fault
+use Rattle.dl_rows.specs.Items.{Item, unit_items}
 use Rattle.dl_sections.proofs.CopyingVisits.{Foreign, Own, Neither, one_of, not_foreign, foreign_visits, own_visits}
 use Rattle.dl_sections.proofs.CopyingVisits.{no_visits}
 
@@ -36,9 +37,9 @@ pub told-push : (before : List Visit) (visit : Visit)
     → versions_told (before ++ visit ∷ []) ≡ versions_told before ++ version_told visit
 told-push before visit = rw (flat_map-append version_told before (visit ∷ []), append-nil) refl
 
-rows_tell_none : (rows : List Row) → versions_told (map of_row rows) ≡ []
-rows_tell_none [] = refl
-rows_tell_none (r ∷ rows) = rows_tell_none rows
+pub items_tell_none : (items : List Item) → versions_told (map of_item items) ≡ []
+items_tell_none [] = refl
+items_tell_none (item ∷ items) = items_tell_none items
 
 end_tells_none : (is_open : Bool) (h : Option HeaderData)
     → versions_told (open_visit is_open ++ of_end h ∷ []) ≡ []
@@ -57,7 +58,7 @@ unit_tells dialect n u =
           → versions_told (visits dialect n u) ≡ option_to_list (foreign_in dialect u)
       by (inl v) = rw (foreign_visits dialect n u v, v.1) refl
       by (inr (inl own)) =
-          rw (own_visits dialect n u own, not_foreign dialect n u own) (rows_tell_none (unit_rows dialect u))
+          rw (own_visits dialect n u own, not_foreign dialect n u own) (items_tell_none (unit_items dialect u))
       by (inr (inr neither)) = rw (no_visits dialect n u neither, neither.0) refl
 
 units_tell : (dialect : Dialect) (n : ℕ) (units : List (List ℕ))

@@ -1,10 +1,10 @@
 -- A section of which more bytes come: what is told of its front is told of it first, and what is written of it too.
 use Rattle.dl_sections.proofs.Names.{◌++◌, ◌+◌, ◌-◌, ◌∙◌, ◌∷◌, ◌≡◌, ◌≤◌, [], ap, append-nil, append_assoc, arith, cases_lt}
 use Rattle.dl_sections.proofs.Names.{concat, cut, cut_sound, Dialect, drop, DumpIsFront, Dwarf32, Dwarf64, end_visits}
-use Rattle.dl_sections.proofs.Names.{FaultKind, field_is_judged, flat_map-append, Format, fronts, HasBegun, header_layout}
+use Rattle.dl_sections.proofs.Names.{field_is_judged, flat_map-append, Format, fronts, HasBegun, header_layout}
 use Rattle.dl_sections.proofs.Names.{initial_size, inl, inr, IsInitialLength, IsUnit, Item, length, length-append}
 use Rattle.dl_sections.proofs.Names.{length-drop, length-take, length_is, length_is_computed, length_of_unit, List}
-use Rattle.dl_sections.proofs.Names.{MoreIsTold, NoUnitBegins, one_refusal, Order, Refused, Result, RunFault, section_text}
+use Rattle.dl_sections.proofs.Names.{MoreIsTold, NoUnitBegins, one_refusal, Order, Result, RunFault, section_text}
 use Rattle.dl_sections.proofs.Names.{section_visits, Some, some_same, SpellsFields, Summary, sym, take, take-append-add}
 use Rattle.dl_sections.proofs.Names.{take-append-drop, take-append-le, take_all, unit_end, unit_len, unit_len_on}
 use Rattle.dl_sections.proofs.Names.{unit_unless_refused, units_visits, Visit, visit_text, visits, visits_text, WithinUnit}
@@ -16,7 +16,8 @@ use Rattle.dl_sections.proofs.OneAnswers.{dumped}
 use Rattle.dl_sections.proofs.OutLemmas.{TellsOut-more}
 use Rattle.dl_sections.proofs.SectionCuts.{Meet, same, shorter, longer, meet, How, refused, over, Ended, of_bytes, ended}
 use Rattle.dl_sections.proofs.SectionLemmas.{units_visits-append}
-use Rattle.dl_sections.proofs.VisitsGrowth.{more_visits, same_visits}
+use Rattle.dl_sections.specs.Section.{NoneBefore}
+use Rattle.dl_sections.proofs.VisitsGrowth.{more_visits}
 
 -- ---- no further than a unit
 
@@ -62,12 +63,6 @@ unit_len_front dialect b n e le =
         })
     on items w rest whole s e = absurd (none_is_some e)
 
--- no front of b but b is refused
-abbrev NoneBefore : Dialect → List ℕ → Type 0
-NoneBefore dialect b =
-    (front back : List ℕ) (at : ℕ) (kind : FaultKind) → b ≡ front ++ back → 1 ≤ length back
-    → Refused dialect front at kind → ⊥
-
 within_unit : (dialect : Dialect) (b back : List ℕ) → NoUnitBegins dialect (b ++ back) → NoneBefore dialect b
     → WithinUnit dialect b
 within_unit dialect b back none before n e = elim (cases_lt n (length b)) [
@@ -82,15 +77,18 @@ within_unit dialect b back none before n e = elim (cases_lt n (length b)) [
 ]
 
 -- so it is where a section ends
+ended_before : {dialect : Dialect} {limit : ℕ} {bytes : List ℕ} {units : List (List ℕ)} {b back : List ℕ}
+    {result : Result Summary RunFault} → Ended dialect limit bytes units b back result → NoneBefore dialect b
+ended_before {dialect} {limit} {bytes} {units} {b} {back} {result} s = by s.how where
+  by : How dialect limit bytes units b back result → NoneBefore dialect b
+  by (refused at kind r is) front more at2 kind2 e some r2 =
+      let one = one_refusal dialect front b more [] at2 at kind2 kind (cc (append-nil b)) r2 r in
+      omega (arith, some, ap length one.0, ap length e, length-append front more)
+  by (over nothing sound is) front more at kind e some r = sound front more at kind e r
+
 ended_within : {dialect : Dialect} {limit : ℕ} {bytes : List ℕ} {units : List (List ℕ)} {b back : List ℕ}
     {result : Result Summary RunFault} → Ended dialect limit bytes units b back result → WithinUnit dialect b
-ended_within {dialect} {limit} {bytes} {units} {b} {back} {result} s =
-    within_unit dialect b back s.none (by s.how) where
-      by : How dialect limit bytes units b back result → NoneBefore dialect b
-      by (refused at kind r is) front more at2 kind2 e some r2 =
-          let one = one_refusal dialect front b more [] at2 at kind2 kind (cc (append-nil b)) r2 r in
-          omega (arith, some, ap length one.0, ap length e, length-append front more)
-      by (over nothing sound is) front more at kind e some r = sound front more at kind e r
+ended_within {dialect} {b = b} {back = back} s = within_unit dialect b back s.none (ended_before s)
 
 -- ---- what is told
 
@@ -129,11 +127,7 @@ begun_grows {dialect} {limit} {bytes} {units} {units2} {b} {b2} {back} {back2} {
 
       longer_by : (x : ℕ) (v : List ℕ) → b ≡ b2 ++ x ∷ v → units ≡ units2 → b ++ back ≡ b2 ++ back2
           → How dialect limit bytes units2 b2 back2 result → Grows
-      longer_by x v goes us e (refused at kind r is) = (
-        [],
-        rw (us, goes, same_visits dialect b2 (x ∷ v) at kind r (rw goes at s.in_unit) (length (concat units2)))
-            (simp append-nil),
-      )
+      longer_by x v goes us e (refused at kind r is) = absurd (s.none_before b2 (x ∷ v) at kind goes (omega arith) r)
       longer_by x v goes us e (over nothing sound is) =
           absurd (omega (
             arith,
@@ -176,6 +170,7 @@ more_is_told dialect limit bytes more left left2 units units2 b b2 back back2 re
     begun_grows {back = back ++ m.0} (record {
       has = record { whole = rw (m.1, s.has.whole) (simp append_assoc); each = s.has.each };
       in_unit = ended_within s;
+      none_before = ended_before s;
     }) (ended dialect limit (bytes ++ more) left2 units2 b2 back2 result2 not2 ends2)
 
 -- ---- what is written

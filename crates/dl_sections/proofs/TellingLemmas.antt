@@ -2,18 +2,19 @@
 use Rattle.std.proofs.Common.{◌≡◌, inl, inr, ℕ, ◌+◌, Bool, true, false, List, [], ◌∷◌, ◌++◌, length, map, flat_map}
 use Rattle.std.proofs.Common.{Option, Some, None, refl, sym, ap, ◌∙◌, append_assoc, append-nil}
 use Rattle.std.specs.List.{AllByRecursion, concat}
-use Rattle.std.specs.Option.{option_map}
 use Rattle.dl_head.specs.declared.dialect.Dialect.{Dialect}
 use Rattle.dl_field.specs.HeaderData.{HeaderData}
 use Rattle.dl_head.specs.declared.header.HeaderLengths.{HeaderLengths}
 use Rattle.dl_head.specs.Header.{foreign_in, header_in, lengths_in}
 use Rattle.dl_head.proofs.HeaderLaws.{header_is_found}
 use Rattle.dl_rows.specs.declared.row.Row.{Row}
+use Rattle.dl_rows.specs.Items.{Item, a_byte, a_row, an_operation, items_in, items_later, rows_of_items}
+use Rattle.dl_rows.proofs.ItemLemmas.{items_are_these}
 use Rattle.dl_rows.specs.LineUnit.{IsUnit, rows_in, rows_later, unit_rows, ends_open, events_of}
 use Rattle.dl_rows.proofs.ReaderLemmas.{foreign_no_header}
 use Rattle.dl_rows.proofs.UnitLengths.{foreign_of}
 use Rattle.dl_sections.specs.InMemory.{UnitTold, unit_told, units_told}
-use Rattle.dl_sections.specs.Section.{Visit, of_header, of_row, of_end, header_of}
+use Rattle.dl_sections.specs.Section.{Visit, of_header, of_item, of_end, header_of}
 use Rattle.dl_sections.specs.Section.{event_visits, read_by, visits, open_visit, end_visits, unit_visits, units_visits}
 use Rattle.dl_sections.specs.Section.{section_visits}
 use Rattle.dl_sections.specs.Telling.{Heard, heard_after, with_visit}
@@ -25,11 +26,14 @@ pub heard_after-append : (heard : Heard) (a b : List Visit)
 heard_after-append heard [] b = refl
 heard_after-append heard (visit ∷ a) b = heard_after-append (with_visit heard visit) a b
 
-rows_heard : (heard : Heard) (rows : List Row)
-    → heard_after heard (map of_row rows) ≡ record heard { rows = heard.rows ++ rows }
-rows_heard heard [] = rw (append-nil heard.rows) refl
-rows_heard heard (r ∷ rows) =
-    rows_heard (with_visit heard (of_row r)) rows ∙ rw (append_assoc heard.rows (r ∷ []) rows) refl
+items_heard : (heard : Heard) (items : List Item)
+    → heard_after heard (map of_item items) ≡ record heard { rows = heard.rows ++ rows_of_items items }
+items_heard heard [] = rw (append-nil heard.rows) refl
+items_heard heard (a_byte x ∷ items) = items_heard heard items
+items_heard heard (an_operation header o ∷ items) = items_heard heard items
+items_heard heard (a_row header r ∷ items) =
+    items_heard (with_visit heard (of_item (a_row header r))) items
+    ∙ rw (append_assoc heard.rows (r ∷ []) (rows_of_items items)) refl
 
 end_heard : (heard : Heard) (is_open : Bool) (h : Option HeaderData)
     → heard_after heard (open_visit is_open ++ of_end h ∷ []) ≡ with_visit heard (of_end h)
@@ -45,11 +49,17 @@ has_either dialect u (inr (h, p, is)) known none =
     ∙ header_is_found dialect h is.header is.program is.spells_header)
 
 module _ (dialect : Dialect) (offset : ℕ) (heard : Heard) where
-  -- what a version and a header tell, of which there is one
+  -- the visits of a version, and of a header and what its program comes to
+  abbrev front_of : (lengths : HeaderData → HeaderLengths) (version : Option ℕ)
+      (parts : Option (HeaderData × List ℕ)) → List Visit
+  front_of lengths version parts =
+      flat_map (event_visits offset (read_by lengths parts)) (events_of dialect.order version parts)
+      ++ map of_item (items_later dialect.order parts)
+
+  -- what they tell, where there is one
   told_by : (lengths : HeaderData → HeaderLengths) (version : Option ℕ) (parts : Option (HeaderData × List ℕ)) → ((v : ℕ) → version ≡ Some v → parts ≡ None)
       → (version ≡ None → parts ≡ None → ⊥)
-      → heard_after heard (flat_map (event_visits offset (read_by lengths parts))
-      (events_of dialect.order version parts)) ≡ record {
+      → heard_after heard (front_of lengths version parts) ≡ record {
         offset = offset;
         version = version;
         units = heard.units;
@@ -60,9 +70,12 @@ module _ (dialect : Dialect) (offset : ℕ) (heard : Heard) where
   told_by lengths None None only some = absurd (some refl refl)
   told_by lengths None (Some (h, program)) only some =
       let rows = rows_in dialect.order h.params program in
-      ap (heard_after (with_visit heard (of_header offset (lengths h) h)))
+      let items = items_in dialect.order h program in
+      let now = with_visit heard (of_header offset (lengths h) h) in
+      ap (λ (z : List Visit). heard_after now (z ++ map of_item items))
       (rows_visited offset (read_by lengths (Some (h, program))) rows)
-      ∙ rows_heard (with_visit heard (of_header offset (lengths h) h)) rows
+      ∙ items_heard now items
+      ∙ ap (λ (z : List Row). record now { rows = heard.rows ++ z }) (items_are_these dialect.order h program).2
 
   -- a unit, once it is whole
   pub unit_heard : (u : List ℕ) → heard.rows ≡ [] → IsUnit dialect u → heard_after heard (unit_visits dialect offset u)
@@ -82,8 +95,7 @@ module _ (dialect : Dialect) (offset : ℕ) (heard : Heard) where
   -- the front of a unit
   front_told : (lengths : HeaderData → HeaderLengths) (version : Option ℕ) (parts : Option (HeaderData × List ℕ)) → ((v : ℕ) → version ≡ Some v → parts ≡ None)
       → (now : Heard)
-      → heard_after heard (flat_map (event_visits offset (read_by lengths parts))
-      (events_of dialect.order version parts)) ≡ now
+      → heard_after heard (front_of lengths version parts) ≡ now
       → (now.units ≡ heard.units) × (now.rows ≡ heard.rows ++ rows_later dialect.order parts)
   front_told lengths (Some v) None only now is = rw (sym is) (refl, sym (append-nil heard.rows))
   front_told lengths (Some v) (Some p) only now is = absurd (none_is_some (sym (only v refl)))

@@ -13,7 +13,9 @@ use Rattle.dl_sections.specs.RunOutput.{TellsOut}
 use Rattle.dl_sections.specs.Section.{Visit, HasUnits, HasBegun}
 use Rattle.dl_sections.proofs.UnitsLemmas.{within_unit}
 use Rattle.dl_sections.specs.Visiting.{Story, HasReason, GoesOn, Settled, VisitorStops}
-use Rattle.dl_sections.specs.UnitsRead.{Before, UnitsFed, ReaderStops, Worked, is_failed_write, visits_since}
+use Rattle.dl_sections.specs.UnitsRead.{Before, SoundUnlessWrite, UnitsFed, ReaderStops, Worked, is_failed_write, visits_since}
+use Rattle.dl_sections.proofs.FeedLemmas.{sound_before}
+use Rattle.dl_sections.proofs.SectionLemmas.{none_refused}
 
 true_false : true ≡ false → ⊥
 true_false e = cc
@@ -31,6 +33,7 @@ module _ {S : Type 0} (story : Story S) (dialect : Dialect) (past : Before diale
   lost units b back has heard more is fault.Read t = absurd t
   lost units b back has heard more is fault.SectionTooLong t = absurd t
   lost units b back has heard more is fault.NotFound t = absurd t
+  lost units b back has heard more is fault.TwoSums t = absurd t
   lost units b back has heard more is (fault.ForeignUnit unit) t = absurd t
   lost units b back has heard more is (fault.Emit unit f) t = absurd t
 
@@ -44,8 +47,12 @@ module _ {S : Type 0} (story : Story S) (dialect : Dialect) (past : Before diale
   abbrev Cause : RunFault → Type 0
   Cause f = (units : List (List ℕ)) × (b : List ℕ) × (back : List ℕ) × HasBegun dialect s units b back
       × ((ReaderStops past u units b back f × story.tells first mid start before (visits_since past units b))
-      ⊎ (Sound dialect b × (heard : List Visit) × (more : List Visit) × (visits_since past units b ≡ heard ++ more)
-      × HasReason story first mid start before heard f))
+      ⊎ (SoundUnlessWrite dialect b f × (heard : List Visit) × (more : List Visit)
+      × (visits_since past units b ≡ heard ++ more) × HasReason story first mid start before heard f))
+
+  -- another fault than a failed write
+  abbrev IsOther : RunFault → Type 0
+  IsOther f = (b : List ℕ) → SoundUnlessWrite dialect b f → Sound dialect b
 
   abbrev Stop : RunFault → Type 0
   Stop f = (units : List (List ℕ)) × (b : List ℕ) × (back : List ℕ) × HasBegun dialect s units b back
@@ -66,17 +73,17 @@ module _ {S : Type 0} (story : Story S) (dialect : Dialect) (past : Before diale
         → Settled story first start after visits (story.tells first new start after)
     settled visits tells = let p = settles flow.On visits tells in record { tells = p.0; out = p.1 }
 
-    stopped : (f : RunFault) → Cause f → Stop f
-    stopped f (units, b, back, has, inl (stops, tells)) =
+    stopped : (f : RunFault) → IsOther f → Cause f → Stop f
+    stopped f other (units, b, back, has, inl (stops, tells)) =
         (units, b, back, has, inl (stops, settled (visits_since past units b) tells))
-    stopped f (units, b, back, has, inr (sound, heard, more, is, why)) =
+    stopped f other (units, b, back, has, inr (sound, heard, more, is, why)) =
         let out = settled why.0 why.3 in (
           units,
           b,
           back,
           has,
           inr (
-            sound,
+            other b sound,
             record {
               before = why.0;
               visit = why.1;
@@ -98,13 +105,14 @@ module _ {S : Type 0} (story : Story S) (dialect : Dialect) (past : Before diale
         let p = settles flow.Stop (visits_since past units []) done in
         (units, back, has, summary, offset, record { tells = p.0; out = p.1 })
     all_out (Err (fault.Write out)) kept fed = absurd (true_false kept)
-    all_out (Err (fault.Damage offset kind)) kept fed = stopped (fault.Damage offset kind) fed
-    all_out (Err fault.NoMemory) kept fed = stopped fault.NoMemory fed
-    all_out (Err fault.Read) kept fed = stopped fault.Read fed
-    all_out (Err fault.SectionTooLong) kept fed = stopped fault.SectionTooLong fed
-    all_out (Err fault.NotFound) kept fed = stopped fault.NotFound fed
-    all_out (Err (fault.ForeignUnit unit)) kept fed = stopped (fault.ForeignUnit unit) fed
-    all_out (Err (fault.Emit unit f)) kept fed = stopped (fault.Emit unit f) fed
+    all_out (Err (fault.Damage offset kind)) kept fed = stopped (fault.Damage offset kind) (λ b s. s) fed
+    all_out (Err fault.NoMemory) kept fed = stopped fault.NoMemory (λ b s. s) fed
+    all_out (Err fault.Read) kept fed = stopped fault.Read (λ b s. s) fed
+    all_out (Err fault.SectionTooLong) kept fed = stopped fault.SectionTooLong (λ b s. s) fed
+    all_out (Err fault.NotFound) kept fed = stopped fault.NotFound (λ b s. s) fed
+    all_out (Err fault.TwoSums) kept fed = stopped fault.TwoSums (λ b s. s) fed
+    all_out (Err (fault.ForeignUnit unit)) kept fed = stopped (fault.ForeignUnit unit) (λ b s. s) fed
+    all_out (Err (fault.Emit unit f)) kept fed = stopped (fault.Emit unit f) (λ b s. s) fed
 
   module _ (f : RunFault)
       (fails : (n : Flow) (visits : List Visit) → GoesOn story first mid start before visits n
@@ -123,14 +131,14 @@ module _ {S : Type 0} (story : Story S) (dialect : Dialect) (past : Before diale
         lost_all units b [] (record {
           has =
               subst (λ (l : List ℕ). HasUnits dialect s units l) (sym (append-nil b)) are.has;
-          in_unit =
-              within_unit past u s units b are;
+          in_unit = within_unit past u s units b are;
+          none_before = sound_before dialect b sound;
         }) f (fails flow.On (visits_since past units b) tells)
     not_out (Ok flow.Stop) kept (units, back, has, summary, offset, done) =
         lost_all units [] back (record {
           has = has;
-          in_unit =
-              λ n known. omega arith;
+          in_unit = λ n known. omega arith;
+          none_before = sound_before dialect [] (none_refused dialect);
         }) f (fails flow.Stop (visits_since past units []) done)
     not_out (Err (fault.Write out)) kept fed = absurd (true_false kept)
     not_out (Err (fault.Damage offset kind)) kept fed = lost_at (fault.Damage offset kind) fed
@@ -138,5 +146,6 @@ module _ {S : Type 0} (story : Story S) (dialect : Dialect) (past : Before diale
     not_out (Err fault.Read) kept fed = lost_at fault.Read fed
     not_out (Err fault.SectionTooLong) kept fed = lost_at fault.SectionTooLong fed
     not_out (Err fault.NotFound) kept fed = lost_at fault.NotFound fed
+    not_out (Err fault.TwoSums) kept fed = lost_at fault.TwoSums fed
     not_out (Err (fault.ForeignUnit unit)) kept fed = lost_at (fault.ForeignUnit unit) fed
     not_out (Err (fault.Emit unit g)) kept fed = lost_at (fault.Emit unit g) fed

@@ -153,7 +153,7 @@ EndsAround dialect limit bytes left blocks rest (Err other) = ⊥
 abbrev pub block_visits : Dialect → (offset : ℕ) → Block → List Visit
 block_visits dialect offset (whole u) = unit_visits dialect offset u
 block_visits dialect offset (damaged front back at kind) =
-    visits dialect offset front ++ of_damage (offset + at) kind ∷ []
+    visits dialect offset front ++ of_damage offset (offset + at) kind ∷ []
 
 -- of blocks one after the other, the first at that offset
 abbrev pub blocks_visits : Dialect → (offset : ℕ) → List Block → List Visit
@@ -163,9 +163,9 @@ blocks_visits dialect offset (block ∷ blocks) =
 
 abbrev pub rest_visits : Dialect → (offset : ℕ) → Rest → List Visit
 rest_visits dialect offset (begun b) = visits dialect offset b
-rest_visits dialect offset (cut_off b) = visits dialect offset b ++ of_damage (offset + length b) Truncated ∷ []
+rest_visits dialect offset (cut_off b) = visits dialect offset b ++ of_damage offset (offset + length b) Truncated ∷ []
 rest_visits dialect offset (broken front back at kind) =
-    visits dialect offset front ++ of_damage (offset + at) kind ∷ []
+    visits dialect offset front ++ of_damage offset (offset + at) kind ∷ []
 
 -- of blocks, and of what follows them
 abbrev pub visits_around : Dialect → List Block → Rest → List Visit

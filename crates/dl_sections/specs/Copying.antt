@@ -10,6 +10,7 @@ use Rattle.dl_emit.specs.declared.fault.EmitFault.{EmitFault}
 use Rattle.dl_emit.specs.declared.program.TheConstants.{ROW}
 use Rattle.dl_emit.specs.Grown.{IsGrown}
 use Rattle.dl_emit.specs.WrittenUnit.{unit_of, refusal}
+use Rattle.dl_rows.specs.Items.{a_row}
 use Rattle.dl_sections.specs.declared.copying.Becomes.{Becomes}
 use Rattle.dl_sections.specs.declared.copying.Becomes.TheVariants as becomes
 use Rattle.dl_sections.specs.declared.copying.Copier.{Copier}
@@ -17,7 +18,7 @@ use Rattle.dl_sections.specs.Commands.{Made, to_5, WantsTables}
 use Rattle.dl_sections.specs.declared.fault.RunFault.{RunFault}
 use Rattle.dl_sections.specs.declared.fault.RunFault.TheVariants as fault
 use Rattle.dl_print.specs.Output.{HasPrinted}
-use Rattle.dl_sections.specs.Section.{Visit, of_header, of_version, of_row, of_open, of_end, of_damage}
+use Rattle.dl_sections.specs.Section.{Visit, of_header, of_version, of_item, of_open, of_end, of_damage}
 use Rattle.dl_sections.specs.Visiting.{Story, header_told}
 
 -- the offset of the last unit with a header; offset: that before the visits
@@ -29,7 +30,7 @@ offset_after offset (visit ∷ visits) = offset_after offset visits
 -- how many rows visits tell
 abbrev pub row_count : List Visit → ℕ
 row_count [] = 0
-row_count (of_row r ∷ visits) = row_count visits + 1
+row_count (of_item (a_row header r) ∷ visits) = row_count visits + 1
 row_count (visit ∷ visits) = row_count visits
 
 -- ---- what visits come to
@@ -57,9 +58,10 @@ abbrev pub visited : Made → Order → Progress → Visit → Progress
 visited made order (stopped text f) visit = stopped text f
 visited made order (goes offset rows text) (of_header n l h) = goes n [] text
 visited made order (goes offset rows text) (of_version n version) = stopped text (fault.ForeignUnit n)
-visited made order (goes offset rows text) (of_row r) = goes offset (rows ++ r ∷ []) text
+visited made order (goes offset rows text) (of_item (a_row header r)) = goes offset (rows ++ r ∷ []) text
+visited made order (goes offset rows text) (of_item other) = goes offset rows text
 visited made order (goes offset rows text) of_open = goes offset rows text
-visited made order (goes offset rows text) (of_damage n kind) = goes offset [] text
+visited made order (goes offset rows text) (of_damage unit n kind) = goes offset [] text
 visited made order (goes offset rows text) (of_end None) = goes offset [] text
 visited made order (goes offset rows text) (of_end (Some h)) =
     ended_as (unit_of order (made offset h) rows) text offset (refusal (made offset h) rows)
@@ -97,7 +99,7 @@ RenewsTables refuses (becomes.Version5 directories) offset h = WantsTables refus
 
 -- memory was refused: for a row; or for the tables of the header of a unit that is whole, at the offset
 abbrev pub IsGrowth : (Refused : Type 0) (refuses : ℕ → Type 0) → Becomes → (offset : ℕ) → Visit → Type 0
-IsGrowth Refused refuses becomes offset (of_row r) = Refused
+IsGrowth Refused refuses becomes offset (of_item (a_row header r)) = Refused
 IsGrowth Refused refuses becomes offset (of_end (Some h)) = RenewsTables refuses becomes offset h
 IsGrowth Refused refuses becomes offset other = ⊥
 

@@ -4,7 +4,7 @@ use Rattle.dl_sections.specs.declared.around.Damage.{Damage}
 use Rattle.dl_sections.specs.Section.{Visit, of_damage}
 
 abbrev pub damage_of_visit : Visit → List Damage
-damage_of_visit (of_damage offset kind) = record { offset = offset; kind = kind } ∷ []
+damage_of_visit (of_damage unit offset kind) = record { offset = offset; kind = kind } ∷ []
 damage_of_visit other = []
 
 abbrev pub damages_told : List Visit → List Damage

@@ -5,10 +5,11 @@ use Rattle.dl_rows.specs.declared.row.Row.{Row}
 use Rattle.dl_look.specs.declared.place.Place.{Place}
 use Rattle.dl_look.specs.Answer.{answer}
 use Rattle.dl_look.specs.FinderRows.{StandsFor}
+use Rattle.dl_rows.specs.Items.{a_row}
 use Rattle.dl_sections.specs.declared.finding.Seeker.{Seeker}
 use Rattle.dl_sections.specs.Commands.{found_text}
 use Rattle.dl_print.specs.Output.{HasPrinted}
-use Rattle.dl_sections.specs.Section.{Visit, of_damage, of_row, of_end}
+use Rattle.dl_sections.specs.Section.{Visit, of_damage, of_item, of_end}
 use Rattle.dl_print.specs.ValueText.{Strings, strings_of}
 use Rattle.dl_sections.specs.Visiting.{Story}
 
@@ -27,9 +28,9 @@ answer_under (Some h) (Some r) = finds h r
 
 abbrev pub seen : Place → Search → Visit → Search
 seen x (finds h r) visit = finds h r
-seen x (seeks rows) (of_row r) = seeks (rows ++ r ∷ [])
+seen x (seeks rows) (of_item (a_row header r)) = seeks (rows ++ r ∷ [])
 seen x (seeks rows) (of_end h) = answer_under h (answer rows x)
-seen x (seeks rows) (of_damage offset kind) = seeks []
+seen x (seeks rows) (of_damage unit offset kind) = seeks []
 seen x (seeks rows) visit = seeks rows
 
 abbrev pub search_of : Place → List Visit → Search

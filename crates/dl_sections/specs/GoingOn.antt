@@ -38,11 +38,11 @@ NextBegins (Some n) old new result =
     (result ≡ flow.On) × BeginsAt (max (add old.units.offset n) (add old.read 1)) old.units new.units
 
 -- it is told that a unit is damaged, and prints nothing; none of its own reasons is damage
-pub record IsTold {S : Type 0} (story : Story S) (old new : S) (damage : Damage) : Type 0 where
+pub record IsTold {S : Type 0} (story : Story S) (old new : S) (unit : ℕ) (damage : Damage) : Type 0 where
   pub tells : (first : S) (start now : Option (List ℕ)) (visits : List Visit) → story.tells first old start now visits
-      → story.tells first new start now (visits ++ of_damage damage.offset damage.kind ∷ [])
+      → story.tells first new start now (visits ++ of_damage unit damage.offset damage.kind ∷ [])
   pub quiet : (first : S) (visits : List Visit)
-      → story.text first (visits ++ of_damage damage.offset damage.kind ∷ []) ≡ story.text first visits
+      → story.text first (visits ++ of_damage unit damage.offset damage.kind ∷ []) ≡ story.text first visits
   pub reasons : (first : S) (visits : List Visit) (offset : ℕ) (kind : FaultKind)
       → story.refuses first visits (fault.Damage offset kind) → ⊥
 

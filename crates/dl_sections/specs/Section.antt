@@ -1,6 +1,6 @@
 -- The units of a section, which stand back to back, and what a command is told of them. DWARF 5, section 6.2.4.
 use Rattle.std.specs.Prelude.{◌≡◌, ◌≢◌, ◌⊎◌, ◌<◌, ◌≤◌, ℕ, ◌+◌, Bool, List, take, Result, Ok, Err, [], ◌∷◌, ◌++◌, length}
-use Rattle.std.specs.Prelude.{flat_map, is_some, is_none, if◌then◌else◌, Option, Some, None, count_by, sum_by}
+use Rattle.std.specs.Prelude.{flat_map, map, is_some, is_none, if◌then◌else◌, Option, Some, None, count_by, sum_by}
 use Rattle.std.specs.List.{AllByRecursion, concat}
 use Rattle.std.specs.Option.{option_map}
 use Rattle.std.specs.Io.KnownBytes.{IsAtEnd}
@@ -11,7 +11,7 @@ use Rattle.dl_field.specs.HeaderData.{HeaderData}
 use Rattle.dl_head.specs.declared.header.HeaderLengths.{HeaderLengths}
 use Rattle.dl_head.specs.Header.{foreign_in, header_in, lengths_in}
 use Rattle.dl_head.specs.Reading.{RefusesCell as RefusesCellAt}
-use Rattle.dl_rows.specs.declared.row.Row.{Row}
+use Rattle.dl_rows.specs.Items.{Item, unit_items}
 use Rattle.dl_rows.specs.declared.reader.Event.{Event}
 use Rattle.dl_rows.specs.declared.reader.Event.TheVariants as event
 use Rattle.dl_rows.specs.LineUnit.{IsUnit, unit_rows, ends_open, events}
@@ -27,10 +27,16 @@ pub record HasUnits (dialect : Dialect) (s : List ℕ) (units : List (List ℕ))
   pub whole : s ≡ concat units ++ rest
   pub each : AllByRecursion (IsUnit dialect) units
 
--- s is these units, then b, which doesn't go beyond one unit more, and then other bytes
+-- no front of b but b is refused
+abbrev pub NoneBefore : Dialect → List ℕ → Type 0
+NoneBefore dialect b = (front back : List ℕ) (at : ℕ) (kind : FaultKind) → b ≡ front ++ back → 1 ≤ length back
+    → Refused dialect front at kind → ⊥
+
+-- s is these units, then b, which goes neither beyond one unit more nor beyond a fault, and then other bytes
 pub record HasBegun (dialect : Dialect) (s : List ℕ) (units : List (List ℕ)) (b back : List ℕ) : Type 0 where
   pub has : HasUnits dialect s units (b ++ back)
   pub in_unit : WithinUnit dialect b
+  pub none_before : NoneBefore dialect b
 
 -- no unit stands at the front of the rest
 abbrev pub NoUnitBegins : Dialect → List ℕ → Type 0
@@ -88,13 +94,14 @@ EndsAs dialect limit bytes left units b back (Err other) = ⊥
 pub data Visit : Type 0 where
   of_header : (offset : ℕ) (lengths : HeaderLengths) (h : HeaderData) → Visit
   of_version : (offset version : ℕ) → Visit
-  of_row : (r : Row) → Visit
+  -- what the bytes of its program come to
+  of_item : (item : Item) → Visit
   -- the last row of a unit isn't an end row
   of_open : Visit
   -- a unit is whole, which had this header
   of_end : (h : Option HeaderData) → Visit
-  -- a unit is damaged, which has this fault at that offset of the section
-  of_damage : (offset : ℕ) (kind : FaultKind) → Visit
+  -- the unit at the first offset of the section is damaged, which has this fault at the second one
+  of_damage : (unit offset : ℕ) (kind : FaultKind) → Visit
 
 -- the header that b begins with
 abbrev pub header_of : Dialect → List ℕ → Option HeaderData
@@ -119,12 +126,12 @@ header_visit offset (Some read) = of_header offset read.lengths read.header ∷ 
 abbrev pub event_visits : ℕ → Option HeaderRead → Event → List Visit
 event_visits offset read event.Header = header_visit offset read
 event_visits offset read (event.Foreign version) = of_version offset version ∷ []
-event_visits offset read (event.Row r) = of_row r ∷ []
 event_visits offset read other = []
 
--- of b, a unit at that offset or the front of one
+-- of b, a unit at that offset or the front of one: its header or version, and then what its program comes to
 abbrev pub visits : Dialect → ℕ → List ℕ → List Visit
-visits dialect offset b = flat_map (event_visits offset (header_read dialect b)) (events dialect b)
+visits dialect offset b =
+    flat_map (event_visits offset (header_read dialect b)) (events dialect b) ++ map of_item (unit_items dialect b)
 
 abbrev pub open_visit : Bool → List Visit
 open_visit is_open = if is_open then of_open ∷ [] else []

@@ -4,7 +4,8 @@ use Rattle.std.specs.Prelude.{ℕ, List, [], flat_map, if◌then◌else◌}
 use Rattle.dl_field.specs.HeaderData.{HeaderData}
 use Rattle.dl_head.specs.declared.dialect.Dialect.{Dialect}
 use Rattle.dl_head.specs.declared.header.HeaderLengths.{HeaderLengths}
-use Rattle.dl_sections.specs.Section.{Visit, of_header, of_version, of_row, of_open, of_end, of_damage, section_visits}
+use Rattle.dl_rows.specs.Items.{a_row}
+use Rattle.dl_sections.specs.Section.{Visit, of_header, of_version, of_item, of_open, of_end, of_damage, section_visits}
 use Rattle.dl_print.specs.Text.{row_line, foreign_line, open_line}
 use Rattle.dl_print.specs.ValueText.{Strings}
 use Rattle.dl_print.specs.HeaderFields.{full_header_text}
@@ -24,10 +25,11 @@ header_shown style offset lengths h = if style.detail.header then full_header_te
 abbrev pub visit_text : DumpStyle → Visit → List ℕ
 visit_text style (of_header offset lengths h) = header_shown style offset lengths h
 visit_text style (of_version offset version) = foreign_line offset version
-visit_text style (of_row r) = row_line r
+visit_text style (of_item (a_row header r)) = row_line r
+visit_text style (of_item other) = []
 visit_text style of_open = open_line
 visit_text style (of_end h) = []
-visit_text style (of_damage offset kind) = []
+visit_text style (of_damage unit offset kind) = []
 
 abbrev pub visits_text : DumpStyle → List Visit → List ℕ
 visits_text style visits = flat_map (visit_text style) visits

@@ -3,13 +3,14 @@ use Rattle.std.specs.Prelude.{◌≡◌, ℕ, List, [], ◌∷◌, ◌++◌, Opt
 use Rattle.std.specs.Io.KnownBytes.{Appends}
 use Rattle.dl_head.specs.declared.dialect.Dialect.{Dialect}
 use Rattle.dl_rows.specs.declared.row.Row.{Row}
+use Rattle.dl_rows.specs.Items.{a_row}
 use Rattle.dl_sections.specs.declared.around.Survey.{Survey}
 use Rattle.dl_sections.specs.declared.in_memory.Telling.{Telling}
 use Rattle.dl_sections.specs.declared.in_memory.SectionRead.{SectionRead}
 use Rattle.dl_sections.specs.declared.in_memory.SectionStop.{SectionStop}
 use Rattle.dl_sections.specs.AroundInMemory.{ReadsAround}
 use Rattle.dl_sections.specs.InMemory.{ReadsSection, UnitStory, UnitTold}
-use Rattle.dl_sections.specs.Section.{Visit, of_header, of_version, of_row, of_open, of_end, of_damage}
+use Rattle.dl_sections.specs.Section.{Visit, of_header, of_version, of_item, of_open, of_end, of_damage}
 use Rattle.dl_sections.specs.Visiting.{Story}
 
 -- what was told so far: the units that are whole, and of the current one its offset, its version where such units aren't
@@ -23,9 +24,10 @@ pub record Heard : Type 0 where
 abbrev pub with_visit : Heard → Visit → Heard
 with_visit heard (of_header n l h) = record heard { offset = n; version = None }
 with_visit heard (of_version n version) = record heard { offset = n; version = Some version }
-with_visit heard (of_row r) = record heard { rows = heard.rows ++ r ∷ [] }
+with_visit heard (of_item (a_row header r)) = record heard { rows = heard.rows ++ r ∷ [] }
+with_visit heard (of_item other) = heard
 with_visit heard of_open = heard
-with_visit heard (of_damage n kind) = record heard { rows = [] }
+with_visit heard (of_damage unit n kind) = record heard { rows = [] }
 with_visit heard (of_end h) = record {
   offset = heard.offset;
   version = heard.version;

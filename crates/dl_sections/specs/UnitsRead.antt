@@ -1,5 +1,5 @@
 -- How the reader of a section stands. No promise rests on this file.
-use Rattle.std.specs.Prelude.{◌≡◌, ◌≢◌, ◌⊎◌, ◌≤◌, ℕ, ◌+◌, Bool, true, false, List, [], ◌∷◌, ◌++◌, length, Option, None, Some}
+use Rattle.std.specs.Prelude.{⊤, ◌≡◌, ◌≢◌, ◌⊎◌, ◌≤◌, ℕ, ◌+◌, Bool, true, false, List, [], ◌∷◌, ◌++◌, length, Option, None, Some}
 use Rattle.std.specs.Prelude.{Result, Ok, Err, count_by}
 use Rattle.std.specs.List.{AllByRecursion, concat}
 use Rattle.dl_head.specs.declared.dialect.Dialect.{Dialect}
@@ -8,6 +8,7 @@ use Rattle.dl_rows.specs.declared.reader.Event.{Event}
 use Rattle.dl_rows.specs.declared.reader.Event.TheVariants as event
 use Rattle.dl_rows.specs.LineUnit.{IsUnit, events}
 use Rattle.dl_rows.specs.ReaderStands.{StandsFor}
+use Rattle.dl_rows.specs.Reading.{row_told}
 use Rattle.dl_rows.specs.Refusal.{Refused}
 use Rattle.dl_rows.specs.Runs.{Sound}
 use Rattle.dl_sections.specs.declared.around.Damage.{Damage}
@@ -20,10 +21,6 @@ use Rattle.dl_print.specs.declared.summary.Summary.{Summary}
 use Rattle.dl_table.specs.declared.fault.FaultKind.TheVariants.{Truncated}
 use Rattle.dl_sections.specs.Section.{Visit, HasUnits, HasBegun, NoUnitBegins, RefusesCell, summary_of, units_visits, visits}
 use Rattle.dl_sections.specs.Visiting.{Story, Stopped, WritesFront, VisitorStops, Settled, header_told}
-
-abbrev pub row_told : Event → List Row
-row_told (event.Row r) = r ∷ []
-row_told other = []
 
 abbrev pub rows_told : List Event → List Row
 rows_told [] = []
@@ -88,7 +85,12 @@ ReaderStops {dialect} past u units b back (fault.Damage offset kind) =
 ReaderStops {dialect} past u units b back fault.NoMemory = Sound dialect b × RefusesCell dialect b back
 ReaderStops {dialect} past u units b back other = ⊥
 
--- `feed`: s is what was read before and the piece. Where the visitor stops, nothing that was read is refused.
+-- nothing that was read is refused, unless a write failed
+abbrev pub SoundUnlessWrite : Dialect → List ℕ → RunFault → Type 0
+SoundUnlessWrite dialect b (fault.Write out) = ⊤
+SoundUnlessWrite dialect b other = Sound dialect b
+
+-- `feed`: s is what was read before and the piece
 abbrev pub UnitsFed : {S : Type 0} {dialect : Dialect} → Story S → Before dialect → (s : List ℕ) (first new : S)
     (start now : Option (List ℕ))
     → SectionUnits → Result Flow RunFault → Type 0
@@ -101,8 +103,8 @@ UnitsFed {dialect = dialect} story past s first new start now u (Ok flow.Stop) =
 UnitsFed {dialect = dialect} story past s first new start now u (Err f) =
     (units : List (List ℕ)) × (b : List ℕ) × (back : List ℕ) × HasBegun dialect s units b back
     × ((ReaderStops past u units b back f × story.tells first new start now (visits_since past units b))
-    ⊎ (Sound dialect b × (heard : List Visit) × (more : List Visit) × (visits_since past units b ≡ heard ++ more)
-    × Stopped story first new start now heard f))
+    ⊎ (SoundUnlessWrite dialect b f × (heard : List Visit) × (more : List Visit)
+    × (visits_since past units b ≡ heard ++ more) × Stopped story first new start now heard f))
 
 abbrev pub is_failed_write : {A : Type 0} → Result A RunFault → Bool
 is_failed_write (Err (fault.Write out)) = true

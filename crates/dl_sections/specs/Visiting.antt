@@ -9,6 +9,7 @@ use Rattle.dl_sections.specs.declared.fault.RunFault.{RunFault}
 use Rattle.dl_sections.specs.declared.fault.RunFault.TheVariants as fault
 use Rattle.dl_rows.specs.declared.sink.Flow.{Flow}
 use Rattle.dl_rows.specs.declared.sink.Flow.TheVariants as flow
+use Rattle.dl_print.specs.declared.fault.WriteFault.{WriteFault}
 use Rattle.dl_print.specs.declared.summary.Summary.{Summary}
 use Rattle.dl_sections.specs.RunOutput.{TellsOut}
 use Rattle.dl_sections.specs.Section.{Visit, of_damage, of_header, of_end, HasUnits, HasBegun, EndsAs, section_visits, summary_of}
@@ -46,6 +47,11 @@ StopsIn story first new start now visits more f =
     (heard : List Visit) × (back : List Visit) × (more ≡ heard ++ back)
     × Stopped story first new start now (visits ++ heard) f
 
+-- the fault of a failed write, as a command's
+abbrev pub as_run : {A : Type 0} → Result A WriteFault → Result A RunFault
+as_run (Ok a) = Ok a
+as_run (Err f) = Err (fault.Write f.out)
+
 -- it is told more visits, up to one at which it stops
 abbrev pub Hears : {S A : Type 0} → Story S → (old new : S) (before after : Option (List ℕ)) (more : List Visit)
     → Result A RunFault → Type 0
@@ -65,7 +71,7 @@ abbrev pub header_told : Option HeaderData → List Visit → Option HeaderData
 header_told header [] = header
 header_told header (of_header offset l h ∷ visits) = header_told (Some h) visits
 header_told header (of_end h ∷ visits) = header_told None visits
-header_told header (of_damage offset kind ∷ visits) = header_told None visits
+header_told header (of_damage unit offset kind ∷ visits) = header_told None visits
 header_told header (visit ∷ visits) = header_told header visits
 
 -- it is told the last visits of a unit, of which it was told the header, where it has one

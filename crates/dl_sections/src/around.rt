@@ -66,10 +66,10 @@ impl Survey {
 pub trait AroundDamage<W: Destination>: Visitor<W> {
     ghost use Rattle.dl_sections.specs.GoingOn.{IsTold};
 
-    /// The current unit is damaged, and what was told of it isn't of a whole unit. Nothing is printed. No call of a visitor
-    /// fails by damage.
-    fn damaged(&mut self, damage: Damage)
-        ensures { IsTold Self.story self.old self.new damage };
+    /// The current unit, which begins at the offset `unit` of the section, is damaged, and what was told of it isn't of a
+    /// whole unit. Nothing is printed. No call of a visitor fails by damage.
+    fn damaged(&mut self, unit: u64, damage: Damage)
+        ensures { IsTold Self.story self.old self.new unit damage };
 }
 
 /// Where a reader is in a section whose damaged units it passes over.
@@ -122,7 +122,7 @@ impl UnitsAround {
                     let Some(damage) = fault.damage() else {
                         return Err(fault);
                     };
-                    visitor.damaged(damage);
+                    visitor.damaged(self.units.offset, damage);
                     match self.go_on(damage) {
                         Flow::On => rest = self.pass_over(rest),
                         Flow::Stop => return Ok(Flow::Stop),
@@ -285,7 +285,7 @@ pub(crate) fn finish<W: Destination, V: AroundDamage<W>>(
 {
     match units.units.cut_off() {
         Some(damage) => {
-            visitor.damaged(damage);
+            visitor.damaged(units.units.offset, damage);
             units.damaged = Some(also(units.damaged, damage));
             units.survey()
         }

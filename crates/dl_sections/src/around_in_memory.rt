@@ -27,7 +27,7 @@ pub trait UnitSinkAround: UnitSink {
 }
 
 impl<W: Destination, U: UnitSinkAround> AroundDamage<W> for Telling<'_, U> {
-    fn damaged(&mut self, damage: Damage) {
+    fn damaged(&mut self, _unit: u64, damage: Damage) {
         self.sink.damaged(damage);
     }
 }

@@ -16,8 +16,8 @@ use crate::section::{Visitor, read_units};
 use dl_head::{Header, HeaderLengths};
 use dl_input::Source;
 use dl_output::Destination;
-use dl_print::{Printer, Summary};
-use dl_rows::{Flow, Row};
+use dl_print::{Printer, Summary, WriteFault};
+use dl_rows::{Flow, Operation, Row};
 use std::alloc::Global;
 
 /// Prints nothing, and tells of damaged units.
@@ -46,7 +46,22 @@ impl<W: Destination, D: DamageSink> Visitor<W> for Checker<'_, D> {
     }
 
     #[inline(always)]
-    fn row(&mut self, _output: &mut W, _row: &Row) -> Result<(), RunFault> {
+    fn bytes(&mut self, _output: &mut W, _bytes: &[u8]) -> Result<(), WriteFault> {
+        Ok(())
+    }
+
+    #[inline(always)]
+    fn operation(
+        &mut self,
+        _output: &mut W,
+        _header: &Header,
+        _operation: Operation,
+    ) -> Result<(), WriteFault> {
+        Ok(())
+    }
+
+    #[inline(always)]
+    fn row(&mut self, _output: &mut W, _header: &Header, _row: &Row) -> Result<(), RunFault> {
         Ok(())
     }
 
@@ -64,7 +79,7 @@ impl<W: Destination, D: DamageSink> Visitor<W> for Checker<'_, D> {
 }
 
 impl<W: Destination, D: DamageSink> AroundDamage<W> for Checker<'_, D> {
-    fn damaged(&mut self, damage: Damage) {
+    fn damaged(&mut self, _unit: u64, damage: Damage) {
         self.damages.damaged(damage);
     }
 }

@@ -26,7 +26,7 @@ use dl_memory::{Memory, NoMemory};
 use dl_num::Order;
 use dl_output::Destination;
 use dl_print::{Printer, Summary, WriteFault};
-use dl_rows::{Flow, Row};
+use dl_rows::{Flow, Operation, Row};
 use std::io;
 use std::io::Write;
 
@@ -139,7 +139,22 @@ impl<W: Destination, M: Memory> Visitor<W> for Copier<'_, '_, M> {
     }
 
     #[inline(always)]
-    fn row(&mut self, _output: &mut W, row: &Row) -> Result<(), RunFault> {
+    fn bytes(&mut self, _output: &mut W, _bytes: &[u8]) -> Result<(), WriteFault> {
+        Ok(())
+    }
+
+    #[inline(always)]
+    fn operation(
+        &mut self,
+        _output: &mut W,
+        _header: &Header,
+        _operation: Operation,
+    ) -> Result<(), WriteFault> {
+        Ok(())
+    }
+
+    #[inline(always)]
+    fn row(&mut self, _output: &mut W, _header: &Header, row: &Row) -> Result<(), RunFault> {
         match self.program.push(self.memory, row) {
             Ok(()) => Ok(()),
             Err(NoMemory) => Err(RunFault::NoMemory),

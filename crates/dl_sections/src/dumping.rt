@@ -20,7 +20,7 @@ use dl_head::{Header, HeaderLengths};
 use dl_input::Source;
 use dl_output::Destination;
 use dl_print::{Printer, StringSections, Summary, WriteFault};
-use dl_rows::{Flow, Row};
+use dl_rows::{Flow, Operation, Row};
 use std::alloc::Global;
 
 /// Prints the events of units, and tells of damaged ones.
@@ -80,8 +80,23 @@ impl<W: Destination, D: DamageSink> Visitor<W> for Dumper<'_, D> {
         Ok(self.printer.foreign_unit(output, offset, version)?)
     }
 
+    #[inline(always)]
+    fn bytes(&mut self, _output: &mut W, _bytes: &[u8]) -> Result<(), WriteFault> {
+        Ok(())
+    }
+
+    #[inline(always)]
+    fn operation(
+        &mut self,
+        _output: &mut W,
+        _header: &Header,
+        _operation: Operation,
+    ) -> Result<(), WriteFault> {
+        Ok(())
+    }
+
     #[inline]
-    fn row(&mut self, output: &mut W, row: &Row) -> Result<(), RunFault> {
+    fn row(&mut self, output: &mut W, _header: &Header, row: &Row) -> Result<(), RunFault> {
         Ok(self.printer.row(output, row)?)
     }
 
@@ -99,7 +114,7 @@ impl<W: Destination, D: DamageSink> Visitor<W> for Dumper<'_, D> {
 }
 
 impl<W: Destination, D: DamageSink> AroundDamage<W> for Dumper<'_, D> {
-    fn damaged(&mut self, damage: Damage) {
+    fn damaged(&mut self, _unit: u64, damage: Damage) {
         self.damages.damaged(damage);
     }
 }

@@ -21,6 +21,8 @@ pub enum RunFault {
     SectionTooLong,
     /// No row answers for the address, or for one of those that were asked for. Of the commands here only `find` answers it.
     NotFound,
+    /// Some path has two MD5 sums, which are those of two files. None of the commands here answers it.
+    TwoSums,
     /// A unit isn't of version 5, or, of `copy_to_5`, of a version that is read. Its offset counts from the section's
     /// first byte. Only `copy` and `copy_to_5` answer it, and the next one.
     ForeignUnit { unit: u64 },
@@ -55,6 +57,7 @@ impl RunFault {
             RunFault::Damage { .. }
             | RunFault::SectionTooLong
             | RunFault::NotFound
+            | RunFault::TwoSums
             | RunFault::ForeignUnit { .. }
             | RunFault::Emit { .. } => 1,
             RunFault::NoMemory | RunFault::Read | RunFault::Write { .. } => 3,
@@ -76,6 +79,7 @@ impl fmt::Display for RunFault {
             RunFault::Write { .. } => write!(f, "cannot write the output"),
             RunFault::SectionTooLong => write!(f, "section too long"),
             RunFault::NotFound => write!(f, "no line for this address"),
+            RunFault::TwoSums => write!(f, "two MD5 sums of one path"),
             RunFault::ForeignUnit { unit } => write!(f, "unit 0x{unit:x} is not version 5"),
             RunFault::Emit { unit, .. } => {
                 write!(f, "cannot write unit 0x{unit:x}: unit too long")

@@ -13,8 +13,8 @@ use dl_head::{Header, HeaderLengths};
 use dl_input::Source;
 use dl_look::{Finder, Place};
 use dl_output::Destination;
-use dl_print::{Printer, StringSections, Summary};
-use dl_rows::{Flow, Row};
+use dl_print::{Printer, StringSections, Summary, WriteFault};
+use dl_rows::{Flow, Operation, Row};
 use std::alloc::Global;
 
 /// Looks a place up in the rows of each unit, and prints the first answer.
@@ -48,7 +48,22 @@ impl<W: Destination> Visitor<W> for Seeker<'_> {
     }
 
     #[inline(always)]
-    fn row(&mut self, _output: &mut W, row: &Row) -> Result<(), RunFault> {
+    fn bytes(&mut self, _output: &mut W, _bytes: &[u8]) -> Result<(), WriteFault> {
+        Ok(())
+    }
+
+    #[inline(always)]
+    fn operation(
+        &mut self,
+        _output: &mut W,
+        _header: &Header,
+        _operation: Operation,
+    ) -> Result<(), WriteFault> {
+        Ok(())
+    }
+
+    #[inline(always)]
+    fn row(&mut self, _output: &mut W, _header: &Header, row: &Row) -> Result<(), RunFault> {
         self.finder.row(row);
         Ok(())
     }

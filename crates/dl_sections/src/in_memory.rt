@@ -11,8 +11,8 @@ use crate::fault::RunFault;
 use crate::section::{SectionUnits, Visitor, work_through};
 use dl_head::{Dialect, FaultKind, Header, HeaderLengths};
 use dl_output::Destination;
-use dl_print::Summary;
-use dl_rows::{Flow, Row};
+use dl_print::{Summary, WriteFault};
+use dl_rows::{Flow, Operation, Row};
 use std::alloc::Global;
 use std::io;
 
@@ -111,7 +111,22 @@ impl<W: Destination, U: UnitSink> Visitor<W> for Telling<'_, U> {
     }
 
     #[inline(always)]
-    fn row(&mut self, _output: &mut W, row: &Row) -> Result<(), RunFault> {
+    fn bytes(&mut self, _output: &mut W, _bytes: &[u8]) -> Result<(), WriteFault> {
+        Ok(())
+    }
+
+    #[inline(always)]
+    fn operation(
+        &mut self,
+        _output: &mut W,
+        _header: &Header,
+        _operation: Operation,
+    ) -> Result<(), WriteFault> {
+        Ok(())
+    }
+
+    #[inline(always)]
+    fn row(&mut self, _output: &mut W, _header: &Header, row: &Row) -> Result<(), RunFault> {
         self.sink.row(row);
         Ok(())
     }

@@ -12,7 +12,8 @@ use crate::section::{Visitor, read_units};
 use dl_head::{Header, HeaderLengths};
 use dl_input::Source;
 use dl_output::Destination;
-use dl_rows::{Flow, Row};
+use dl_print::WriteFault;
+use dl_rows::{Flow, Operation, Row};
 use std::alloc::Global;
 use std::io;
 
@@ -99,7 +100,22 @@ impl<W: Destination> Visitor<W> for OtherVersions {
     }
 
     #[inline(always)]
-    fn row(&mut self, _output: &mut W, _row: &Row) -> Result<(), RunFault> {
+    fn bytes(&mut self, _output: &mut W, _bytes: &[u8]) -> Result<(), WriteFault> {
+        Ok(())
+    }
+
+    #[inline(always)]
+    fn operation(
+        &mut self,
+        _output: &mut W,
+        _header: &Header,
+        _operation: Operation,
+    ) -> Result<(), WriteFault> {
+        Ok(())
+    }
+
+    #[inline(always)]
+    fn row(&mut self, _output: &mut W, _header: &Header, _row: &Row) -> Result<(), RunFault> {
         Ok(())
     }
 

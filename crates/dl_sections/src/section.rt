@@ -18,7 +18,7 @@ ghost use Rattle.dl_print.specs.Counts.{add};
 ghost use Rattle.dl_sections.specs.Section.{Visit, NoUnitBegins, event_visits, header_of, header_read, open_visit, end_visits};
 ghost use Rattle.dl_sections.specs.Told.{FeedsTold};
 ghost use Rattle.dl_sections.specs.Visiting.{Hears, HearsEnd, Ran};
-ghost use Rattle.dl_sections.specs.UnitsRead.{Before, UnitsAre, UnitsFed, Worked, Finishes, counted, row_told, is_failed_write};
+ghost use Rattle.dl_sections.specs.UnitsRead.{Before, UnitsAre, UnitsFed, Worked, Finishes, counted, is_failed_write};
 ghost use Rattle.dl_sections.specs.UnitsRead.{CutsOff, visits_since};
 ghost use Rattle.dl_sections.specs.GoingOn.{BeginsAt};
 
@@ -28,8 +28,8 @@ use crate::options::{Options, SECTION_LIMIT};
 use dl_head::{Dialect, Fault, Header, HeaderLengths};
 use dl_input::{Input, Source};
 use dl_output::Destination;
-use dl_print::Summary;
-use dl_rows::{Event, Fed, Flow, Reader, Row, RowSink};
+use dl_print::{Summary, WriteFault};
+use dl_rows::{Event, Fed, Flow, Operation, ProgramSink, Reader, Row};
 use std::alloc::Global;
 use std::mem;
 
@@ -38,11 +38,12 @@ use std::mem;
 ///
 /// An `Err` stops the reading, and is what `read_units` answers.
 pub trait Visitor<W: Destination> {
-    ghost use Rattle.std.specs.Prelude.{◌∷◌, []};
+    ghost use Rattle.std.specs.Prelude.{◌∷◌, [], map};
+    ghost use Rattle.dl_rows.specs.Items.{a_byte, a_row, an_operation};
     ghost use Rattle.dl_rows.specs.declared.sink.Flow.{Flow};
-    ghost use Rattle.dl_sections.specs.Section.{of_header, of_version, of_row, of_open, of_end};
+    ghost use Rattle.dl_sections.specs.Section.{of_header, of_version, of_item, of_open, of_end};
     ghost use Rattle.dl_sections.specs.Blaming.{BlamesWriter};
-    ghost use Rattle.dl_sections.specs.Visiting.{Story, Hears, HearsEnd, Settles};
+    ghost use Rattle.dl_sections.specs.Visiting.{Story, Hears, HearsEnd, Settles, as_run};
 
     /// What is said of the visitor and of what it prints.
     ghost story: { Story Self };
@@ -65,10 +66,27 @@ pub trait Visitor<W: Destination> {
             (of_version offset version ∷ []) result }
         ensures blames_writer { BlamesWriter W.fails result };
 
-    /// The current unit has this row.
-    fn row(&mut self, output: &mut W, row: &Row) -> Result<(), RunFault>
+    /// These are the next bytes of the program of the current unit, none of them after the end of the current operation.
+    fn bytes(&mut self, output: &mut W, bytes: &[u8]) -> Result<(), WriteFault>
         ensures heard { Hears story self.old self.new (W.contents output.old) (W.contents output.new)
-            (of_row row.now ∷ []) result }
+            (map of_item (map a_byte bytes.now)) (as_run result) }
+        ensures blames_writer { BlamesWriter W.fails (as_run result) };
+
+    /// The bytes that were told since the last operation are this one, under the header of the current unit.
+    fn operation(
+        &mut self,
+        output: &mut W,
+        header: &Header,
+        operation: Operation,
+    ) -> Result<(), WriteFault>
+        ensures heard { Hears story self.old self.new (W.contents output.old) (W.contents output.new)
+            (of_item (an_operation header.now operation) ∷ []) (as_run result) }
+        ensures blames_writer { BlamesWriter W.fails (as_run result) };
+
+    /// This operation appends this row, under the header of the current unit.
+    fn row(&mut self, output: &mut W, header: &Header, row: &Row) -> Result<(), RunFault>
+        ensures heard { Hears story self.old self.new (W.contents output.old) (W.contents output.new)
+            (of_item (a_row header.now row.now) ∷ []) result }
         ensures blames_writer { BlamesWriter W.fails result };
 
     /// The current unit is whole, and its last row isn't an end row.
@@ -91,7 +109,7 @@ pub trait Visitor<W: Destination> {
         ensures blames_writer { BlamesWriter W.fails result };
 }
 
-/// Tells a visitor the rows of a unit, and counts them.
+/// Tells a visitor the program of a unit, and counts its rows. Once the visitor stopped it is told nothing more.
 #[derive(Drop)]
 struct Told<'a, W, V> {
     output: &'a mut W,
@@ -103,16 +121,39 @@ struct Told<'a, W, V> {
     failed: Option<RunFault>,
 }
 
-impl<W: Destination, V: Visitor<W>> RowSink for Told<'_, W, V> {
+impl<W: Destination, V: Visitor<W>> ProgramSink for Told<'_, W, V> {
     ghost use Rattle.dl_sections.specs.Told.{told_story};
 
     ghost story = { told_story V.story W.fails W.contents };
 
     #[inline(always)]
-    fn row(&mut self, row: &Row) -> Flow {
+    fn bytes(&mut self, bytes: &[u8]) {
+        if self.failed.is_some() {
+            return;
+        }
+        if let Err(fault) = self.visitor.bytes(self.output, bytes) {
+            self.failed = Some(RunFault::from(fault));
+        }
+    }
+
+    #[inline(always)]
+    fn operation(&mut self, header: &Header, operation: Operation) {
+        if self.failed.is_some() {
+            return;
+        }
+        if let Err(fault) = self.visitor.operation(self.output, header, operation) {
+            self.failed = Some(RunFault::from(fault));
+        }
+    }
+
+    #[inline(always)]
+    fn row(&mut self, header: &Header, row: &Row) -> Flow {
+        if self.failed.is_some() {
+            return Flow::Stop;
+        }
         self.rows = self.rows.saturating_add(1);
         self.sequences = self.sequences.saturating_add(u64::from(row.end_sequence));
-        match self.visitor.row(self.output, row) {
+        match self.visitor.row(self.output, header, row) {
             Ok(()) => Flow::On,
             Err(fault) => {
                 self.failed = Some(fault);
@@ -181,7 +222,7 @@ impl SectionUnits {
     {
         let mut rest = piece;
         'events: loop {
-            let fed = match self.feed_rows(output, visitor, rest)? {
+            let fed = match self.feed_program(output, visitor, rest)? {
                 Ok(fed) => fed,
                 Err(fault) => return Err(self.damage(fault)),
             };
@@ -199,9 +240,9 @@ impl SectionUnits {
         }
     }
 
-    /// Feeds the reader, and tells the visitor the rows that come before its answer, and that of its
-    /// answer. `Err` where the visitor stopped.
-    fn feed_rows<W: Destination, V: Visitor<W>>(
+    /// Feeds the reader, and tells the visitor what the bytes of a program come to that it takes, the row of its answer too.
+    /// `Err` where the visitor stopped.
+    fn feed_program<W: Destination, V: Visitor<W>>(
         &mut self,
         output: &mut W,
         visitor: &mut V,
@@ -222,7 +263,7 @@ impl SectionUnits {
             rows: self.rows,
             failed: None,
         };
-        let fed = self.reader.feed_rows(piece, &mut told);
+        let fed = self.reader.feed_program(piece, &mut told);
         let Told {
             output: _,
             visitor: _,
@@ -247,7 +288,7 @@ impl SectionUnits {
         event: Event,
     ) -> Result<(), RunFault>
         ensures counted { self.new ≡ counted event self.old }
-        ensures heard { (b : List ℕ) → row_told event ≡ [] → StandsFor self.old.reader b
+        ensures heard { (b : List ℕ) → StandsFor self.old.reader b
             → Hears V.story visitor.old visitor.new (W.contents output.old) (W.contents output.new)
             (event_visits self.old.offset (header_read self.old.reader.dialect b) event) result }
         ensures blames_writer { BlamesWriter W.fails result }

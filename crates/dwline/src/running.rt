@@ -3,8 +3,8 @@
 use crate::ending::Ending;
 use crate::indices::{list_index, write_index};
 use dl_addr::WhichFound;
-use dl_cmd::{AddrWords, IndexWords, Job};
-use dl_locating::locate;
+use dl_cmd::{AddrWords, IndexWords, Job, LinesWords, SourcesWords};
+use dl_locating::{find_lines, list_sources, locate};
 use dl_memory::System;
 use dl_open::{FileSource, FileUnits, units_not_read};
 use dl_program::{Stop, StopLines, file_units, looked_into, work};
@@ -32,6 +32,8 @@ pub fn run_job<'a, F: FileSource>(
     match &job {
         Job::Addr(words) => run_addr(rt, files, words, path, read),
         Job::Index(words) => run_index(rt, files, words, path, read),
+        Job::Lines(words) => run_lines(rt, files, words, path, read),
+        Job::Sources(words) => run_sources(rt, files, words),
         Job::Dump { .. } | Job::Check { .. } | Job::Find { .. } | Job::Copy { .. } => {
             run_work(rt, files, job, path, read)
         }
@@ -77,6 +79,49 @@ fn run_index<'a, F: FileSource>(
     if survey.summary.skipped > 0 {
         tell_not_read(rt, files, path, read);
     }
+    match survey.damaged {
+        Some(units) => Err(Ending::Stop(Stop::Damaged { units })),
+        None => Ok(0),
+    }
+}
+
+/// Answers the lines of `lines`.
+fn run_lines<'a, F: FileSource>(
+    rt: &HostRuntime,
+    files: &F,
+    words: &LinesWords<'a>,
+    path: Option<&str>,
+    read: FileUnits,
+) -> Result<u8, Ending<'a>> {
+    let located = find_lines(
+        &System::new(rt.alloc()),
+        words,
+        files,
+        &mut rt.stdin(),
+        &mut rt.stdout(),
+    )?;
+    match located.found {
+        WhichFound::All => Ok(0),
+        WhichFound::NotAll => {
+            tell_not_read(rt, files, path, read);
+            Ok(1)
+        }
+    }
+}
+
+/// Lists the source files.
+fn run_sources<'a, F: FileSource>(
+    rt: &HostRuntime,
+    files: &F,
+    words: &SourcesWords<'a>,
+) -> Result<u8, Ending<'a>> {
+    let survey = list_sources(
+        &System::new(rt.alloc()),
+        words,
+        files,
+        &mut rt.stdin(),
+        &mut rt.stdout(),
+    )?;
     match survey.damaged {
         Some(units) => Err(Ending::Stop(Stop::Damaged { units })),
         None => Ok(0),

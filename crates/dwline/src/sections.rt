@@ -7,13 +7,14 @@ use dl_open::{FileSource, Shown};
 use dl_system::SystemFiles;
 use std::io::Write;
 
-/// Whether a job looks addresses up in no section that is named.
+/// Whether a job looks up addresses or lines in no section that is named.
 fn names_no_section(job: &Job<'_>) -> bool {
     match job {
         Job::Find { section, .. } => section.is_none(),
         Job::Addr(words) => words.section.is_none(),
         Job::Index(words) => words.section.is_none() && !words.list,
-        Job::Dump { .. } | Job::Check { .. } | Job::Copy { .. } => false,
+        Job::Lines(words) => words.section.is_none(),
+        Job::Dump { .. } | Job::Check { .. } | Job::Copy { .. } | Job::Sources(_) => false,
     }
 }
 

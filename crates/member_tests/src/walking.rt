@@ -39,6 +39,9 @@ const DUMP: Job<'static> = Job::Dump {
     strings: None,
     keep_going: true,
     header: false,
+    operations: false,
+    paths: false,
+    comp_dir: None,
 };
 
 /// How a walk ends.

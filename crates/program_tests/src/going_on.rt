@@ -102,6 +102,9 @@ fn job_of(checks: bool) -> Job<'static> {
         strings: None,
         keep_going: true,
         header: false,
+        operations: false,
+        paths: false,
+        comp_dir: None,
     }
 }
 

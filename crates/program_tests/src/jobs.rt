@@ -39,6 +39,9 @@ fn job_of(command: Command) -> Job<'static> {
             strings: None,
             keep_going: matches!(command, Command::DumpAround),
             header: false,
+            operations: false,
+            paths: false,
+            comp_dir: None,
         },
         Command::Check | Command::CheckAround => Job::Check {
             file,
@@ -114,7 +117,7 @@ const NONE_DAMAGED: &[u8] = b"units 2 skipped 0 sequences 2 rows 6 damaged 0\n";
 
 const BROKEN: &str = "dwline: elf: cannot read: broken pipe\n";
 
-const NO_LINES: &str = "dwline: elf: no section .debug_line (its debug information may be in \
+pub const NO_LINES: &str = "dwline: elf: no section .debug_line (its debug information may be in \
                         .build-id/ab/cdef.debug)\n";
 
 /// A file, which of its bytes can't be read, a command, and its status and what it writes.

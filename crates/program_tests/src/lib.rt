@@ -16,6 +16,8 @@ mod indices;
 #[cfg(test)]
 mod jobs;
 #[cfg(test)]
+mod listed;
+#[cfg(test)]
 mod memory;
 #[cfg(test)]
 mod shelf;

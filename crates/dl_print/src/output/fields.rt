@@ -45,12 +45,12 @@ impl Printer {
 
     /// Prints a number that may be below zero, after a space.
     #[tactic(auto, unfolding(crate::specs::HeaderFields::signed_text))]
-    fn signed<W: Destination>(&mut self, output: &mut W, number: i8) -> Result<(), WriteFault>
+    pub fn signed<W: Destination>(&mut self, output: &mut W, number: i64) -> Result<(), WriteFault>
         ensures printed { Prints (W.contents output.old) (W.contents output.new) self.old self.new
             (signed_text number) result }
         ensures blames { BlamesWriter W.fails result }
     {
-        let size = u64::from(number.unsigned_abs());
+        let size = number.unsigned_abs();
         if number < 0 {
             self.number(output, b" -", size)
         } else {
@@ -71,7 +71,7 @@ impl Printer {
         ensures blames { BlamesWriter W.fails result }
     {
         self.put(output, name)?;
-        self.signed(output, number)?;
+        self.signed(output, i64::from(number))?;
         self.put(output, b"\n")
     }
 

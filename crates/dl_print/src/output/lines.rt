@@ -2,14 +2,14 @@
 ghost use Rattle.std.specs.Prelude.{◌+◌, ◌^◌, ◌<◌, ◌≤◌, OnOk};
 ghost use Rattle.dl_print.specs.Output.{BlamesWriter, Prints, printed_len};
 ghost use Rattle.dl_print.specs.Text.{row_line, unit_line, foreign_line, open_line, missing_line, summary_line};
-ghost use Rattle.dl_print.specs.Text.{survey_line};
+ghost use Rattle.dl_print.specs.Text.{row_text, survey_line};
 
 use super::Printer;
 use crate::fault::WriteFault;
 use crate::summary::Summary;
 use crate::text::{
-    write_foreign_line, write_missing_line, write_row, write_summary_line, write_survey_line,
-    write_unit_line,
+    write_foreign_line, write_missing_line, write_row, write_row_text, write_summary_line,
+    write_survey_line, write_unit_line,
 };
 use dl_head::Params;
 use dl_output::Destination;
@@ -25,6 +25,17 @@ impl Printer {
     {
         self.make_room(output)?;
         self.held = write_row(&mut self.buffer, self.held, row);
+        Ok(())
+    }
+
+    /// Prints what the line of a row says, without the newline at its end.
+    pub fn row_text<W: Destination>(&mut self, output: &mut W, row: &Row) -> Result<(), WriteFault>
+        ensures printed { Prints (W.contents output.old) (W.contents output.new)
+            self.old self.new (row_text row.now) result }
+        ensures blames { BlamesWriter W.fails result }
+    {
+        self.make_room(output)?;
+        self.held = write_row_text(&mut self.buffer, self.held, row);
         Ok(())
     }
 

@@ -160,6 +160,19 @@ impl Printer {
         Ok(())
     }
 
+    /// Prints two digits for each byte.
+    pub fn hexadecimal_bytes<W: Destination>(
+        &mut self,
+        output: &mut W,
+        bytes: &[u8],
+    ) -> Result<(), WriteFault>
+        ensures printed { Prints (W.contents output.old) (W.contents output.new)
+            self.old self.new (hexadecimal_bytes bytes.now) result }
+        ensures blames { BlamesWriter W.fails result }
+    {
+        self.spelled(output, Spelling::Digits, bytes)
+    }
+
     /// Prints a text in quotes.
     fn quoted<W: Destination>(&mut self, output: &mut W, text: &[u8]) -> Result<(), WriteFault>
         ensures printed { Prints (W.contents output.old) (W.contents output.new)

@@ -1,6 +1,6 @@
 //! The line of a row.
 ghost use Rattle.std.specs.Prelude.{◌≡◌, ◌+◌, ◌≤◌, [], ◌∷◌, ◌++◌, length, take, decimal};
-ghost use Rattle.dl_print.specs.Text.{row_line, place_text, flags_text, flag, number_if_any};
+ghost use Rattle.dl_print.specs.Text.{row_line, row_text, place_text, flags_text, flag, number_if_any};
 
 use crate::text::digits::{
     write_byte, write_bytes, write_decimal, write_number, write_sixteen_digits,
@@ -78,15 +78,25 @@ fn write_flags(buffer: &mut [u8], at: usize, row: &Row) -> usize
     write_if(buffer, at, row.end_sequence, b" end")
 }
 
+/// Writes what the line of a row says, and answers where it ends.
+#[inline]
+pub fn write_row_text(buffer: &mut [u8], at: usize, row: &Row) -> usize
+    requires { at + 191 ≤ length buffer.old }
+    ensures written { take result buffer.new ≡ take at buffer.old ++ row_text row.now }
+    ensures room { result ≤ at + 191 }
+{
+    let at = write_place(buffer, at, row);
+    let at = write_flags(buffer, at, row);
+    let at = write_number_if_any(buffer, at, b" isa ", row.isa);
+    write_number_if_any(buffer, at, b" disc ", row.discriminator)
+}
+
 /// Writes the line of a row, and answers where it ends.
 pub fn write_row(buffer: &mut [u8], at: usize, row: &Row) -> usize
     requires { at + 192 ≤ length buffer.old }
     ensures written { take result buffer.new ≡ take at buffer.old ++ row_line row.now }
     ensures room { result ≤ at + 192 }
 {
-    let at = write_place(buffer, at, row);
-    let at = write_flags(buffer, at, row);
-    let at = write_number_if_any(buffer, at, b" isa ", row.isa);
-    let at = write_number_if_any(buffer, at, b" disc ", row.discriminator);
+    let at = write_row_text(buffer, at, row);
     write_byte(buffer, at, b'\n')
 }

@@ -7,4 +7,6 @@ returns-clause-app c =
     let three = c.in_ok-line-3.ensures.app _ _ two c.dump.ensures.app in
     let four = c.in_ok-line-4.ensures.app _ _ three c.check.ensures.app in
     let five = c.in_ok-line-5.ensures.app _ _ four c.find.ensures.app in
-    c.with_command-6.ensures.app _ _ five c.copy.ensures.app
+    let six = c.in_ok-line-6.ensures.app _ _ five c.copy.ensures.app in
+    let seven = c.in_ok-line-7.ensures.app _ _ six c.sources.ensures.app in
+    c.with_command-8.ensures.app _ _ seven c.lines.ensures.app

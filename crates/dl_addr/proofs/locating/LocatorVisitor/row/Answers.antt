@@ -2,11 +2,12 @@ use Rattle.std.proofs.Common.{◌≡◌, Bool, List, [], ◌∷◌, ◌++◌, re
 use Rattle.std.specs.Prelude.{if◌then◌else◌}
 use Rattle.std.specs.Option.{option_copied}
 use Rattle.dl_rows.specs.declared.row.Row.{Row}
+use Rattle.dl_rows.specs.Items.{a_row}
 use Rattle.dl_look.specs.FinderRows.{unended}
 use Rattle.dl_look.specs.FindersRows.{Stand}
 use Rattle.dl_look.specs.LiveRows.{live_rows}
 use Rattle.dl_sections.specs.RowsTold.{rows_after}
-use Rattle.dl_sections.specs.Section.{of_row}
+use Rattle.dl_sections.specs.Section.{of_item}
 use Rattle.dl_addr.specs.Code.{is_code}
 use Rattle.dl_addr.specs.Locating.{code_of}
 use Rattle.dl_addr.proofs.LocatorLemmas.{goes_on}
@@ -27,7 +28,7 @@ returns-then-takes-clause-heard g c first start visits s =
       live = c.takes.new.self;
       finders =
           c.row.new.self;
-    }) start (g.W.Write.contents c.args._output.now) visits (of_row r ∷ []) s
+    }) start (g.W.Write.contents c.args._output.now) visits (of_item (a_row c.args._header.now r) ∷ []) s
     (λ x n. refl) refl refl refl refl refl refl refl (c.takes.ensures.goes_on live rows s.live is) refl refl
     (λ places units st. subst (λ (l : List Row). Stand c.row.new.self places units l) (sym told)
     (c.row.ensures.stand places units (live_rows live rows) st)) c.row.ensures.count
@@ -47,6 +48,6 @@ returns-else-takes-clause-heard g c first start visits s =
     goes_on first c.args.self.now (record c.args.self.now {
       live =
           c.takes.new.self;
-    }) start (g.W.Write.contents c.args._output.now) visits (of_row r ∷ []) s
+    }) start (g.W.Write.contents c.args._output.now) visits (of_item (a_row c.args._header.now r) ∷ []) s
     (λ x n. refl) refl refl refl refl refl refl refl (c.takes.ensures.goes_on live rows s.live is) refl refl
     (λ places units st. subst (λ (l : List Row). Stand c.args.self.now.finders places units l) (sym told) st) refl

@@ -18,3 +18,9 @@ returns-in-Addr c = rw c.in-Addr.is refl
 
 pub returns-in-Index : goal.returns-in-Index
 returns-in-Index c = rw c.in-Index.is refl
+
+pub returns-in-Sources : goal.returns-in-Sources
+returns-in-Sources c = rw c.in-Sources.is refl
+
+pub returns-in-Lines : goal.returns-in-Lines
+returns-in-Lines c = rw c.in-Lines.is refl

@@ -1,7 +1,8 @@
 use Rattle.std.proofs.Common.{true, [], ◌∷◌, refl, subst, sym, ap, ◌∙◌}
 use Rattle.std.specs.Option.{option_copied}
+use Rattle.dl_rows.specs.Items.{a_row}
 use Rattle.dl_sections.specs.RowsTold.{rows_after}
-use Rattle.dl_sections.specs.Section.{of_row}
+use Rattle.dl_sections.specs.Section.{of_item}
 use Rattle.dl_sections.proofs.VisitLemmas.{rows_after-append}
 use Rattle.dl_addr.specs.Code.{is_code}
 use Rattle.dl_stretch.specs.Stands.{Stands}
@@ -15,7 +16,7 @@ returns-in-Ok-clause-heard g c first start visits s =
     let live = code_of first in
     let rows = rows_after [] visits in
     let r = c.args.row.now in
-    let more = of_row r ∷ [] in
+    let more = of_item (a_row c.args._header.now r) ∷ [] in
     goes_on first c.args.self.now (record c.args.self.now { runs = c.row.new.self }) start
     (g.W.Write.contents c.args._output.now) visits more s
     (λ rows n x. refl) (record { memory = refl; code = refl; directories = refl; strings = refl }) refl refl refl
@@ -27,6 +28,6 @@ returns-in-Ok-clause-heard g c first start visits s =
 pub returns-in-Err-clause-heard : goal.returns-in-Err-clause-heard
 returns-in-Err-clause-heard g c first start visits s =
     stops g.M.Memory.refuses first c.args.self.now (record c.args.self.now { runs = c.row.new.self; is_refused = true }) start
-    (g.W.Write.contents c.args._output.now) visits (of_row c.args.row.now) s
+    (g.W.Write.contents c.args._output.now) visits (of_item (a_row c.args._header.now c.args.row.now)) s
     (record { memory = refl; code = refl; directories = refl; strings = refl }) refl refl
     (row_wants first c.args.self.now start (g.W.Write.contents c.args._output.now) visits s c.in-Err.ensures.refused)

@@ -1,5 +1,5 @@
-use Rattle.std.proofs.Common.{w8, [], ◌∷◌, ◌++◌, refl}
-use Rattle.std.proofs.lemmas.Int.{to_z-of_z}
+use Rattle.std.proofs.Common.{w64, w8, SFits, ℤ, to_z, of_z, ap, ◌∙◌, [], ◌∷◌, ◌++◌, refl}
+use Rattle.std.proofs.Math.Facts.{sfits_widen, to_z-of_z}
 use Rattle.std.proofs.lemmas.Result.{err_from_is_err_and}
 use Rattle.dl_print.specs.HeaderFields.{signed_line, signed_text}
 use Rattle.dl_print.proofs.Outs.{Prints-both, PrintsMore-then, TellsOut-front, TellsOut-part}
@@ -19,7 +19,9 @@ pub returns-in_err-signed-clause-printed : goal.returns-in_err-signed-clause-pri
 unfolding signed_line
 returns-in_err-signed-clause-printed g c = λ start text h.
     let p = err_from_is_err_and c.from_residual-in_err-signed.result c.from_residual-in_err-signed.ensures.1 in
-    let same = to_z-of_z w8 c.args.number (record { sfits = c.ranges.number.sfits }) in
+    let fits : SFits w8 c.args.number = record { sfits = c.ranges.number.sfits } in
+    let same = ap (λ (z : ℤ). to_z w64 (of_z w64 z)) (c.from.ensures ∙ to_z-of_z fits)
+    ∙ to_z-of_z (sfits_widen {w = w8} {w' = w64} tt fits) in
     let name = c.args.name.now in
     let value = signed_text c.args.number in
     let tells = rw same at (c.in_err-signed.ensures.printed start _ (c.in_ok-put.ensures.printed start text h)) in
@@ -28,7 +30,9 @@ returns-in_err-signed-clause-printed g c = λ start text h.
 pub returns-clause-printed : goal.returns-clause-printed
 unfolding signed_line
 returns-clause-printed g c =
-    let same = to_z-of_z w8 c.args.number (record { sfits = c.ranges.number.sfits }) in
+    let fits : SFits w8 c.args.number = record { sfits = c.ranges.number.sfits } in
+    let same = ap (λ (z : ℤ). to_z w64 (of_z w64 z)) (c.from.ensures ∙ to_z-of_z fits)
+    ∙ to_z-of_z (sfits_widen {w = w8} {w' = w64} tt fits) in
     let name = c.args.name.now in
     let value = signed_text c.args.number in
     let two = rw same at c.in_ok-signed.ensures.printed in

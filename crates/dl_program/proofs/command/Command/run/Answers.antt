@@ -1,25 +1,28 @@
-use Rattle.std.proofs.Common.{◌∙◌, ap, sym}
-use Rattle.dl_program.specs.Asked.{all_whole}
+use Rattle.std.proofs.Common.{◌∙◌, Ok, ap, refl, sym}
+use Rattle.dl_program.specs.Answers.{all_whole, answered, answered_around, summed, summed_around}
+use Rattle.dl_program.specs.declared.command.Command.TheVariants.{Addr, AddrAround, Lines, LinesAround, Sources, SourcesAround}
 use Rattle.dl_sections.proofs.BlameLemmas.{blames_where}
-use Rattle.dl_program.proofs.BlameLemmas.{around_read, around_writer, found_read, found_writer, whole_read, whole_writer}
-use Rattle.dl_program.proofs.EndLemmas.{addr_around_over, addr_over, around_over, find_over, whole_over}
+use Rattle.dl_program.proofs.BlameLemmas.{around_read, around_writer, found_read, found_writer, sums_around_read}
+use Rattle.dl_program.proofs.BlameLemmas.{sums_around_writer, sums_read, sums_writer, whole_read, whole_writer}
+use Rattle.dl_program.proofs.EndLemmas.{around_over, find_over, told_around_over, told_over, whole_over}
 use Rattle.dl_program.proofs.command.Command.run.Goals as goal
 
 pub returns-in-DumpAround-clause-ran : goal.returns-in-DumpAround-clause-ran
-returns-in-DumpAround-clause-ran g c = rw c.in-DumpAround.is c.dump_around.ensures.ran
+returns-in-DumpAround-clause-ran g c =
+    rw c.in-DumpAround.is c.dump_details_around.ensures.ran
 
 pub returns-in-CheckAround-clause-ran : goal.returns-in-CheckAround-clause-ran
 returns-in-CheckAround-clause-ran g c = rw c.in-CheckAround.is c.check_around.ensures.ran
 
 pub returns-in-DumpAround-clause-blames : goal.returns-in-DumpAround-clause-blames
-returns-in-DumpAround-clause-blames g c = c.dump_around.ensures.blames
+returns-in-DumpAround-clause-blames g c = c.dump_details_around.ensures.blames
 
 pub returns-in-CheckAround-clause-blames : goal.returns-in-CheckAround-clause-blames
 returns-in-CheckAround-clause-blames g c = c.check_around.ensures.blames
 
 pub returns-in-Dump-clause-blames : goal.returns-in-Dump-clause-blames
 returns-in-Dump-clause-blames g c =
-    blames_where c.dump_with.ensures.blames (λ e. whole_read c.dump_with.result (sym c.all_whole.ensures ∙ e.1))
+    blames_where c.dump_details.ensures.blames (λ e. whole_read c.dump_details.result (sym c.all_whole.ensures ∙ e.1))
 
 pub returns-in-Check-clause-blames : goal.returns-in-Check-clause-blames
 returns-in-Check-clause-blames g c =
@@ -55,6 +58,26 @@ returns-in-AddrAround-clause-blames g c =
     blames_where c.addr_around.ensures.blames (λ e. around_read c.addr_around.result
     (sym c.answered_around.ensures ∙ e.1))
 
+pub returns-in-Lines-clause-blames : goal.returns-in-Lines-clause-blames
+returns-in-Lines-clause-blames g c =
+    blames_where c.lines.ensures.blames (λ e. found_read c.lines.result
+    (sym c.answered-in-Lines.ensures ∙ whole_read c.answered-in-Lines.result (sym c.all_whole-in-Lines.ensures ∙ e.1)))
+
+pub returns-in-LinesAround-clause-blames : goal.returns-in-LinesAround-clause-blames
+returns-in-LinesAround-clause-blames g c =
+    blames_where c.lines_around.ensures.blames (λ e. around_read c.lines_around.result
+    (sym c.answered_around-in-LinesAround.ensures ∙ e.1))
+
+pub returns-in-Sources-clause-blames : goal.returns-in-Sources-clause-blames
+returns-in-Sources-clause-blames g c =
+    blames_where c.sources.ensures.blames (λ e. sums_read c.sources.result
+    (sym c.summed.ensures ∙ whole_read c.summed.result (sym c.all_whole-in-Sources.ensures ∙ e.1)))
+
+pub returns-in-SourcesAround-clause-blames : goal.returns-in-SourcesAround-clause-blames
+returns-in-SourcesAround-clause-blames g c =
+    blames_where c.sources_around.ensures.blames (λ e. sums_around_read c.sources_around.result
+    (sym c.summed_around.ensures ∙ e.1))
+
 pub returns-in-IndexAround-clause-blames : goal.returns-in-IndexAround-clause-blames
 returns-in-IndexAround-clause-blames g c = blames_where c.write_index_around.ensures.blames (λ e. e.1)
 
@@ -63,7 +86,7 @@ returns-in-IndexUntilAround-clause-blames g c = blames_where c.write_index_until
 
 pub returns-in-Dump-clause-blames_writer : goal.returns-in-Dump-clause-blames_writer
 returns-in-Dump-clause-blames_writer g c none =
-    rw c.all_whole.ensures (whole_writer _ c.dump_with.result c.dump_with.ensures.blames_writer)
+    rw c.all_whole.ensures (whole_writer _ c.dump_details.result c.dump_details.ensures.blames_writer)
 
 pub returns-in-Check-clause-blames_writer : goal.returns-in-Check-clause-blames_writer
 returns-in-Check-clause-blames_writer g c none =
@@ -98,9 +121,27 @@ pub returns-in-AddrAround-clause-blames_writer : goal.returns-in-AddrAround-clau
 returns-in-AddrAround-clause-blames_writer g c none =
     rw c.answered_around.ensures (around_writer _ c.addr_around.result c.addr_around.ensures.blames_writer)
 
+pub returns-in-Lines-clause-blames_writer : goal.returns-in-Lines-clause-blames_writer
+returns-in-Lines-clause-blames_writer g c none =
+    rw c.all_whole-in-Lines.ensures (whole_writer _ c.answered-in-Lines.result
+    (rw c.answered-in-Lines.ensures (found_writer _ c.lines.result c.lines.ensures.blames_writer)))
+
+pub returns-in-LinesAround-clause-blames_writer : goal.returns-in-LinesAround-clause-blames_writer
+returns-in-LinesAround-clause-blames_writer g c none =
+    rw c.answered_around-in-LinesAround.ensures (around_writer _ c.lines_around.result c.lines_around.ensures.blames_writer)
+
+pub returns-in-Sources-clause-blames_writer : goal.returns-in-Sources-clause-blames_writer
+returns-in-Sources-clause-blames_writer g c none =
+    rw c.all_whole-in-Sources.ensures (whole_writer _ c.summed.result
+    (rw c.summed.ensures (sums_writer _ c.sources.result c.sources.ensures.blames_writer)))
+
+pub returns-in-SourcesAround-clause-blames_writer : goal.returns-in-SourcesAround-clause-blames_writer
+returns-in-SourcesAround-clause-blames_writer g c none =
+    rw c.summed_around.ensures (sums_around_writer _ c.sources_around.result c.sources_around.ensures.blames_writer)
+
 pub returns-in-Dump-clause-over : goal.returns-in-Dump-clause-over
 returns-in-Dump-clause-over g c none =
-    whole_over (g.R.Source.over c.dump_with.new.input) c.args.self _ c.dump_with.result c.all_whole.result c.in-Dump.is c.all_whole.ensures (λ f no. no) c.dump_with.ensures.over
+    whole_over (g.R.Source.over c.dump_details.new.input) c.args.self _ c.dump_details.result c.all_whole.result c.in-Dump.is c.all_whole.ensures (λ f no. no) c.dump_details.ensures.over
 
 pub returns-in-Check-clause-over : goal.returns-in-Check-clause-over
 returns-in-Check-clause-over g c none =
@@ -124,7 +165,7 @@ returns-in-IndexUntil-clause-over g c none =
 
 pub returns-in-DumpAround-clause-over : goal.returns-in-DumpAround-clause-over
 returns-in-DumpAround-clause-over g c none =
-    around_over (g.R.Source.over c.dump_around.new.input) c.args.self _ c.dump_around.result c.in-DumpAround.is (λ f no. no) (λ survey whole. whole) (c.dump_around.ensures.over none)
+    around_over (g.R.Source.over c.dump_details_around.new.input) c.args.self _ c.dump_details_around.result c.in-DumpAround.is (λ f no. no) (λ survey whole. whole) (c.dump_details_around.ensures.over none)
 
 pub returns-in-CheckAround-clause-over : goal.returns-in-CheckAround-clause-over
 returns-in-CheckAround-clause-over g c none =
@@ -145,13 +186,36 @@ returns-in-Find-clause-over g c none =
 
 pub returns-in-Addr-clause-over : goal.returns-in-Addr-clause-over
 returns-in-Addr-clause-over g c none =
-    addr_over (g.R.Source.over c.addr.new.input) c.args.self c.in-Addr.question c.addr.result c.all_whole-in-Addr.result c.in-Addr.is
-    (c.all_whole-in-Addr.ensures ∙ ap all_whole c.answered.ensures)
+    told_over (g.R.Source.over c.addr.new.input) c.args.self (Addr c.in-Addr.question) c.in-Addr.is (λ a. all_whole (answered a)) (λ f. refl)
+    c.addr.result c.all_whole-in-Addr.result (c.all_whole-in-Addr.ensures ∙ ap all_whole c.answered.ensures)
     (λ e. (let none = rw e at c.addr.ensures.ran.2 in none.3)) c.addr.ensures.over
+
+pub returns-in-Lines-clause-over : goal.returns-in-Lines-clause-over
+returns-in-Lines-clause-over g c none =
+    told_over (g.R.Source.over c.lines.new.input) c.args.self (Lines c.in-Lines.question) c.in-Lines.is (λ a. all_whole (answered a)) (λ f. refl)
+    c.lines.result c.all_whole-in-Lines.result (c.all_whole-in-Lines.ensures ∙ ap all_whole c.answered-in-Lines.ensures)
+    (λ e. (let none = rw e at c.lines.ensures.ran.2 in none.3)) c.lines.ensures.over
+
+pub returns-in-Sources-clause-over : goal.returns-in-Sources-clause-over
+returns-in-Sources-clause-over g c none =
+    told_over (g.R.Source.over c.sources.new.input) c.args.self (Sources c.in-Sources.question) c.in-Sources.is (λ a. all_whole (summed a)) (λ f. refl)
+    c.sources.result c.all_whole-in-Sources.result (c.all_whole-in-Sources.ensures ∙ ap all_whole c.summed.ensures)
+    (λ e. (let none = rw e at c.sources.ensures.ran.2 in none.3)) c.sources.ensures.over
 
 pub returns-in-AddrAround-clause-over : goal.returns-in-AddrAround-clause-over
 returns-in-AddrAround-clause-over g c none =
-    addr_around_over (g.R.Source.over c.addr_around.new.input) c.args.self c.in-AddrAround.question c.addr_around.result c.answered_around.result c.in-AddrAround.is
-    c.answered_around.ensures
-    (λ e. (let none = rw e at c.addr_around.ensures.ran.2 in none.2))
-    c.addr_around.ensures.over
+    told_around_over (g.R.Source.over c.addr_around.new.input) c.args.self (AddrAround c.in-AddrAround.question) c.in-AddrAround.is answered_around (λ f. refl)
+    (λ a. a.damaged) (λ a. all_whole (answered (Ok a.found))) (λ a. refl) c.addr_around.result c.answered_around.result c.answered_around.ensures
+    (λ e. (let none = rw e at c.addr_around.ensures.ran.2 in none.2)) c.addr_around.ensures.over
+
+pub returns-in-LinesAround-clause-over : goal.returns-in-LinesAround-clause-over
+returns-in-LinesAround-clause-over g c none =
+    told_around_over (g.R.Source.over c.lines_around.new.input) c.args.self (LinesAround c.in-LinesAround.question) c.in-LinesAround.is answered_around (λ f. refl)
+    (λ a. a.damaged) (λ a. all_whole (answered (Ok a.found))) (λ a. refl) c.lines_around.result c.answered_around-in-LinesAround.result c.answered_around-in-LinesAround.ensures
+    (λ e. (let none = rw e at c.lines_around.ensures.ran.2 in none.2)) c.lines_around.ensures.over
+
+pub returns-in-SourcesAround-clause-over : goal.returns-in-SourcesAround-clause-over
+returns-in-SourcesAround-clause-over g c none =
+    told_around_over (g.R.Source.over c.sources_around.new.input) c.args.self (SourcesAround c.in-SourcesAround.question) c.in-SourcesAround.is summed_around (λ f. refl)
+    (λ a. a.damaged) (λ a. all_whole (summed (Ok a.sums))) (λ a. refl) c.sources_around.result c.summed_around.result c.summed_around.ensures
+    (λ e. (let none = rw e at c.sources_around.ensures.ran.2 in none.2)) c.sources_around.ensures.over

@@ -4,5 +4,5 @@ use Rattle.dl_rows.proofs.reader.Reader.feed.Goals as goal
 
 pub returns-clause-fed : goal.returns-clause-fed
 returns-clause-fed c b s =
-    fed_alone c.args.self.now.dialect b c.args.piece.now c.feed_rows.result c.feed_rows.new.self _
-    (c.feed_rows.ensures.fed b [] _ s refl)
+    fed_alone c.args.self.now.dialect b c.args.piece.now c.feed_program.result c.feed_program.new.self _
+    (c.feed_program.ensures.fed b [] _ s refl)

@@ -3,7 +3,8 @@ use Rattle.dl_head.specs.declared.reader.HeadStep.TheVariants as answer
 use Rattle.dl_rows.proofs.HeadFeeds.{head_took, bytes_taken, come_to, goes_stands, feeds_goes, holds_more}
 use Rattle.dl_rows.proofs.HeadFeeds.{holds_refused, fails_head, stopped_head, feeds_version, feeds_header}
 use Rattle.dl_rows.proofs.HeadFeeds.{begun_in, begun_takes, comes_to, knows_foreign}
-use Rattle.dl_rows.proofs.ReaderLemmas.{cells_at}
+use Rattle.dl_rows.proofs.ReaderFeeds.{head_items, whole_items}
+use Rattle.dl_rows.proofs.ReaderLemmas.{cells_at, foreign_no_header}
 use Rattle.dl_rows.proofs.reader.Reader.feed_head.Goals as goal
 
 pub invariant_of-self : goal.invariant_of-self
@@ -36,27 +37,39 @@ returns-in-Fault-clause-fed c b s =
     let w = b ++ take c.offer-used.result.0 c.args.piece.now in
     let h = head_took c.in-InHeader.is s (λ i lt. omega (arith, c.type_inv.piece i))
     c.offer-used.ensures.offered c.offer-used.ensures.dialect in
-    let refused = come_to h _ c.in-Fault.is in (
-      c.offer-used.result.0,
-      fails_head h c.in-Fault.fault refused,
-      stopped_head h c.in-Fault.fault refused _ refl (c.taken.ensures w h.stands)
-          (rw h.same_dialect at (c.unit_len.ensures.unit w h.stands)) (cells_at c.args.self.now.dialect c.offer-used.new.self w c.cells.result h.same_dialect
-          (c.cells.ensures w h.stands)),
-    )
+    let refused = come_to h _ c.in-Fault.is in
+    let stopped = stopped_head h c.in-Fault.fault refused _ refl (c.taken.ensures w h.stands)
+    (rw h.same_dialect at (c.unit_len.ensures.unit w h.stands)) (cells_at c.args.self.now.dialect c.offer-used.new.self w c.cells.result h.same_dialect
+    (c.cells.ensures w h.stands)) in
+    record {
+      used = c.offer-used.result.0;
+      fed = (fails_head h c.in-Fault.fault refused, stopped);
+      items = head_items c.args.self.now.dialect w stopped.incomplete;
+    }
 
 pub returns-in-More-clause-fed : goal.returns-in-More-clause-fed
 returns-in-More-clause-fed c b s =
     let h = head_took c.in-InHeader.is s (λ i lt. omega (arith, c.type_inv.piece i))
     c.offer-used.ensures.offered c.offer-used.ensures.dialect in
     let goes = come_to h answer.More c.in-More.is in
-    feeds_goes h goes _ _ (goes_stands h goes) refl (holds_more h goes (h.whole c.in-More.is))
+    let stands = goes_stands h goes in
+    record {
+      used = c.offer-used.result.0;
+      fed = (refl, feeds_goes h goes _ _ stands refl (holds_more h goes (h.whole c.in-More.is)));
+      items = head_items c.args.self.now.dialect _ stands.incomplete;
+    }
 
 pub returns-in-NoMemory-clause-fed : goal.returns-in-NoMemory-clause-fed
 returns-in-NoMemory-clause-fed c b s =
     let h = head_took c.in-InHeader.is s (λ i lt. omega (arith, c.type_inv.piece i))
     c.offer-used.ensures.offered c.offer-used.ensures.dialect in
     let goes = come_to h answer.NoMemory c.in-NoMemory.is in
-    feeds_goes h goes _ _ (goes_stands h goes) refl (holds_refused h goes c.in-NoMemory.is)
+    let stands = goes_stands h goes in
+    record {
+      used = c.offer-used.result.0;
+      fed = (refl, feeds_goes h goes _ _ stands refl (holds_refused h goes c.in-NoMemory.is));
+      items = head_items c.args.self.now.dialect _ stands.incomplete;
+    }
 
 pub returns-in-Foreign-clause-fed : goal.returns-in-Foreign-clause-fed
 returns-in-Foreign-clause-fed c b s =
@@ -66,10 +79,18 @@ returns-in-Foreign-clause-fed c b s =
     let foreign = come_to h (answer.Foreign c.in-Foreign.version) c.in-Foreign.is in
     let some = begun_takes (begun_in c.in-InHeader.is c.args.self.now.begun) c.offer-used.ensures.progress
     (λ e. absurd (cc (sym c.in-Foreign.is ∙ e))) (λ e. absurd (cc (sym c.in-Foreign.is ∙ e))) in
-    feeds_version h _ c.in-Foreign.version foreign some (
-      c.in-Foreign.version,
-      record { counts = rw h.same_dialect at (c.bytes_of.ensures w h.stands); foreign = foreign },
-    )
+    record {
+      used = c.offer-used.result.0;
+      fed = (
+        refl,
+        feeds_version h _ c.in-Foreign.version foreign some (
+          c.in-Foreign.version,
+          record { counts = rw h.same_dialect at (c.bytes_of.ensures w h.stands); foreign = foreign },
+        ),
+      );
+      items = head_items c.args.self.now.dialect w
+          (foreign_no_header c.args.self.now.dialect w c.in-Foreign.version foreign);
+    }
 
 pub returns-in-Done-clause-fed : goal.returns-in-Done-clause-fed
 returns-in-Done-clause-fed c b s =
@@ -80,8 +101,15 @@ returns-in-Done-clause-fed c b s =
     let some = begun_takes (begun_in c.in-InHeader.is c.args.self.now.begun) c.offer-used.ensures.progress
     (λ e. absurd (cc (sym c.in-Done.is ∙ e))) (λ e. absurd (cc (sym c.in-Done.is ∙ e))) in
     let read = c.replace-read.ensures.value in
-    feeds_header h _ header.0 header.1 some
-    (rw (read, h.same_dialect) at (c.after_header.ensures.stands w (rw read h.stands) (bytes_taken h)))
+    record {
+      used = c.offer-used.result.0;
+      fed = (
+        refl,
+        feeds_header h _ header.0 header.1 some
+            (rw (read, h.same_dialect) at (c.after_header.ensures.stands w (rw read h.stands) (bytes_taken h))),
+      );
+      items = whole_items c.args.self.now.dialect header.0 w header.1;
+    }
 
 pub returns-in-Foreign-clause-progress : goal.returns-in-Foreign-clause-progress
 returns-in-Foreign-clause-progress c =

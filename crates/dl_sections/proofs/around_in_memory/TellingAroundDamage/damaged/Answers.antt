@@ -6,7 +6,7 @@ use Rattle.dl_sections.proofs.around_in_memory.TellingAroundDamage.damaged.Goals
 pub returns : goal.returns
 returns g c = record {
   tells = λ first start now visits s.
-      told_on s (of_damage c.args.damage.offset c.args.damage.kind) _ _ (record {
+      told_on s (of_damage c.args._unit c.args.damage.offset c.args.damage.kind) _ _ (record {
         sink = s.passed.sink;
         offset = s.passed.offset;
         version = s.passed.version;

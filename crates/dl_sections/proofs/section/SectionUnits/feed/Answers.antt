@@ -1,6 +1,6 @@
 use Rattle.std.proofs.Common.{arith, refl, length-append}
 use Rattle.std.proofs.lemmas.Result.{err_from_is_err_and}
-use Rattle.dl_sections.proofs.FeedLemmas.{stops_at_row, damaged, turn, goes_on, goes_on_quietly, stops_told, idle, unmet, ended}
+use Rattle.dl_sections.proofs.FeedLemmas.{stops_within, damaged, turn, goes_on, goes_on_quietly, stops_told, idle, unmet, ended}
 use Rattle.dl_sections.proofs.FeedLemmas.{next_unit, no_more, stops_at_end}
 use Rattle.dl_sections.proofs.section.SectionUnits.feed.Goals as goal
 
@@ -21,7 +21,7 @@ pub returns-in_err-fed-clause-fed : goal.returns-in_err-fed-clause-fed
 returns-in_err-fed-clause-fed g c dialect past t units b first start are short tells =
     let p = err_from_is_err_and c.from_residual.result c.from_residual.ensures.1 in
     let so = c.events.invariant.fed dialect past t units b first start are short tells in
-    rw (p.1, p.2) (stops_at_row so (c.in_err-fed.ensures.told so.b so.are.stands))
+    rw (p.1, p.2) (stops_within so (c.in_err-fed.ensures.told so.b so.are.stands))
 
 pub returns-in-Err-clause-fed : goal.returns-in-Err-clause-fed
 returns-in-Err-clause-fed g c dialect past t units b first start are short tells =
@@ -78,7 +78,7 @@ events-preserved g c = record {
   fed = λ dialect past t units b first start are short tells.
       let so = c.events.invariant.fed dialect past t units b first start are short tells in
       let t = turn so (c.in_ok-fed.ensures.told so.b so.are.stands) c.in-Ok.is in
-      goes_on t (c.in_ok-tell-in_default.ensures.heard _ t.no_row t.stands first start t.visits t.tells)
+      goes_on t (c.in_ok-tell-in_default.ensures.heard _ t.stands first start t.visits t.tells)
       c.tell.ensures.counted;
 }
 
@@ -88,7 +88,7 @@ returns-in_err-tell-in_default-clause-fed g c dialect past t units b first start
     c.from_residual-in_err-tell-in_default.ensures.1 in
     let so = c.events.invariant.fed dialect past t units b first start are short tells in
     let t = turn so (c.in_ok-fed.ensures.told so.b so.are.stands) c.in-Ok.is in
-    rw (p.1, p.2) (stops_told t _ _ (c.in_err-tell-in_default.ensures.heard _ t.no_row t.stands first start t.visits t.tells))
+    rw (p.1, p.2) (stops_told t _ _ (c.in_err-tell-in_default.ensures.heard _ t.stands first start t.visits t.tells))
 
 pub returns-in_err-fed-clause-blames_writer : goal.returns-in_err-fed-clause-blames_writer
 returns-in_err-fed-clause-blames_writer g c dialect past t units b first start are short tells =

@@ -1,0 +1,7 @@
+-- What the public contracts say rests on these, in reading order.
+pub mod Reached
+pub mod OperationText
+pub mod DetailText
+pub mod Commands
+-- Of contracts inside the crate, and of proofs; no public contract reaches these.
+pub mod Dumping

@@ -1,0 +1,8 @@
+use Rattle.std.proofs.Common.{refl}
+use Rattle.dl_sections.specs.Section.{of_open}
+use Rattle.dl_lines.proofs.SeekLemmas.{still}
+use Rattle.dl_lines.proofs.seeker.LineSeekerVisitor.unterminated.Goals as goal
+
+pub returns-clause-heard : goal.returns-clause-heard
+returns-clause-heard g c first start visits s =
+    still g.M.Memory.refuses first c.args.self.now start (g.W.Write.contents c.args._output.now) visits s of_open refl

@@ -1,0 +1,137 @@
+-- What the findings of a section come to.
+use Rattle.std.proofs.Common.{◌≡◌, ◌∙◌, ℕ, List, [], Option, Result, Ok, Err, None, inl, inr, sym, ap, subst, ◌⊎◌}
+use Rattle.std.specs.Prelude.{IfOk}
+use Rattle.std.proofs.KnownBytes.{Appends-nil}
+use Rattle.std.specs.Io.KnownBytes.{Appends, Consumes}
+use Rattle.dl_head.specs.declared.dialect.Dialect.{Dialect}
+use Rattle.dl_print.specs.declared.summary.Summary.{Summary}
+use Rattle.dl_sections.specs.Around.{Block, RanAround, Rest, faults_of, visits_around}
+use Rattle.dl_sections.specs.declared.around.Damage.{Damage}
+use Rattle.dl_sections.specs.declared.around.Survey.{Survey}
+use Rattle.dl_sections.specs.declared.fault.RunFault.{RunFault}
+use Rattle.dl_sections.specs.declared.fault.RunFault.TheVariants as fault
+use Rattle.dl_sections.specs.RunOutput.{TellsOut}
+use Rattle.dl_sections.specs.Section.{Visit}
+use Rattle.dl_sections.specs.Visiting.{Ran, WritesFront}
+use Rattle.dl_sections.specs.Blaming.{BlamesWriter}
+use Rattle.dl_sections.specs.Ending.{WhereWhole}
+use Rattle.dl_sections.proofs.BlameLemmas.{same_answer}
+use Rattle.dl_sections.proofs.DamageLemmas.{damages_around}
+use Rattle.dl_sections.proofs.EndLemmas.{only_left}
+use Rattle.dl_sections.proofs.OutLemmas.{TellsOut-more}
+use Rattle.dl_lint.specs.declared.counts.FindingCounts.{FindingCounts}
+use Rattle.dl_lint.specs.declared.linting.Linter.{Linter}
+use Rattle.dl_lint.specs.declared.question.LintedAround.{LintedAround}
+use Rattle.dl_lint.specs.declared.question.LintQuestion.{LintQuestion}
+use Rattle.dl_lint.specs.Commands.{Lints, LintsAround}
+use Rattle.dl_lint.specs.Findings.{findings_after, findings_in}
+use Rattle.dl_lint.specs.FindingText.{findings_text}
+use Rattle.dl_lint.specs.Linting.{HasLinted, lint_story, told_around}
+use Rattle.dl_lint.proofs.FindingLemmas.{findings-append, text-append}
+
+module _ {D : Type 0} (hears : D → D → List Damage → Type 0) (dialect : Dialect) (limit : ℕ) (bytes : List ℕ)
+    (left : Option (List ℕ)) (q : LintQuestion) (first new : Linter D) (start now : Option (List ℕ))
+    (asked : first.report.rules ≡ q.rules) where
+  text_in : (visits : List Visit)
+      → findings_text (findings_in first.report.rules visits) ≡ findings_text (findings_in q.rules visits)
+  text_in visits = ap (λ (r : _). findings_text (findings_in r visits)) asked
+
+  -- what is out of the text of some visits is out of that of all
+  fronts : (visits : List Visit) (out : ℕ) → WritesFront (lint_story hears) first start now visits (fault.Write out)
+      → TellsOut start now (findings_text (findings_in q.rules visits)) (fault.Write out)
+  fronts visits out writes =
+      let rules = first.report.rules in
+      let some = findings_in rules writes.0 in
+      let more = findings_after rules writes.0 writes.1 in
+      subst (λ (l : List ℕ). TellsOut start now l (fault.Write out))
+      (sym (text-append some more) ∙ ap findings_text (sym (findings-append rules [] writes.0 writes.1))
+      ∙ ap (λ (l : List Visit). findings_text (findings_in rules l)) (sym writes.2) ∙ text_in visits)
+      (TellsOut-more start now (findings_text some) (findings_text more) (fault.Write out) writes.3)
+
+  -- the section is read to its end
+  pub lints_all : (summary : Summary) → Ran (lint_story hears) dialect limit bytes left first new start now (Ok summary)
+      → Lints dialect q limit bytes left start now (Ok (record { summary = summary; counts = new.report.counts }))
+  lints_all summary (inl (units, ends, settled)) =
+      (units, ends, rw (← asked) settled.tells.counts, rw (← text_in _) settled.out)
+  lints_all summary (inr done) = absurd done.4.tells
+
+  -- or not
+  pub lints_some : (f : RunFault) → Ran (lint_story hears) dialect limit bytes left first new start now (Err f)
+      → Lints dialect q limit bytes left start now (Err f)
+  lints_some (fault.Write out) ran = (ran.0, ran.1, ran.2, ran.3, fronts _ out ran.4)
+  lints_some f (units, b, back, inl (ends, settled)) = (units, b, back, ends, rw (← text_in _) settled.out)
+  lints_some f (units, b, back, inr (has, sound, stops)) = absurd stops.reason
+
+  -- around damaged units; w: what was told of them, where it is still held
+  module _ (w : D) (held : first.damages.ghost_name ≡ new.damages.ghost_name → w ≡ new.damages.now) where
+    told_of : (blocks : List Block) (rest : Rest) → HasLinted hears first new start now (visits_around dialect blocks rest)
+        → hears first.damages.now w (faults_of blocks rest)
+    told_of blocks rest told = rw (held (sym told.damages)) (rw (damages_around dialect blocks rest) at told.heard)
+
+    pub lints_around : (survey : Survey) → RanAround (lint_story hears) dialect limit bytes left first new start now (Ok survey)
+        → LintsAround dialect q limit bytes left start now (hears first.damages.now w)
+        (Ok (record { survey = survey; counts = new.report.counts }))
+    lints_around survey (inl (blocks, rest, ends, settled)) = (
+      blocks,
+      rest,
+      ends,
+      rw (← asked) settled.tells.counts,
+      rw (← text_in _) settled.out,
+      told_of blocks rest settled.tells,
+    )
+    lints_around survey (inr done) = absurd done.4.tells
+
+    pub stops_around : (f : RunFault) → RanAround (lint_story hears) dialect limit bytes left first new start now (Err f)
+        → LintsAround dialect q limit bytes left start now (hears first.damages.now w) (Err f)
+    stops_around (fault.Write out) ran = (ran.0, ran.1, ran.2, ran.3, fronts _ out ran.4)
+    stops_around f (blocks, rest, inl (ends, settled)) =
+        (blocks, rest, ends, rw (← text_in _) settled.out, told_of blocks rest settled.tells)
+    stops_around f (blocks, rest, inr (others, cut, sound, stops)) = absurd stops.reason
+
+-- ---- around damaged units, by what was read; w: what was told of them, where it is still held
+
+module _ {D : Type 0} (hears : D → D → List Damage → Type 0) (dialect : Dialect) (limit : ℕ)
+    (before left start now : Option (List ℕ)) (q : LintQuestion) (first new : Linter D) (asked : first.report.rules ≡ q.rules)
+    (begun : hears first.damages.now first.damages.now [] → HasLinted hears first first start start []) (w : D)
+    (held : first.damages.ghost_name ≡ new.damages.ghost_name → w ≡ new.damages.now) where
+  abbrev pub ReadsAround : Result Survey RunFault → Type 0
+  ReadsAround result =
+      (bytes : List ℕ) × Consumes before left bytes
+      × (HasLinted hears first first start start [] → Appends start start []
+      → RanAround (lint_story hears) dialect limit bytes left first new start now result)
+
+  abbrev pub AnswersAround : Result LintedAround RunFault → Type 0
+  AnswersAround result =
+      (bytes : List ℕ) × Consumes before left bytes × (hears first.damages.now first.damages.now []
+      → LintsAround dialect q limit bytes left start now (hears first.damages.now w) result)
+
+  pub read_around : (ended : Result Survey RunFault) → ReadsAround ended
+      → AnswersAround (told_around new.report.counts ended)
+  read_around (Ok survey) read = (
+    read.0,
+    read.1,
+    λ none. lints_around hears dialect limit read.0 left q first new start now asked w held survey
+        (read.2 (begun none) (Appends-nil start)),
+  )
+  read_around (Err f) read = (
+    read.0,
+    read.1,
+    λ none. stops_around hears dialect limit read.0 left q first new start now asked w held f
+        (read.2 (begun none) (Appends-nil start)),
+  )
+
+-- the answer has the fault of the reading
+module _ (counts : FindingCounts) where
+  pub same_fault : (ended : Result Survey RunFault) → told_around counts ended ≡ Err fault.Read → ended ≡ Err fault.Read
+  same_fault (Ok survey) e = absurd cc
+  same_fault (Err f) e = same_answer f e
+
+  pub same_blame : (fails : Type 0) (ended : Result Survey RunFault) → BlamesWriter fails ended
+      → BlamesWriter fails (told_around counts ended)
+  same_blame fails (Ok survey) blames = tt
+  same_blame fails (Err f) blames = blames
+
+  pub same_end : (Over Done : Type 0) (ended : Result Survey RunFault) → (Done → ⊥) → WhereWhole (Over ⊎ Done) ended
+      → IfOk (told_around counts ended) (λ linted. linted.survey.damaged ≡ None → Over)
+  same_end Over Done (Ok survey) never over = λ whole. only_left never (over whole)
+  same_end Over Done (Err f) never over = tt

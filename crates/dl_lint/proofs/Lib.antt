@@ -1,0 +1,5 @@
+pub mod KeptLemmas
+pub mod FindingLemmas
+pub mod TellLemmas
+pub mod LintingLemmas
+pub mod CommandLemmas

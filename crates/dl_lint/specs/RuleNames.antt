@@ -1,0 +1,40 @@
+-- The rules, and their names.
+use Rattle.std.specs.Prelude.{ℕ, List, [], ◌∷◌, codes, Option}
+use Rattle.std.specs.List.{find}
+use Rattle.std.specs.Str.{bytes_eq}
+use Rattle.dl_lint.specs.declared.rule.Rule.{Rule}
+use Rattle.dl_lint.specs.declared.rule.Rule.TheVariants as rule
+
+-- the name by which a rule is told and chosen
+unfoldable pub rule_name : Rule → List ℕ
+rule_name rule.FileIndex = codes "file-index"
+rule_name rule.DirectoryIndex = codes "directory-index"
+rule_name rule.FallingPlace = codes "falling-place"
+rule_name rule.NoEnd = codes "no-end"
+rule_name rule.EmptySequence = codes "empty-sequence"
+rule_name rule.Padding = codes "padding"
+rule_name rule.LineWrapped = codes "line-wrapped"
+rule_name rule.NoStatement = codes "no-statement"
+rule_name rule.SplitInstruction = codes "split-instruction"
+
+-- in the order in which the findings of one place are told
+abbrev pub all_rules : List Rule
+all_rules =
+    rule.FileIndex ∷ rule.DirectoryIndex ∷ rule.FallingPlace ∷ rule.NoEnd ∷ rule.EmptySequence ∷ rule.Padding
+    ∷ rule.LineWrapped ∷ rule.NoStatement ∷ rule.SplitInstruction ∷ []
+
+-- the place of a rule among them, from 0 on
+abbrev pub rule_place : Rule → ℕ
+rule_place rule.FileIndex = 0
+rule_place rule.DirectoryIndex = 1
+rule_place rule.FallingPlace = 2
+rule_place rule.NoEnd = 3
+rule_place rule.EmptySequence = 4
+rule_place rule.Padding = 5
+rule_place rule.LineWrapped = 6
+rule_place rule.NoStatement = 7
+rule_place rule.SplitInstruction = 8
+
+-- the rule of this name
+abbrev pub named : (name : List ℕ) → Option Rule
+named name = find (λ r. bytes_eq (rule_name r) name) all_rules

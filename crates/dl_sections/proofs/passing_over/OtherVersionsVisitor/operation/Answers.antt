@@ -1,0 +1,9 @@
+use Rattle.std.proofs.Common.{append-nil}
+use Rattle.dl_rows.specs.Items.{an_operation}
+use Rattle.dl_sections.specs.Section.{of_item}
+use Rattle.dl_sections.proofs.PassingLemmas.{told-push}
+use Rattle.dl_sections.proofs.passing_over.OtherVersionsVisitor.operation.Goals as goal
+
+pub returns-clause-heard : goal.returns-clause-heard
+returns-clause-heard g c first start visits (kept, spans) =
+    (kept, rw (told-push visits (of_item (an_operation c.args._header.now c.args._operation)), append-nil) spans)

@@ -1,0 +1,11 @@
+pub mod CountLemmas
+pub mod PathLemmas
+pub mod EntryLemmas
+pub mod ResultLemmas
+pub mod TableLemmas
+pub mod ListingLemmas
+pub mod ToldLemmas
+pub mod ReportLemmas
+pub mod CommandLemmas
+pub mod AroundLemmas
+pub mod OrderLemmas

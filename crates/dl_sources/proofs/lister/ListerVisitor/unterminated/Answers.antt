@@ -1,0 +1,11 @@
+use Rattle.std.proofs.Common.{arith, refl}
+use Rattle.dl_sections.specs.Section.{of_open}
+use Rattle.dl_sources.proofs.ListingLemmas.{goes_on, listed_same}
+use Rattle.dl_sources.proofs.lister.ListerVisitor.unterminated.Goals as goal
+
+pub returns-clause-heard : goal.returns-clause-heard
+returns-clause-heard g c first start visits s =
+    let l = c.args.self.now in
+    goes_on first l l start (g.W.Write.contents c.args._output.now) visits of_open s
+    (record { memory = refl; strings = refl; question = refl }) refl refl
+    (λ listed. listed_same first visits of_open l refl listed.counts listed.table (omega (arith, listed.few)))

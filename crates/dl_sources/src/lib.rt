@@ -1,0 +1,19 @@
+//! The source files that the units of a section name, with the rows that name them. Section 6.2.4.
+#![tactic(auto)]
+
+mod counting;
+mod entries;
+pub mod laws;
+mod line;
+mod lister;
+mod listing;
+mod map_memory;
+mod path_text;
+mod printing;
+mod question;
+mod table;
+
+pub use dl_dirs::CompilationDirectories;
+pub use listing::{sources, sources_around};
+pub use map_memory::MapMemory;
+pub use question::{SourcesAround, SourcesQuestion, Sums};

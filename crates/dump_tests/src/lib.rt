@@ -1,0 +1,11 @@
+//! Sections shown with operations and paths, through public calls alone.
+#![tactic(auto)]
+
+#[cfg(test)]
+mod around;
+#[cfg(test)]
+mod operations;
+#[cfg(test)]
+mod paths;
+#[cfg(test)]
+mod sections;

@@ -1,0 +1,11 @@
+//! Findings in worked sections, through public calls alone.
+#![tactic(auto)]
+
+#[cfg(test)]
+mod around;
+#[cfg(test)]
+mod each_call;
+#[cfg(test)]
+mod rules;
+#[cfg(test)]
+mod sections;

@@ -1,0 +1,123 @@
+//! Worked sections for `lint`.
+ghost use Rattle.std.specs.Prelude.{◌≤◌};
+
+use dl_head::{AddressSize, Dialect, Older};
+use dl_lint::{LintQuestion, Linted, Rule, Rules, lint};
+use dl_memory::System;
+use dl_num::Order;
+use dl_sections::{Options, RunFault, SECTION_LIMIT};
+use std::alloc::Global;
+use std::process::Abort;
+use std::test::Fail;
+use test_support::{Sink, Source};
+
+/// Version 5, from byte 48 on a row of file 1 at 0x1000, where the table has file 0 alone, and an end row at 0x1008.
+pub const NEWER_FILES: &str =
+    "3f 00 00 00 05 00 08 00 24 00 00 00 01 01 01 fb 0e 0d 00 01 01 01 01 00 00 00 \
+        01 00 00 01 01 01 08 01 2f 73 00 02 01 08 02 0f 01 61 2e 63 00 00 00 09 02 00 \
+        10 00 00 00 00 00 00 04 01 01 02 08 00 01 01";
+
+/// Version 4, from byte 39 on a row of file 1 at 0x3000, which is the only one, a row of file 0 at 0x3004, and an end row of file
+/// 0 at 0x300c.
+pub const OLDER_FILES: &str =
+    "39 00 00 00 04 00 1d 00 00 00 01 01 01 fb 0e 0d 00 01 01 01 01 00 00 00 01 00 \
+        00 01 64 00 00 78 2e 63 00 01 00 00 00 00 09 02 00 30 00 00 00 00 00 00 01 02 \
+        04 04 00 01 02 08 00 01 01";
+
+/// Version 5, one directory, file 0 in directory 0 and file 1 in directory 3.
+pub const NEWER_DIRECTORIES: &str =
+    "34 00 00 00 05 00 08 00 29 00 00 00 01 01 01 fb 0e 0d 00 01 01 01 01 00 00 00 \
+        01 00 00 01 01 01 08 01 2f 73 00 02 01 08 02 0f 02 61 2e 63 00 00 62 2e 63 00 \
+        03 00 01 01";
+
+/// Version 4, one directory, file 1 in that of the compilation and file 2 in directory 2.
+pub const OLDER_DIRECTORIES: &str =
+    "2d 00 00 00 04 00 24 00 00 00 01 01 01 fb 0e 0d 00 01 01 01 01 00 00 00 01 00 \
+        00 01 64 00 00 78 2e 63 00 00 00 00 79 2e 63 00 02 00 00 00 00 01 01";
+
+/// Version 5, two bytes after the empty tables of the header, and from byte 36 on an end row.
+pub const PADDED: &str =
+    "23 00 00 00 05 00 08 00 18 00 00 00 01 01 01 fb 0e 0d 00 01 01 01 01 00 00 00 \
+        01 00 00 01 00 00 00 00 aa bb 00 01 01";
+
+/// The header of a unit of version 5 without files, with this minimum_instruction_length and so many operations in an
+/// instruction at most, before a program that begins at byte 34.
+pub struct Machine {
+    pub least: u8,
+    pub operations: u8,
+}
+
+/// The usual one: instructions of any length, of one operation.
+pub const USUAL: Machine = Machine {
+    least: 1,
+    operations: 1,
+};
+
+pub fn options() -> Options<'static>
+    ensures { result.limit ≤ SECTION_LIMIT }
+{
+    Options {
+        dialect: Dialect {
+            order: Order::Little,
+            older: Older::Read(AddressSize::Eight),
+        },
+        debug_line_str: None,
+        debug_str: None,
+        limit: SECTION_LIMIT,
+    }
+}
+
+/// The bytes of a unit of this program.
+pub fn unit(alloc: Global, machine: &Machine, program: &str) -> Result<Vec<u8>, Fail> {
+    let mut unit = test_support::unit(alloc, program)?;
+    if let Some(byte) = unit.get_mut(12) {
+        *byte = machine.least;
+    }
+    if let Some(byte) = unit.get_mut(13) {
+        *byte = machine.operations;
+    }
+    Ok(unit)
+}
+
+/// Asserts what `lint` writes and answers of a section, and how many findings of this rule it counts.
+pub fn assert_findings(
+    rt: &impl Abort,
+    alloc: Global,
+    section: &[u8],
+    rules: Rules,
+    wanted: (&str, Result<(Rule, u64), RunFault>),
+) {
+    let (text, answer) = wanted;
+    for most in [1, 7, 4096] {
+        let mut input = Source::new(section, most);
+        let mut output = Sink::new(alloc, 1 << 20, 1 << 20);
+        let question = LintQuestion { rules };
+        let answered = lint(
+            &System::new(alloc),
+            &mut input,
+            &mut output,
+            &question,
+            &options(),
+        );
+        assert_answer(rt, answered, answer);
+        assert!(rt; output.held.as_slice() == text.as_bytes(), "{text}");
+    }
+}
+
+/// Asserts that so many findings of this rule are counted, or the fault.
+fn assert_answer(
+    rt: &impl Abort,
+    answered: Result<Linted, RunFault>,
+    wanted: Result<(Rule, u64), RunFault>,
+) {
+    match (answered, wanted) {
+        (Ok(linted), Ok((rule, count))) => assert_eq!(rt; linted.counts.of(rule), count),
+        (Err(fault), Err(wanted)) => assert_eq!(rt; fault, wanted),
+        _ => assert!(rt; false, "another answer"),
+    }
+}
+
+/// All rules but `file-index`, for units without files.
+pub fn of_rows() -> Rules {
+    Rules::all().without(Rule::FileIndex)
+}
