@@ -1,2 +1,3 @@
 pub mod ShowingLemmas
 pub mod CommandLemmas
+pub mod PlainLemmas

@@ -21,8 +21,8 @@ use dl_output::Destination;
 use dl_print::{Printer, StringSections, Summary, WriteFault};
 use dl_rows::{Flow, Operation, Row};
 use dl_sections::{
-    AroundDamage, Damage, DamageSink, Options, RunFault, SECTION_LIMIT, Survey, Visitor,
-    read_units, read_units_around,
+    AroundDamage, Damage, DamageSink, Detail, Options, RunFault, SECTION_LIMIT, Survey, Visitor,
+    dump_around, dump_with, read_units, read_units_around,
 };
 use std::alloc::Global;
 
@@ -231,11 +231,9 @@ impl DamageSink for NoneTold {
     fn damaged(&mut self, _damage: Damage) {}
 }
 
-/// Prints the lines of all units of the input, with these details.
-///
-/// What comes before a fault is printed; of an operation that is bad or cut off, the bytes that were read. The faults are
-/// those of `RunFault`; each growth of memory is one of `Reader::feed`.
-pub fn dump_details<R: Source, W: Destination>(
+/// Prints them with each operation or path that is shown.
+#[inline(never)]
+fn show<R: Source, W: Destination>(
     alloc: Global,
     input: &mut R,
     output: &mut W,
@@ -262,12 +260,9 @@ pub fn dump_details<R: Source, W: Destination>(
     read_units(alloc, input, output, options, &mut dumper)
 }
 
-/// Prints the lines of all units of the input, of those that are damaged up to their faults, with these details. `damages`
-/// hears of each damaged unit, once what comes before its fault is printed and out.
-///
-/// The answer tells what the units come to, and how many are damaged; the faults are those of `read_units_around`, and
-/// failed writes.
-pub fn dump_details_around<R: Source, W: Destination, D: DamageSink>(
+/// The same around damaged units.
+#[inline(never)]
+fn show_around<R: Source, W: Destination, D: DamageSink>(
     alloc: Global,
     input: &mut R,
     output: &mut W,
@@ -295,4 +290,65 @@ pub fn dump_details_around<R: Source, W: Destination, D: DamageSink>(
         damages,
     };
     read_units_around(alloc, input, output, options, &mut dumper)
+}
+
+/// Prints the lines of all units of the input, with these details.
+///
+/// What comes before a fault is printed; of an operation that is bad or cut off, the bytes that were read. The faults are
+/// those of `RunFault`; each growth of memory is one of `Reader::feed`.
+pub fn dump_details<R: Source, W: Destination>(
+    alloc: Global,
+    input: &mut R,
+    output: &mut W,
+    options: &Options<'_>,
+    details: &Details<'_>,
+) -> Result<Summary, RunFault>
+    requires { options.now.limit ≤ SECTION_LIMIT }
+    ensures ran { (bs : List ℕ) × Consumes (R.remaining input.old) (R.remaining input.new) bs
+        × DumpsDetails options.now.dialect (style_in details.now options.now) options.now.limit bs
+        (R.remaining input.new) (W.contents output.old) (W.contents output.new) result }
+    ensures blames { Blames R.follows R.fails input.old input.new
+        (result ≡ Err RunFault.Read) }
+    ensures blames_writer { BlamesWriter W.fails result }
+    ensures over { OnOk result (R.over input.new) }
+{
+    if details.operations || details.paths {
+        return show(alloc, input, output, options, details);
+    }
+    let detail = Detail {
+        header: details.header,
+    };
+    dump_with(alloc, input, output, options, detail)
+}
+
+/// Prints the lines of all units of the input, of those that are damaged up to their faults, with these details. `damages`
+/// hears of each damaged unit, once what comes before its fault is printed and out.
+///
+/// The answer tells what the units come to, and how many are damaged; the faults are those of `read_units_around`, and
+/// failed writes.
+pub fn dump_details_around<R: Source, W: Destination, D: DamageSink>(
+    alloc: Global,
+    input: &mut R,
+    output: &mut W,
+    options: &Options<'_>,
+    details: &Details<'_>,
+    damages: &mut D,
+) -> Result<Survey, RunFault>
+    requires { options.now.limit ≤ SECTION_LIMIT }
+    ensures ran { (bs : List ℕ) × Consumes (R.remaining input.old) (R.remaining input.new) bs
+        × (D.hears damages.old damages.old [] → DumpsDetailsAround options.now.dialect
+        (style_in details.now options.now) options.now.limit bs (R.remaining input.new) (W.contents output.old)
+        (W.contents output.new) (D.hears damages.old damages.new) result) }
+    ensures blames { Blames R.follows R.fails input.old input.new
+        ((D.hears damages.old damages.old []) × (result ≡ Err RunFault.Read)) }
+    ensures blames_writer { D.hears damages.old damages.old [] → BlamesWriter W.fails result }
+    ensures over { D.hears damages.old damages.old [] → WhereWhole (R.over input.new) result }
+{
+    if details.operations || details.paths {
+        return show_around(alloc, input, output, options, details, damages);
+    }
+    let detail = Detail {
+        header: details.header,
+    };
+    dump_around(alloc, input, output, options, detail, damages)
 }

@@ -37,6 +37,7 @@ use dl_sections::{Options, RunFault, SECTION_LIMIT, read_units};
 /// The lines are printed once all units are read, or up to a fault: then the units before it answer, and the fault is answered.
 /// Where memory is refused, nothing is printed. Of each line that is wanted the places are held in memory of the line that
 /// answers so far, with the paths of the files that match in their units, and what is known of the files of one header.
+#[inline(never)]
 pub fn lines<M: Memory, R: Source, W: Destination>(
     memory: &M,
     input: &mut R,

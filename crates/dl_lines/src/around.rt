@@ -31,6 +31,7 @@ use dl_sections::{Options, RunFault, SECTION_LIMIT, Survey, read_units_around};
 /// The section is read as `read_units_around` reads it. Then the lines are printed that the whole units before its end, or
 /// before the fault, answer. The faults are those of `lines` but for `Damage`: of damaged units the answer says what is wrong
 /// with the first, and how many others there are. Where memory is refused, nothing is printed.
+#[inline(never)]
 pub fn lines_around<M: Memory, R: Source, W: Destination>(
     memory: &M,
     input: &mut R,

@@ -266,6 +266,7 @@ impl<'a> Command<'a> {
     }
 
     /// Works through the section, and tells of the units that are damaged where it goes on after them.
+    #[inline(never)]
     pub fn run<M: MapMemory, R: Source, W: Destination, D: DamageSink>(
         self,
         memory: &M,

@@ -26,6 +26,7 @@ use dl_sections::{Options, RunFault, SECTION_LIMIT, Survey, read_units, read_uni
 /// for the counts of the files of a header, for a path or for what is told of one, and then nothing is printed. Each path is
 /// held in memory once, with its counts and sums, and of the current unit the tables of its header and the counts of its
 /// files.
+#[inline(never)]
 pub fn sources<M: MapMemory, R: Source, W: Destination>(
     memory: &M,
     input: &mut R,
@@ -56,6 +57,7 @@ pub fn sources<M: MapMemory, R: Source, W: Destination>(
 /// The section is read as `read_units_around` reads it. Then the lines are printed that the whole units before its end, or
 /// before the fault, tell. The faults are those of `sources` but for `Damage`: of damaged units the answer says what is wrong
 /// with the first, and how many others there are.
+#[inline(never)]
 pub fn sources_around<M: MapMemory, R: Source, W: Destination>(
     memory: &M,
     input: &mut R,
