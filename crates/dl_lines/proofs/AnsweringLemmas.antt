@@ -98,7 +98,7 @@ module _ {M : Type 0} (refuses : M → ℕ → Type 0) (first old : LineSeeker M
   abbrev heard : Heard
   heard = heard_after (known_of first) nothing_heard visits
 
-  few : (i : ℕ) (d : Search) → i < length old.searches.items → old.is_refused ≡ false
+  pub few : (i : ℕ) (d : Search) → i < length old.searches.items → old.is_refused ≡ false
       → length (slice_index_or old.searches.items i d).kept.places.items ≤ told_room (known_of first) visits
   few i d lt whole = by wanted ((s.whole whole).searches wanted exact made_for) where
     by : (wanted : List Wanted) → AllStand old.searches.items wanted exact (known_of first) heard
@@ -118,7 +118,7 @@ module _ {M : Type 0} (refuses : M → ℕ → Type 0) (first old : LineSeeker M
       subst (λ (m : M). IsRefused (refuses m) n) s.memory
       (refused n (λ e. subst (λ (m : M). IsRefused (refuses m) n) (sym s.memory) (s.refused e wanted exact made_for)) few)
 
-  all_tell : (new : List Search) → old.is_refused ≡ false → AllBecome IsOrdered old.searches.items new
+  pub all_tell : (new : List Search) → old.is_refused ≡ false → AllBecome IsOrdered old.searches.items new
       → AllTell exact heard.ended new wanted
   all_tell new whole all i d w lt =
       let stands = (s.whole whole).searches wanted exact made_for in

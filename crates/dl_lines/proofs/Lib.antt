@@ -16,3 +16,5 @@ pub mod AnsweringLemmas
 pub mod WordLemmas
 pub mod AroundLemmas
 pub mod AroundAnswers
+pub mod PlacesLemmas
+pub mod FindingLemmas

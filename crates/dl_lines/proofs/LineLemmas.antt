@@ -139,7 +139,7 @@ module _ (s : Search) (number : ℕ) (d : KeptPlace) (within : number < length s
 
 -- ---- one place more
 
-once_more : (before places : List CodePlace) (p : CodePlace)
+pub once_more : (before places : List CodePlace) (p : CodePlace)
     → told_once before (places ++ p ∷ [])
     ≡ told_once before places ++ (if list_any (is_same p) (before ++ places) then [] else p ∷ [])
 once_more before [] p =

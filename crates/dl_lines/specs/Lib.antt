@@ -5,6 +5,7 @@ pub mod Lines
 pub mod Room
 pub mod Commands
 pub mod AroundCommands
+pub mod FoundPlaces
 pub mod Words
 -- Of contracts inside the crate, and of proofs; no public contract reaches these.
 pub mod Runs
@@ -12,3 +13,4 @@ pub mod Kept
 pub mod Searching
 pub mod Seeking
 pub mod Printing
+pub mod Telling

@@ -92,7 +92,7 @@ fn print_once<W: Destination>(
 }
 
 /// Whether a place before the one of this number has the same line. They are in order, so that it has the same address.
-fn is_repeated(search: &Search<'_>, number: usize) -> bool
+pub fn is_repeated(search: &Search<'_>, number: usize) -> bool
     requires rises { Rises search.now.kept.places.items }
     requires within { number < length search.now.kept.places.items }
     ensures { result ≡ is_told_before (found_places search.now) number }

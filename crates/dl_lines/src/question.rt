@@ -24,3 +24,15 @@ pub struct LinesQuestion<'a> {
     /// Where paths stand that aren't whole.
     pub directories: CompilationDirectories<'a>,
 }
+
+/// What is asked of a section of one line.
+#[derive(Clone, Copy)]
+pub struct PlacesQuestion<'a> {
+    pub wanted: Wanted<'a>,
+    /// Whether the line answers alone for itself, and no line above it does where it has no place.
+    pub exact: bool,
+    /// Where there is code, as of `LinesQuestion`.
+    pub code: Option<&'a CodeRanges>,
+    /// Where paths stand that aren't whole.
+    pub directories: CompilationDirectories<'a>,
+}
