@@ -1,0 +1,3 @@
+-- What the public contracts say rests on these, in reading order.
+pub mod Ends
+pub mod LineCalls
