@@ -1,5 +1,5 @@
 -- What the findings of a section come to.
-use Rattle.std.proofs.Common.{◌≡◌, ◌∙◌, ℕ, List, [], Option, Result, Ok, Err, None, inl, inr, sym, ap, subst, ◌⊎◌}
+use Rattle.std.proofs.Common.{◌≡◌, ◌∙◌, ℕ, List, [], Option, Result, Ok, Err, None, Bool, inl, inr, sym, ap, ap₂, subst, ◌⊎◌}
 use Rattle.std.specs.Prelude.{IfOk}
 use Rattle.std.proofs.KnownBytes.{Appends-nil}
 use Rattle.std.specs.Io.KnownBytes.{Appends, Consumes}
@@ -19,34 +19,37 @@ use Rattle.dl_sections.proofs.BlameLemmas.{same_answer}
 use Rattle.dl_sections.proofs.DamageLemmas.{damages_around}
 use Rattle.dl_sections.proofs.EndLemmas.{only_left}
 use Rattle.dl_sections.proofs.OutLemmas.{TellsOut-more}
-use Rattle.dl_lint.specs.declared.counts.FindingCounts.{FindingCounts}
+use Rattle.dl_findings.specs.declared.counts.FindingCounts.{FindingCounts}
+use Rattle.dl_findings.specs.declared.rules.Rules.{Rules}
 use Rattle.dl_lint.specs.declared.linting.Linter.{Linter}
 use Rattle.dl_lint.specs.declared.question.LintedAround.{LintedAround}
 use Rattle.dl_lint.specs.declared.question.LintQuestion.{LintQuestion}
 use Rattle.dl_lint.specs.Commands.{Lints, LintsAround}
 use Rattle.dl_lint.specs.Findings.{findings_after, findings_in}
-use Rattle.dl_lint.specs.FindingText.{findings_text}
+use Rattle.dl_findings.specs.FindingJson.{findings_text}
 use Rattle.dl_lint.specs.Linting.{HasLinted, lint_story, told_around}
 use Rattle.dl_lint.proofs.FindingLemmas.{findings-append, text-append}
 
 module _ {D : Type 0} (hears : D → D → List Damage → Type 0) (dialect : Dialect) (limit : ℕ) (bytes : List ℕ)
     (left : Option (List ℕ)) (q : LintQuestion) (first new : Linter D) (start now : Option (List ℕ))
-    (asked : first.report.rules ≡ q.rules) where
+    (asked : first.report.rules ≡ q.rules) (form : first.report.json ≡ q.json) where
   text_in : (visits : List Visit)
-      → findings_text (findings_in first.report.rules visits) ≡ findings_text (findings_in q.rules visits)
-  text_in visits = ap (λ (r : _). findings_text (findings_in r visits)) asked
+      → findings_text first.report.json (findings_in first.report.rules visits)
+      ≡ findings_text q.json (findings_in q.rules visits)
+  text_in visits = ap₂ (λ (json : Bool) (r : Rules). findings_text json (findings_in r visits)) form asked
 
   -- what is out of the text of some visits is out of that of all
   fronts : (visits : List Visit) (out : ℕ) → WritesFront (lint_story hears) first start now visits (fault.Write out)
-      → TellsOut start now (findings_text (findings_in q.rules visits)) (fault.Write out)
+      → TellsOut start now (findings_text q.json (findings_in q.rules visits)) (fault.Write out)
   fronts visits out writes =
       let rules = first.report.rules in
+      let json = first.report.json in
       let some = findings_in rules writes.0 in
       let more = findings_after rules writes.0 writes.1 in
       subst (λ (l : List ℕ). TellsOut start now l (fault.Write out))
-      (sym (text-append some more) ∙ ap findings_text (sym (findings-append rules [] writes.0 writes.1))
-      ∙ ap (λ (l : List Visit). findings_text (findings_in rules l)) (sym writes.2) ∙ text_in visits)
-      (TellsOut-more start now (findings_text some) (findings_text more) (fault.Write out) writes.3)
+      (sym (text-append json some more) ∙ ap (findings_text json) (sym (findings-append rules [] writes.0 writes.1))
+      ∙ ap (λ (l : List Visit). findings_text json (findings_in rules l)) (sym writes.2) ∙ text_in visits)
+      (TellsOut-more start now (findings_text json some) (findings_text json more) (fault.Write out) writes.3)
 
   -- the section is read to its end
   pub lints_all : (summary : Summary) → Ran (lint_story hears) dialect limit bytes left first new start now (Ok summary)
@@ -92,7 +95,7 @@ module _ {D : Type 0} (hears : D → D → List Damage → Type 0) (dialect : Di
 
 module _ {D : Type 0} (hears : D → D → List Damage → Type 0) (dialect : Dialect) (limit : ℕ)
     (before left start now : Option (List ℕ)) (q : LintQuestion) (first new : Linter D) (asked : first.report.rules ≡ q.rules)
-    (begun : hears first.damages.now first.damages.now [] → HasLinted hears first first start start []) (w : D)
+    (form : first.report.json ≡ q.json) (begun : hears first.damages.now first.damages.now [] → HasLinted hears first first start start []) (w : D)
     (held : first.damages.ghost_name ≡ new.damages.ghost_name → w ≡ new.damages.now) where
   abbrev pub ReadsAround : Result Survey RunFault → Type 0
   ReadsAround result =
@@ -110,13 +113,13 @@ module _ {D : Type 0} (hears : D → D → List Damage → Type 0) (dialect : Di
   read_around (Ok survey) read = (
     read.0,
     read.1,
-    λ none. lints_around hears dialect limit read.0 left q first new start now asked w held survey
+    λ none. lints_around hears dialect limit read.0 left q first new start now asked form w held survey
         (read.2 (begun none) (Appends-nil start)),
   )
   read_around (Err f) read = (
     read.0,
     read.1,
-    λ none. stops_around hears dialect limit read.0 left q first new start now asked w held f
+    λ none. stops_around hears dialect limit read.0 left q first new start now asked form w held f
         (read.2 (begun none) (Appends-nil start)),
   )
 

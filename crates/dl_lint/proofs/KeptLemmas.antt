@@ -20,9 +20,10 @@ use Rattle.dl_look.specs.Answer.{first_place, last_place, place_of}
 use Rattle.dl_sections.specs.Section.{Visit, of_header, of_item}
 use Rattle.dl_lint.specs.declared.reached.Reached.{Reached}
 use Rattle.dl_lint.specs.declared.reached.Sequence.{Sequence}
-use Rattle.dl_lint.specs.Before.{at_most_64_bits, is_byte, is_end, is_header, is_operation, last_program, of_unit, program_begins}
+use Rattle.dl_findings.specs.Counting.{at_most_64_bits}
+use Rattle.dl_lint.specs.Before.{is_byte, is_end, is_header, is_operation, last_program, of_unit, program_begins}
 use Rattle.dl_lint.specs.Before.{program_of, program_offset, row_of, rows_told, sequence_told}
-use Rattle.dl_lint.proofs.FindingLemmas.{count-push}
+use Rattle.dl_findings.proofs.CountLemmas.{count-push}
 use Rattle.dl_lint.specs.Keeping.{is_some_row, is_statement, reached_by, sequence_of}
 
 -- ---- the last element that passes

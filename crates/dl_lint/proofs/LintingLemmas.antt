@@ -1,5 +1,5 @@
 -- How a linter goes on.
-use Rattle.std.proofs.Common.{◌≡◌, ◌∙◌, ℕ, List, [], ◌∷◌, ◌++◌, Option, Ok, Err, refl, sym, ap, subst, append-nil}
+use Rattle.std.proofs.Common.{◌≡◌, ◌∙◌, ℕ, List, [], ◌∷◌, ◌++◌, Option, Ok, Err, Bool, refl, sym, ap, subst, append-nil}
 use Rattle.std.specs.Prelude.{⊤}
 use Rattle.std.specs.Io.KnownBytes.{Appends}
 use Rattle.std.proofs.lemmas.List.Concat.{flat_map-append}
@@ -16,22 +16,29 @@ use Rattle.dl_sections.specs.DamageTold.{damage_of_visit, damages_told}
 use Rattle.dl_sections.specs.RunOutput.{TellsOut}
 use Rattle.dl_sections.specs.Section.{Visit, of_damage}
 use Rattle.dl_sections.specs.Visiting.{GoesOn, StopsIn}
-use Rattle.dl_lint.specs.declared.finding.Finding.{Finding}
+use Rattle.dl_findings.specs.declared.finding.Finding.{Finding}
 use Rattle.dl_lint.specs.declared.linting.Linter.{Linter}
+use Rattle.dl_lint.specs.declared.operations.Operations.{Operations}
 use Rattle.dl_lint.specs.declared.reached.Reached.{Reached}
-use Rattle.dl_lint.specs.declared.rules.Rules.{Rules}
-use Rattle.dl_lint.specs.Findings.{Counts, chosen, findings_after, findings_at, findings_in}
-use Rattle.dl_lint.specs.FindingText.{findings_text}
-use Rattle.dl_lint.specs.Keeping.{reached_by}
+use Rattle.dl_findings.specs.declared.rules.Rules.{Rules}
+use Rattle.dl_findings.specs.Counting.{Counts}
+use Rattle.dl_lint.specs.Findings.{chosen, findings_after, findings_at, findings_in}
+use Rattle.dl_findings.specs.FindingJson.{findings_text}
+use Rattle.dl_lint.specs.Keeping.{Knows, reached_by}
 use Rattle.dl_lint.specs.Linting.{HasLinted, lint_story}
-use Rattle.dl_lint.specs.Telling.{Tells}
+use Rattle.dl_lint.specs.Operations.{nothing_seen, seen}
+use Rattle.dl_lint.specs.Telling.{Tells, told_text}
 use Rattle.dl_lint.proofs.FindingLemmas.{findings-append, findings-push, text-append}
 use Rattle.dl_lint.proofs.KeptLemmas.{reached_quiet}
+use Rattle.dl_lint.proofs.OperationLemmas.{knows_on}
 
 module _ {D : Type 0} {hears : D → D → List Damage → Type 0} {first old : Linter D} {start before : Option (List ℕ)}
     {visits : List Visit} (linted : HasLinted hears first old start before visits) where
   abbrev pub rules : Rules
   rules = first.report.rules
+
+  abbrev pub json : Bool
+  json = first.report.json
 
   -- the findings of one visit more
   found_more : (v : Visit)
@@ -41,25 +48,29 @@ module _ {D : Type 0} {hears : D → D → List Damage → Type 0} {first old : 
       ∙ sym (findings-push rules visits v)
 
   text_more : (v : Visit)
-      → findings_text (findings_in rules visits) ++ findings_text (chosen old.report.rules (findings_at visits v))
-      ≡ findings_text (findings_in rules (visits ++ v ∷ []))
+      → findings_text json (findings_in rules visits) ++ told_text old.report (findings_at visits v)
+      ≡ findings_text json (findings_in rules (visits ++ v ∷ []))
   text_more v =
-      sym (text-append (findings_in rules visits) (chosen old.report.rules (findings_at visits v)))
-      ∙ ap findings_text (found_more v)
+      let more = chosen old.report.rules (findings_at visits v) in
+      ap (λ (j : Bool). findings_text json (findings_in rules visits) ++ findings_text j more) linted.json
+      ∙ sym (text-append json (findings_in rules visits) more)
+      ∙ ap (findings_text json) (found_more v)
 
   -- they are told
   pub lints : (new : Linter D) (after : Option (List ℕ)) (v : Visit)
       → Tells {A = ⊤} before after old.report new.report (findings_at visits v) (Ok tt)
       → new.damages ≡ old.damages → damage_of_visit v ≡ [] → new.at ≡ reached_by (visits ++ v ∷ [])
-      → HasLinted hears first new start after (visits ++ v ∷ [])
-  lints new after v told damages quiet at = record {
+      → Knows new.operations (seen (visits ++ v ∷ [])) → HasLinted hears first new start after (visits ++ v ∷ [])
+  lints new after v told damages quiet at knows = record {
     rules = told.1.rules ∙ linted.rules;
+    json = told.1.json ∙ linted.json;
     damages = rw damages linted.damages;
     heard = rw (damages, flat_map-append damage_of_visit visits (v ∷ []), quiet, append-nil) linted.heard;
     reached = at;
+    knows = knows;
     counts = subst (Counts new.report.counts) (found_more v) (told.1.counts (findings_in rules visits) linted.counts);
     printed = subst (λ (l : List ℕ). HasPrinted start after l new.report.printer.now) (text_more v)
-        (told.0 start (findings_text (findings_in rules visits)) linted.printed);
+        (told.0 start (findings_text json (findings_in rules visits)) linted.printed);
   }
 
   -- or a write failed
@@ -71,24 +82,26 @@ module _ {D : Type 0} {hears : D → D → List Damage → Type 0} {first old : 
     [],
     refl,
     subst (λ (l : List ℕ). TellsOut start after l (fault.Write f.out)) (text_more v)
-        (told.0 start (findings_text (findings_in rules visits)) linted.printed),
+        (told.0 start (findings_text json (findings_in rules visits)) linted.printed),
   )
 
   -- nothing is found at more visits
-  pub lints_nothing : (at : Reached) (more : List Visit) → findings_after rules visits more ≡ [] → damages_told more ≡ []
-      → at ≡ reached_by (visits ++ more)
-      → HasLinted hears first (record old { at = at }) start before (visits ++ more)
-  lints_nothing at more none quiet reached =
+  pub lints_nothing : (at : Reached) (operations : Operations) (more : List Visit) → findings_after rules visits more ≡ [] → damages_told more ≡ []
+      → at ≡ reached_by (visits ++ more) → Knows operations (seen (visits ++ more))
+      → HasLinted hears first (record old { at = at; operations = operations }) start before (visits ++ more)
+  lints_nothing at operations more none quiet reached knows =
       let same : findings_in rules visits ≡ findings_in rules (visits ++ more) =
       sym (findings-append rules [] visits more ∙ ap (λ (l : List Finding). findings_in rules visits ++ l) none
       ∙ append-nil (findings_in rules visits)) in
       record {
         rules = linted.rules;
+        json = linted.json;
         damages = linted.damages;
         heard = rw (flat_map-append damage_of_visit visits more, quiet, append-nil) linted.heard;
         reached = reached;
+        knows = knows;
         counts = subst (Counts old.report.counts) same linted.counts;
-        printed = subst (λ (l : List Finding). HasPrinted start before (findings_text l) old.report.printer.now) same
+        printed = subst (λ (l : List Finding). HasPrinted start before (findings_text json l) old.report.printer.now) same
             linted.printed;
       }
 
@@ -110,12 +123,14 @@ module _ {D : Type 0} {hears : D → D → List Damage → Type 0} {first old : 
       let same = sym (found_damage first.report.rules visits unit damage.offset damage.kind) in
       record {
         rules = linted.rules;
+        json = linted.json;
         damages = linted.damages;
         heard = subst (λ (l : List Damage). hears first.damages.now new l)
             (sym (flat_map-append damage_of_visit visits (v ∷ []))) heard;
         reached = linted.reached ∙ sym (reached_quiet visits v refl refl refl refl refl);
+        knows = knows_on old.operations visits v linted.knows;
         counts = subst (Counts old.report.counts) same linted.counts;
-        printed = subst (λ (l : List Finding). HasPrinted start held (findings_text l) old.report.printer.now) same
+        printed = subst (λ (l : List Finding). HasPrinted start held (findings_text first.report.json l) old.report.printer.now) same
             linted.printed;
       }
 
@@ -127,15 +142,17 @@ module _ {D : Type 0} (hears : D → D → List Damage → Type 0) (first old : 
       → GoesOn (lint_story hears) first
       (record old { report = record old.report { printer = record old.report.printer { now = printer } } }) start after
       visits flow
-      × Appends start after (findings_text (findings_in first.report.rules visits))
+      × Appends start after (findings_text first.report.json (findings_in first.report.rules visits))
   settles flow.On linted flushes empty =
-      let text = findings_text (findings_in first.report.rules visits) in
+      let text = findings_text first.report.json (findings_in first.report.rules visits) in
       let printed = flushes start text linted.printed in (
         record {
           rules = linted.rules;
+          json = linted.json;
           damages = linted.damages;
           heard = linted.heard;
           reached = linted.reached;
+          knows = linted.knows;
           counts = linted.counts;
           printed = printed;
         },
@@ -145,7 +162,8 @@ module _ {D : Type 0} (hears : D → D → List Damage → Type 0) (first old : 
 
 -- nothing was told yet
 pub begins : {D : Type 0} {hears : D → D → List Damage → Type 0} {first : Linter D} {start : Option (List ℕ)}
-    → hears first.damages.now first.damages.now [] → first.at ≡ reached_by [] → Counts first.report.counts []
+    → hears first.damages.now first.damages.now [] → first.at ≡ reached_by [] → Knows first.operations nothing_seen
+    → Counts first.report.counts []
     → HasPrinted start start [] first.report.printer.now → HasLinted hears first first start start []
-begins none at counts printed =
-    record { rules = refl; damages = refl; heard = none; reached = at; counts = counts; printed = printed }
+begins none at knows counts printed =
+    record { rules = refl; json = refl; damages = refl; heard = none; reached = at; knows = knows; counts = counts; printed = printed }

@@ -1,18 +1,15 @@
 -- What the visits of a section up to some one tell of its current unit. DWARF 5, sections 6.2.2 to 6.2.5.
-use Rattle.std.specs.Prelude.{ℕ, ◌+◌, ◌-◌, ◌^◌, min, Bool, true, false, ◌==◌, if◌then◌else◌, List, [], ◌∷◌, flat_map, length}
+use Rattle.std.specs.Prelude.{ℕ, ◌+◌, Bool, true, false, ◌==◌, if◌then◌else◌, List, [], ◌∷◌, flat_map, length}
 use Rattle.std.specs.Prelude.{Option, Some, None, unwrap_or}
 use Rattle.std.specs.List.{after_last, before_last, count_by}
 use Rattle.std.specs.Option.{option_or}
 use Rattle.dl_table.specs.declared.form.Format.{Format}
 use Rattle.dl_table.specs.declared.form.Format.TheVariants.{Dwarf32, Dwarf64}
 use Rattle.dl_field.specs.declared.params.Params.{Params}
+use Rattle.dl_findings.specs.Counting.{at_most_64_bits}
 use Rattle.dl_rows.specs.Items.{a_byte, a_row, an_operation}
 use Rattle.dl_rows.specs.declared.row.Row.{Row}
 use Rattle.dl_sections.specs.Section.{Visit, of_header, of_item}
-
--- 2^64 - 1 stands for every number above it too
-abbrev pub at_most_64_bits : ℕ → ℕ
-at_most_64_bits n = min n (2 ^ 64 - 1)
 
 -- ---- the current unit
 
@@ -83,6 +80,10 @@ offset_after visits told = at_most_64_bits (program_begins visits + count_by is_
 -- where the last operation begins, which the bytes before the operation before it come before
 abbrev pub operation_offset : List Visit → ℕ
 operation_offset visits = offset_after visits (before_last is_operation (before_last is_operation (of_unit visits)))
+
+-- where the operation begins that comes after these: the bytes since the last one are its own
+abbrev pub next_operation_offset : List Visit → ℕ
+next_operation_offset visits = offset_after visits (before_last is_operation (of_unit visits))
 
 -- after all bytes of the program
 abbrev pub end_offset : List Visit → ℕ

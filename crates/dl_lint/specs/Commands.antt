@@ -12,8 +12,9 @@ use Rattle.dl_sections.specs.Section.{EndsAs, HasBegun, section_visits}
 use Rattle.dl_lint.specs.declared.question.LintQuestion.{LintQuestion}
 use Rattle.dl_lint.specs.declared.question.Linted.{Linted}
 use Rattle.dl_lint.specs.declared.question.LintedAround.{LintedAround}
-use Rattle.dl_lint.specs.Findings.{Counts, findings_in}
-use Rattle.dl_lint.specs.FindingText.{findings_text}
+use Rattle.dl_findings.specs.Counting.{Counts}
+use Rattle.dl_lint.specs.Findings.{findings_in}
+use Rattle.dl_findings.specs.FindingJson.{findings_text}
 
 -- `lint`: the lines of what is found in the units, and in what follows them up to the fault, and how many they are
 abbrev pub Lints : Dialect → LintQuestion → (limit : ℕ) (bytes : List ℕ) (left start now : Option (List ℕ))
@@ -21,17 +22,17 @@ abbrev pub Lints : Dialect → LintQuestion → (limit : ℕ) (bytes : List ℕ)
 Lints dialect q limit bytes left start now (Ok linted) =
     (units : List (List ℕ)) × EndsAs dialect limit bytes left units [] [] (Ok linted.summary)
     × Counts linted.counts (findings_in q.rules (section_visits dialect units []))
-    × Appends start now (findings_text (findings_in q.rules (section_visits dialect units [])))
+    × Appends start now (findings_text q.json (findings_in q.rules (section_visits dialect units [])))
 Lints dialect q limit bytes left start now (Err (fault.Write out)) =
     (units : List (List ℕ)) × (b : List ℕ) × (back : List ℕ) × HasBegun dialect (take limit bytes) units b back
-    × TellsOut start now (findings_text (findings_in q.rules (section_visits dialect units b))) (fault.Write out)
+    × TellsOut start now (findings_text q.json (findings_in q.rules (section_visits dialect units b))) (fault.Write out)
 Lints dialect q limit bytes left start now (Err f) =
     (units : List (List ℕ)) × (b : List ℕ) × (back : List ℕ) × EndsAs dialect limit bytes left units b back (Err f)
-    × Appends start now (findings_text (findings_in q.rules (section_visits dialect units b)))
+    × Appends start now (findings_text q.json (findings_in q.rules (section_visits dialect units b)))
 
 -- what is found in blocks, and in what follows them
 abbrev pub text_around : Dialect → LintQuestion → List Block → Rest → List ℕ
-text_around dialect q blocks rest = findings_text (findings_in q.rules (visits_around dialect blocks rest))
+text_around dialect q blocks rest = findings_text q.json (findings_in q.rules (visits_around dialect blocks rest))
 
 -- `lint_around`: also in the units that are damaged, up to their faults
 abbrev pub LintsAround : Dialect → LintQuestion → (limit : ℕ) (bytes : List ℕ) (left start now : Option (List ℕ))

@@ -1,16 +1,18 @@
 -- The rules of headers and their tables: what each finds at a visit of a section, before being the visits before it. DWARF 5,
 -- sections 6.2.4 and 6.2.4.1.
-use Rattle.std.specs.Prelude.{ℕ, ◌+◌, Bool, ◌==◌, ◌&&◌, ◌||◌, nat_lt, if◌then◌else◌, List, [], ◌∷◌, flat_map, length, zero, suc}
-use Rattle.std.specs.Prelude.{Option, Some, None, is_some}
+use Rattle.std.specs.Prelude.{ℕ, ◌+◌, Bool, not, ◌==◌, ◌&&◌, ◌||◌, nat_le, nat_lt, if◌then◌else◌, zero, suc}
+use Rattle.std.specs.Prelude.{List, [], ◌∷◌, ◌++◌, flat_map, map, length, take, Option, Some, None, is_some, slice_get}
+use Rattle.std.specs.List.{list_any}
 use Rattle.std.specs.Option.{option_and_then}
 use Rattle.dl_table.specs.EntryData.{value_of}
+use Rattle.dl_table.specs.declared.table.Pair.{Pair}
 use Rattle.dl_table.specs.Value.{Value, number}
 use Rattle.dl_field.specs.HeaderData.{HeaderData}
 use Rattle.dl_head.specs.Numbers.{directory_numbered, file_numbered, first_number}
 use Rattle.dl_sections.specs.Section.{Visit, of_header}
-use Rattle.dl_lint.specs.declared.finding.Finding.{Finding}
-use Rattle.dl_lint.specs.declared.finding.Found.{Found}
-use Rattle.dl_lint.specs.declared.finding.Found.TheVariants as found
+use Rattle.dl_findings.specs.declared.finding.Finding.{Finding}
+use Rattle.dl_findings.specs.declared.finding.Found.{Found}
+use Rattle.dl_findings.specs.declared.finding.Found.TheVariants as found
 
 -- in the header of the unit at that offset
 abbrev pub in_header : (offset : ℕ) → Found → Finding
@@ -67,3 +69,33 @@ abbrev pub padding_at : (before : List Visit) → Visit → List Finding
 padding_at before (of_header offset lengths h) =
     if lengths.padding == 0 then [] else in_header offset (found.Padding lengths.padding) ∷ []
 padding_at before visit = []
+
+-- ---- unknown-opcode, of content codes: those of the formats of both tables that the standard doesn't name, once each. It names
+-- 1 to 5 (DW_LNCT_path to DW_LNCT_MD5, section 6.2.4.1)
+
+abbrev pub is_named_content : (code : ℕ) → Bool
+is_named_content code = nat_le 1 code && nat_le code 5
+
+abbrev pub contents : List Pair → List ℕ
+contents pairs = map (λ p. p.content) pairs
+
+abbrev pub content_codes : HeaderData → List ℕ
+content_codes h = contents (h.directories.pairs ++ h.files.pairs)
+
+-- it isn't named, and none of those before
+abbrev pub is_unknown_content : (before : List ℕ) → (code : ℕ) → Bool
+is_unknown_content before code = not (is_named_content code) && not (list_any (λ other. other == code) before)
+
+abbrev pub content_found : (offset : ℕ) → (before : List ℕ) → Option ℕ → List Finding
+content_found offset before None = []
+content_found offset before (Some code) =
+    if is_unknown_content before code then in_header offset (found.UnknownContent code) ∷ [] else []
+
+-- of the code at this place
+abbrev pub content_at : (offset : ℕ) → (codes : List ℕ) → (place : ℕ) → List Finding
+content_at offset codes place = content_found offset (take place codes) (slice_get codes place)
+
+-- of each code
+abbrev pub contents_found : (offset : ℕ) → HeaderData → List Finding
+contents_found offset h =
+    flat_map (content_at offset (content_codes h)) (numbers_from 0 (length (content_codes h)))

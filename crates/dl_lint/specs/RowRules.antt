@@ -9,11 +9,12 @@ use Rattle.dl_rows.specs.Items.{a_row}
 use Rattle.dl_rows.specs.declared.row.Row.{Row}
 use Rattle.dl_look.specs.Answer.{first_place, is_below, last_place, place_of}
 use Rattle.dl_sections.specs.Section.{Visit, of_item, of_open}
-use Rattle.dl_lint.specs.Before.{end_offset, operation_offset, row_number, rows_told, sequence_told, at_most_64_bits}
-use Rattle.dl_lint.specs.declared.finding.Finding.{Finding}
-use Rattle.dl_lint.specs.declared.finding.Found.{Found}
-use Rattle.dl_lint.specs.declared.finding.Found.TheVariants as found
-use Rattle.dl_lint.specs.declared.finding.RowSeen.{RowSeen}
+use Rattle.dl_findings.specs.Counting.{at_most_64_bits}
+use Rattle.dl_lint.specs.Before.{end_offset, operation_offset, row_number, rows_told, sequence_told}
+use Rattle.dl_findings.specs.declared.finding.Finding.{Finding}
+use Rattle.dl_findings.specs.declared.finding.Found.{Found}
+use Rattle.dl_findings.specs.declared.finding.Found.TheVariants as found
+use Rattle.dl_findings.specs.declared.finding.RowSeen.{RowSeen}
 
 -- the row that comes after these visits
 abbrev pub row_seen : (before : List Visit) → Row → RowSeen

@@ -1,13 +1,15 @@
 //! What the rules find in a header and its tables. Sections 6.2.4 and 6.2.4.1.
 
-ghost use Rattle.std.specs.Prelude.{◌≡◌, List, option_to_list};
+ghost use Rattle.std.specs.Prelude.{◌≡◌, ◌==◌, ◌<◌, ◌+◌, ◌++◌, List, Some, length, option_to_list, slice_get, take};
+ghost use Rattle.std.specs.List.{list_any};
 ghost use Rattle.dl_field.specs.HeaderData.{HeaderData};
 ghost use Rattle.dl_table.specs.EntryHeld.{entry_items};
 ghost use Rattle.dl_sections.specs.Section.{Visit, of_header};
 ghost use Rattle.dl_lint.specs.HeaderRules.{directory_found, directory_in, directory_named, directory_of_file, has_directory, padding_at};
+ghost use Rattle.dl_lint.specs.HeaderRules.{content_at, content_codes, contents, is_named_content, is_unknown_content};
 
-use crate::finding::{Finding, Found};
-use dl_head::{Entry, Header, HeaderLengths, ValueRef};
+use dl_findings::{Finding, Found};
+use dl_head::{Entry, Header, HeaderLengths, Pair, ValueRef};
 
 /// The content code of the number of a directory. Section 6.2.4.1.
 const DIRECTORY_INDEX: u64 = 2;
@@ -79,4 +81,74 @@ fn has_directory(header: &Header, directory: u64) -> bool
     ensures { result ≡ has_directory header.now directory }
 {
     header.params().version < 5 && directory == 0 || header.directory(directory).is_some()
+}
+
+/// `unknown-opcode`, of the content code at this place among those of both tables, in the header of the unit at this offset
+pub fn unknown_content(unit: u64, header: &Header, place: usize) -> Option<Finding>
+    requires { place < length (content_codes header.now) }
+    ensures { option_to_list result ≡ content_at unit (content_codes header.now) place }
+{
+    let directories = header.directories().pairs();
+    let files = header.files().pairs();
+    let code = content(directories, files, place);
+    if !is_unknown_content(directories, files, place, code) {
+        return None;
+    }
+    Some(Finding {
+        offset: unit,
+        row: None,
+        found: Found::UnknownContent { content_code: code },
+    })
+}
+
+/// Whether the standard doesn't name a content code, and it doesn't stand before this place.
+fn is_unknown_content(directories: &[Pair], files: &[Pair], place: usize, code: u64) -> bool
+    requires { place < length directories.now + length files.now }
+    ensures { result ≡ is_unknown_content (take place (contents (directories.now ++ files.now))) code }
+{
+    !is_named_content(code) && !has_content_before(directories, files, place, code)
+}
+
+/// How many content codes the formats of both tables have.
+pub fn content_count(header: &Header) -> usize
+    ensures { result ≡ length (content_codes header.now) }
+{
+    header.directories().pairs().len() + header.files().pairs().len()
+}
+
+/// The content code at this place among those of both tables.
+fn content(directories: &[Pair], files: &[Pair], place: usize) -> u64
+    requires { place < length directories.now + length files.now }
+    ensures { slice_get (contents (directories.now ++ files.now)) place ≡ Some result }
+{
+    if place < directories.len() {
+        directories[place].content
+    } else {
+        files[place - directories.len()].content
+    }
+}
+
+/// Whether the standard names a content code.
+fn is_named_content(code: u64) -> bool
+    ensures { result ≡ is_named_content code }
+{
+    1 <= code && code <= 5
+}
+
+/// Whether a content code stands before this place among those of both tables.
+fn has_content_before(directories: &[Pair], files: &[Pair], place: usize, code: u64) -> bool
+    requires { place < length directories.now + length files.now }
+    ensures { result ≡ list_any (λ other. other == code) (take place (contents (directories.now ++ files.now))) }
+{
+    if place <= directories.len() {
+        return has_content(&directories[..place], code);
+    }
+    has_content(directories, code) || has_content(&files[..place - directories.len()], code)
+}
+
+/// Whether one of the pairs has a content code.
+fn has_content(pairs: &[Pair], code: u64) -> bool
+    ensures { result ≡ list_any (λ p. p.content == code) pairs.now }
+{
+    pairs.iter().any(|pair| pair.content == code)
 }

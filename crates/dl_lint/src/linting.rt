@@ -7,11 +7,13 @@ ghost use Rattle.dl_sections.specs.Blaming.{BlamesWriter};
 ghost use Rattle.dl_lint.specs.Commands.{Lints, LintsAround};
 ghost use Rattle.dl_lint.specs.Linting.{told_around};
 
-use crate::counts::FindingCounts;
+use crate::advance::moved_by;
+use crate::operations::Operations;
 use crate::question::{LintQuestion, Linted, LintedAround};
 use crate::reached::{BEFORE_UNITS, Reached};
 use crate::report::Report;
 use crate::row_rules::no_end;
+use dl_findings::FindingCounts;
 use dl_head::{Header, HeaderLengths};
 use dl_input::Source;
 use dl_memory::Memory;
@@ -29,6 +31,8 @@ struct Linter<'d, D> {
     report: Report<'d>,
     /// What is kept of the current unit.
     at: Reached,
+    /// What is kept of its operations.
+    operations: Operations,
     damages: &'d mut D,
 }
 
@@ -46,6 +50,7 @@ impl<W: Destination, D: DamageSink> Visitor<W> for Linter<'_, D> {
     ) -> Result<(), RunFault> {
         self.report.tell_header(output, offset, &lengths, header)?;
         self.at = Reached::at_program(offset, &lengths, header);
+        self.operations = Operations::at_start();
         Ok(())
     }
 
@@ -56,16 +61,22 @@ impl<W: Destination, D: DamageSink> Visitor<W> for Linter<'_, D> {
     #[inline]
     fn bytes(&mut self, _output: &mut W, bytes: &[u8]) -> Result<(), WriteFault> {
         self.at = self.at.with_bytes(bytes);
+        self.operations.with_bytes(bytes);
         Ok(())
     }
 
     #[inline]
     fn operation(
         &mut self,
-        _output: &mut W,
-        _header: &Header,
-        _operation: Operation,
+        output: &mut W,
+        header: &Header,
+        operation: Operation,
     ) -> Result<(), WriteFault> {
+        let params = header.params();
+        let moved = moved_by(params, self.operations.place, operation);
+        self.report.tell_operation(output, &self.at, &self.operations, header, operation, moved)?;
+        self.operations
+            .with_operation(operation, moved.place(params));
         self.at = self.at.with_operation();
         Ok(())
     }
@@ -108,7 +119,8 @@ impl DamageSink for NoneTold {
     fn damaged(&mut self, _damage: Damage) {}
 }
 
-/// Prints a line for each finding of the chosen rules in the units of the input, in the order in which they are read.
+/// Prints a line for each finding of the chosen rules in the units of the input, in the order in which they are read: words,
+/// or a JSON object.
 ///
 /// What is found before a fault is printed. The faults are those of `RunFault`; each growth of memory is one of
 /// `Reader::feed`, and no memory is held for what is found.
@@ -131,9 +143,11 @@ pub fn lint<M: Memory, R: Source, W: Destination>(
         report: Report {
             printer: &mut Printer::new(),
             rules: question.rules,
+            json: question.json,
             counts: FindingCounts::none(),
         },
         at: BEFORE_UNITS,
+        operations: Operations::at_start(),
         damages: &mut NoneTold,
     };
     let summary = read_units(memory.alloc(), input, output, options, &mut linter)?;
@@ -171,9 +185,11 @@ pub fn lint_around<M: Memory, R: Source, W: Destination, D: DamageSink>(
         report: Report {
             printer: &mut printer,
             rules: question.rules,
+            json: question.json,
             counts: FindingCounts::none(),
         },
         at: BEFORE_UNITS,
+        operations: Operations::at_start(),
         damages,
     };
     let ended = read_units_around(memory.alloc(), input, output, options, &mut linter);

@@ -1,7 +1,6 @@
 //! What is asked of a section, and what is answered.
 
-use crate::counts::FindingCounts;
-use crate::rules::Rules;
+use dl_findings::{FindingCounts, Rules};
 use dl_print::Summary;
 use dl_sections::Survey;
 
@@ -10,6 +9,8 @@ use dl_sections::Survey;
 pub struct LintQuestion {
     /// The findings of these rules are told.
     pub rules: Rules,
+    /// Whether each finding is told as a JSON object in a line of its own.
+    pub json: bool,
 }
 
 /// What a section of whole units comes to.

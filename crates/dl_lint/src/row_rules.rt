@@ -9,10 +9,10 @@ ghost use Rattle.dl_lint.specs.Keeping.{reached_by, sequence_of};
 ghost use Rattle.dl_lint.specs.RowRules.{distance, empty_sequence_at, ends_nothing, falling_place_at, falls_below, file_index_at, found_if};
 ghost use Rattle.dl_lint.specs.RowRules.{is_split, is_wrapped};
 ghost use Rattle.dl_lint.specs.RowRules.{line_wrapped_at, names_no_file, no_end_at, no_statement_at, row_seen, split_instruction_at};
-ghost use Rattle.dl_lint.specs.declared.finding.Found.{Found};
+ghost use Rattle.dl_findings.specs.declared.finding.Found.{Found};
 
-use crate::finding::{Finding, Found, RowSeen};
 use crate::reached::{Reached, Sequence};
+use dl_findings::{Finding, Found, RowSeen};
 use dl_head::Header;
 use dl_look::Place;
 use dl_rows::Row;

@@ -58,7 +58,10 @@ fn damaged(rt: HostRuntime) -> Result<(), Fail> {
     let mut input = Source::new(section.as_slice(), 16);
     let mut output = Sink::new(alloc, 1 << 20, 1 << 20);
     let mut damages = Hearer { damage: None };
-    let question = LintQuestion { rules: of_rows() };
+    let question = LintQuestion {
+        rules: of_rows(),
+        json: false,
+    };
     let memory = System::new(alloc);
     let answered = lint_around(
         &memory,

@@ -15,7 +15,10 @@ const TEXT: &str =
 #[test]
 fn each_read(rt: HostRuntime) -> Result<(), Fail> {
     let section = unit(rt.alloc(), &USUAL, "00 01 01")?;
-    let question = LintQuestion { rules: of_rows() };
+    let question = LintQuestion {
+        rules: of_rows(),
+        json: false,
+    };
     for before in 0..4usize {
         let mut input = Source::new(section.as_slice(), 11).with_fault(before, Fault::Fails);
         let mut output = Sink::new(rt.alloc(), 1 << 20, 1 << 20);
@@ -36,7 +39,10 @@ fn each_read(rt: HostRuntime) -> Result<(), Fail> {
 #[test]
 fn each_room(rt: HostRuntime) -> Result<(), Fail> {
     let section = unit(rt.alloc(), &USUAL, "00 01 01")?;
-    let question = LintQuestion { rules: of_rows() };
+    let question = LintQuestion {
+        rules: of_rows(),
+        json: false,
+    };
     for room in [0, 1, 87, 88, 181] {
         let mut input = Source::new(section.as_slice(), 11);
         let mut output = Sink::new(rt.alloc(), room, 1 << 20);

@@ -6,6 +6,8 @@ mod around;
 #[cfg(test)]
 mod each_call;
 #[cfg(test)]
+mod objects;
+#[cfg(test)]
 mod rules;
 #[cfg(test)]
 mod sections;

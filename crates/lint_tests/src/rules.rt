@@ -1,7 +1,8 @@
 //! What each rule finds.
 use crate::sections::{
-    Machine, NEWER_DIRECTORIES, NEWER_FILES, OLDER_DIRECTORIES, OLDER_FILES, PADDED, USUAL,
-    assert_findings, of_rows, unit,
+    DEFINED_FILE, FOURS, Machine, NEWER_CONTENTS, NEWER_DIRECTORIES, NEWER_FILES, NEWER_OPCODES,
+    OLDER_DIRECTORIES, OLDER_FILES, PADDED, SHORT_ADDRESSES, USUAL, WIDE, assert_findings, of_rows,
+    unit,
 };
 use dl_lint::{RULES, Rule, Rules};
 use std::alloc::Global;
@@ -16,18 +17,6 @@ struct Case {
     count: u64,
     text: &'static str,
 }
-
-/// Instructions of a multiple of four bytes.
-const FOURS: Machine = Machine {
-    least: 4,
-    operations: 1,
-};
-
-/// Instructions of four operations.
-const WIDE: Machine = Machine {
-    least: 1,
-    operations: 4,
-};
 
 const CASES: &[Case] = &[
     // 0x1010, then 0x1000, and the end at 0x1020
@@ -111,6 +100,76 @@ const CASES: &[Case] = &[
         rule: Rule::SplitInstruction,
         count: 1,
         text: "0x31 split-instruction: row 2 at 0x0000000000001002 lies no multiple of 4 bytes from 0x0000000000001000, where its sequence begins\n",
+    },
+    // extended opcode 0x80 twice, and 0x81 with an operand
+    Case {
+        machine: USUAL,
+        program: "00 01 80 00 01 80 00 02 81 ff 01 02 04 00 01 01",
+        rule: Rule::UnknownOpcode,
+        count: 2,
+        text: "0x22 unknown-opcode: extended opcode 0x80 is passed over\n\
+               0x28 unknown-opcode: extended opcode 0x81 is passed over\n",
+    },
+    // extended opcode 3 is none of version 5; its length is spelled in two bytes
+    Case {
+        machine: USUAL,
+        program: "00 81 00 03 01 02 04 00 01 01",
+        rule: Rule::UnknownOpcode,
+        count: 1,
+        text: "0x22 unknown-opcode: extended opcode 0x3 is passed over\n",
+    },
+    // 0xfffffffffffffff0 and 0x20 more
+    Case {
+        machine: USUAL,
+        program: "00 09 02 f0 ff ff ff ff ff ff ff 01 02 20 00 01 01",
+        rule: Rule::WrappedAddress,
+        count: 1,
+        text: "0x2e wrapped-address: an advance from 0xfffffffffffffff0 goes past an address of 8 bytes\n\
+               0x30 falling-place: row 2 at 0x0000000000000010 is below the row before it at 0xfffffffffffffff0\n",
+    },
+    // 15 more, which is the last address, and 1 more, by DW_LNS_fixed_advance_pc
+    Case {
+        machine: USUAL,
+        program: "00 09 02 f0 ff ff ff ff ff ff ff 02 0f 01 09 01 00 00 01 01",
+        rule: Rule::WrappedAddress,
+        count: 1,
+        text: "0x30 wrapped-address: an advance from 0xffffffffffffffff goes past an address of 8 bytes\n\
+               0x33 falling-place: row 2 at 0x0000000000000000 is below the row before it at 0xffffffffffffffff\n",
+    },
+    // operation 3 of the last instruction, and one operation more
+    Case {
+        machine: WIDE,
+        program: "00 09 02 ff ff ff ff ff ff ff ff 02 03 01 02 01 00 01 01",
+        rule: Rule::WrappedAddress,
+        count: 1,
+        text: "0x30 wrapped-address: an advance from 0xffffffffffffffff goes past an address of 8 bytes\n\
+               0x32 falling-place: row 2 at 0x0000000000000000 is below the row before it at 0xffffffffffffffff op_index 3\n",
+    },
+    // a column in ten bytes, and then in eleven
+    Case {
+        machine: USUAL,
+        program: "05 81 80 80 80 80 80 80 80 80 00 05 81 80 80 80 80 80 80 80 80 80 00 01 02 04 00 01 01",
+        rule: Rule::LongNumber,
+        count: 1,
+        text: "0x2d long-number: a number in LEB128 has 11 bytes\n",
+    },
+    // the length of DW_LNE_set_discriminator in twelve bytes, and then its operand
+    Case {
+        machine: USUAL,
+        program: "00 82 80 80 80 80 80 80 80 80 80 80 00 04 01 \
+                  00 0d 04 81 80 80 80 80 80 80 80 80 80 80 00 01 02 04 00 01 01",
+        rule: Rule::LongNumber,
+        count: 2,
+        text: "0x22 long-number: a number in LEB128 has 12 bytes\n\
+               0x31 long-number: a number in LEB128 has 12 bytes\n",
+    },
+    // the operand of another extended opcode is no number
+    Case {
+        machine: USUAL,
+        program: "00 0d 80 81 80 80 80 80 80 80 80 80 80 80 00 01 02 04 00 01 01",
+        rule: Rule::LongNumber,
+        count: 0,
+        text: "0x22 unknown-opcode: extended opcode 0x80 is passed over\n",
     },
 ];
 
@@ -197,5 +256,44 @@ fn directories(rt: HostRuntime) -> Result<(), Fail> {
     let text = "0x0 directory-index: file 2 names directory 2 of 1, numbered from 1\n";
     let wanted = (text, Ok((Rule::DirectoryIndex, 1)));
     assert_findings(&rt, rt.alloc(), older.as_slice(), rules, wanted);
+    Ok(())
+}
+
+/// Standard opcodes from 13 on are passed over by the number of their operands; DW_LNE_define_file is one of version 4.
+#[test]
+fn opcodes(rt: HostRuntime) -> Result<(), Fail> {
+    let newer = test_support::bytes(rt.alloc(), NEWER_OPCODES)?;
+    let text = "0x24 unknown-opcode: standard opcode 0xd is passed over\n\
+                0x28 unknown-opcode: standard opcode 0xe is passed over\n";
+    let wanted = (text, Ok((Rule::UnknownOpcode, 2)));
+    assert_findings(&rt, rt.alloc(), newer.as_slice(), of_rows(), wanted);
+    let older = test_support::bytes(rt.alloc(), DEFINED_FILE)?;
+    let wanted = ("", Ok((Rule::UnknownOpcode, 0)));
+    assert_findings(&rt, rt.alloc(), older.as_slice(), of_rows(), wanted);
+    Ok(())
+}
+
+/// A content code is told once, in a unit behind one of 37 bytes.
+#[test]
+fn contents(rt: HostRuntime) -> Result<(), Fail> {
+    let mut section = unit(rt.alloc(), &USUAL, "00 01 01")?;
+    let newer = test_support::bytes(rt.alloc(), NEWER_CONTENTS)?;
+    section.extend_from_slice(newer.as_slice())?;
+    let text = "0x25 unknown-opcode: content code 0x2001 is passed over\n\
+                0x25 unknown-opcode: content code 0x6 is passed over\n";
+    let rules = Rules::none().with(Rule::UnknownOpcode);
+    let wanted = (text, Ok((Rule::UnknownOpcode, 2)));
+    assert_findings(&rt, rt.alloc(), section.as_slice(), rules, wanted);
+    Ok(())
+}
+
+/// Addresses of 4 bytes end at 2^32.
+#[test]
+fn short_addresses(rt: HostRuntime) -> Result<(), Fail> {
+    let section = test_support::bytes(rt.alloc(), SHORT_ADDRESSES)?;
+    let text =
+        "0x29 wrapped-address: an advance from 0x00000000fffffffc goes past an address of 4 bytes\n";
+    let wanted = (text, Ok((Rule::WrappedAddress, 1)));
+    assert_findings(&rt, rt.alloc(), section.as_slice(), of_rows(), wanted);
     Ok(())
 }

@@ -40,6 +40,28 @@ pub const PADDED: &str =
     "23 00 00 00 05 00 08 00 18 00 00 00 01 01 01 fb 0e 0d 00 01 01 01 01 00 00 00 \
         01 00 00 01 00 00 00 00 aa bb 00 01 01";
 
+/// Version 5, where opcode 13 has two operands and 14 none. From byte 36 on 13, 14, 13 again, a row at 0 and an end row at 4.
+pub const NEWER_OPCODES: &str =
+    "2e 00 00 00 05 00 08 00 18 00 00 00 01 01 01 fb 0e 0f 00 01 01 01 01 00 00 00 \
+        01 00 00 01 02 00 00 00 00 00 0d 81 01 05 0e 0d 00 00 01 02 04 00 01 01";
+
+/// Version 4, without files. From byte 30 on DW_LNE_define_file, a row at 0 and an end row at 4.
+pub const DEFINED_FILE: &str =
+    "28 00 00 00 04 00 14 00 00 00 01 01 01 fb 0e 0d 00 01 01 01 01 00 00 00 01 00 \
+        00 01 00 00 00 06 03 61 00 00 00 00 01 02 04 00 01 01";
+
+/// Version 5, content code 0x2001 in both formats and 6 in that of files. From byte 56 on an end row.
+pub const NEWER_CONTENTS: &str =
+    "37 00 00 00 05 00 08 00 2c 00 00 00 01 01 01 fb 0e 0d 00 01 01 01 01 00 00 00 \
+        01 00 00 01 02 01 08 81 40 08 01 2f 73 00 00 03 01 08 81 40 08 06 0b 01 61 2e \
+        63 00 00 07 00 01 01";
+
+/// Version 5, addresses of 4 bytes. From byte 34 on the address 0xfffffffc, a special opcode that advances it by 4 and appends a
+/// row, and an end row at 4.
+pub const SHORT_ADDRESSES: &str =
+    "2b 00 00 00 05 00 04 00 16 00 00 00 01 01 01 fb 0e 0d 00 01 01 01 01 00 00 00 \
+        01 00 00 01 00 00 00 00 00 05 02 fc ff ff ff 4a 02 04 00 01 01";
+
 /// The header of a unit of version 5 without files, with this minimum_instruction_length and so many operations in an
 /// instruction at most, before a program that begins at byte 34.
 pub struct Machine {
@@ -51,6 +73,18 @@ pub struct Machine {
 pub const USUAL: Machine = Machine {
     least: 1,
     operations: 1,
+};
+
+/// Instructions of a multiple of four bytes.
+pub const FOURS: Machine = Machine {
+    least: 4,
+    operations: 1,
+};
+
+/// Instructions of four operations.
+pub const WIDE: Machine = Machine {
+    least: 1,
+    operations: 4,
 };
 
 pub fn options() -> Options<'static>
@@ -87,11 +121,23 @@ pub fn assert_findings(
     rules: Rules,
     wanted: (&str, Result<(Rule, u64), RunFault>),
 ) {
+    assert_told(rt, alloc, section, rules, false, wanted);
+}
+
+/// The same, in words or as JSON objects.
+pub fn assert_told(
+    rt: &impl Abort,
+    alloc: Global,
+    section: &[u8],
+    rules: Rules,
+    json: bool,
+    wanted: (&str, Result<(Rule, u64), RunFault>),
+) {
     let (text, answer) = wanted;
     for most in [1, 7, 4096] {
         let mut input = Source::new(section, most);
         let mut output = Sink::new(alloc, 1 << 20, 1 << 20);
-        let question = LintQuestion { rules };
+        let question = LintQuestion { rules, json };
         let answered = lint(
             &System::new(alloc),
             &mut input,

@@ -1,5 +1,5 @@
 use Rattle.std.proofs.Common.{◌∙◌, Bool, sym, ap}
-use Rattle.dl_lint.specs.declared.finding.Found.TheVariants as found
+use Rattle.dl_findings.specs.declared.finding.Found.TheVariants as found
 use Rattle.dl_lint.specs.RowRules.{found_if}
 use Rattle.dl_lint.proofs.row_rules.empty_sequence.Goals as goal
 

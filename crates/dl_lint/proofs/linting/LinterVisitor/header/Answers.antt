@@ -2,6 +2,7 @@ use Rattle.std.proofs.Common.{refl}
 use Rattle.std.proofs.lemmas.Result.{err_from_is_err_and}
 use Rattle.dl_sections.specs.Section.{of_header}
 use Rattle.dl_lint.proofs.LintingLemmas.{lints, loses}
+use Rattle.dl_lint.proofs.OperationLemmas.{knows_on}
 use Rattle.dl_lint.proofs.linting.LinterVisitor.header.Goals as goal
 
 pub returns-in_err-tell_header-clause-heard : goal.returns-in_err-tell_header-clause-heard
@@ -16,3 +17,4 @@ returns-clause-heard g c first start visits linted =
     lints linted _ (g.W.Write.contents c.tell_header.new.output)
     (of_header c.args.offset c.args.lengths c.args.header.now) (c.in_ok-tell_header.ensures.told visits) refl refl
     (c.at_program-self.ensures visits)
+    (knows_on _ visits (of_header c.args.offset c.args.lengths c.args.header.now) c.at_start-self.ensures)

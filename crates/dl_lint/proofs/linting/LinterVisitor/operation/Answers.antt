@@ -1,12 +1,36 @@
-use Rattle.std.proofs.Common.{◌∷◌, [], refl}
+use Rattle.std.proofs.Common.{◌≡◌, ◌∙◌, refl, ap}
+use Rattle.std.proofs.lemmas.Result.{err_from_is_err_and}
 use Rattle.dl_rows.specs.Items.{an_operation}
+use Rattle.dl_field.specs.declared.params.Params.{Params}
 use Rattle.dl_sections.specs.Section.{of_item}
-use Rattle.dl_lint.proofs.LintingLemmas.{lints_nothing}
+use Rattle.dl_look.specs.declared.place.Place.{Place}
+use Rattle.dl_lint.specs.Operations.{moved_by, reduced, seen}
+use Rattle.dl_lint.proofs.LintingLemmas.{lints, loses}
+use Rattle.dl_lint.proofs.OperationLemmas.{knows_on}
 use Rattle.dl_lint.proofs.linting.LinterVisitor.operation.Goals as goal
+
+pub returns-in_err-tell_operation-clause-heard : goal.returns-in_err-tell_operation-clause-heard
+returns-in_err-tell_operation-clause-heard g c first start visits linted =
+    let e = err_from_is_err_and c.from_residual.result c.from_residual.ensures.1 in
+    let h = c.args.header.now in
+    let o = c.args.operation in
+    let moves : c.moved_by-moved.result ≡ moved_by h.params c.args.self.now.operations.place o =
+    c.moved_by-moved.ensures ∙ ap (λ (p : Params). moved_by p c.args.self.now.operations.place o) c.params-params.ensures.value in
+    rw (e.1, e.2) (loses linted (record c.args.self.now { report = c.tell_operation.new.self })
+    (g.W.Write.contents c.tell_operation.new.output) (of_item (an_operation h o)) _
+    (c.in_err-tell_operation.ensures.told visits linted.reached linted.knows moves))
 
 pub returns-clause-heard : goal.returns-clause-heard
 returns-clause-heard g c first start visits linted =
-    let h = c.args._header.now in
-    let o = c.args._operation in
-    lints_nothing linted c.with_operation-self.result (of_item (an_operation h o) ∷ []) refl refl
+    let h = c.args.header.now in
+    let o = c.args.operation in
+    let at = c.args.self.now.operations.place in
+    let moves : c.moved_by-moved.result ≡ moved_by h.params at o =
+    c.moved_by-moved.ensures ∙ ap (λ (p : Params). moved_by p at o) c.params-params.ensures.value in
+    let place : c.place.result ≡ reduced h.params (moved_by h.params (seen visits).place o) =
+    c.place.ensures ∙ ap (λ (p : Params). reduced p c.moved_by-moved.result) c.params-params.ensures.value
+    ∙ ap (reduced h.params) moves ∙ ap (λ (a : Place). reduced h.params (moved_by h.params a o)) linted.knows.place in
+    lints linted _ (g.W.Write.contents c.tell_operation.new.output) (of_item (an_operation h o))
+    (c.in_ok-tell_operation.ensures.told visits linted.reached linted.knows moves) refl refl
     (c.with_operation-self.ensures visits h o linted.reached)
+    (knows_on _ visits (of_item (an_operation h o)) (c.with_operation.ensures (seen visits) h linted.knows place))

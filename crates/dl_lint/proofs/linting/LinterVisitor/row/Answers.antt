@@ -3,6 +3,7 @@ use Rattle.std.proofs.lemmas.Result.{err_from_is_err_and}
 use Rattle.dl_rows.specs.Items.{a_row}
 use Rattle.dl_sections.specs.Section.{of_item}
 use Rattle.dl_lint.proofs.LintingLemmas.{lints, loses}
+use Rattle.dl_lint.proofs.OperationLemmas.{knows_on}
 use Rattle.dl_lint.proofs.linting.LinterVisitor.row.Goals as goal
 
 pub returns-in_err-tell_row-clause-heard : goal.returns-in_err-tell_row-clause-heard
@@ -17,3 +18,4 @@ returns-clause-heard g c first start visits linted =
     lints linted _ (g.W.Write.contents c.tell_row.new.output) (of_item (a_row c.args.header.now c.args.row.now))
     (c.in_ok-tell_row.ensures.told visits linted.reached) refl refl
     (c.with_row-self.ensures visits c.args.header.now linted.reached)
+    (knows_on c.args.self.now.operations visits (of_item (a_row c.args.header.now c.args.row.now)) linted.knows)

@@ -2,10 +2,11 @@ use Rattle.std.proofs.Common.{◌∙◌, List, Ok, Err, refl, sym, subst}
 use Rattle.std.specs.Prelude.{⊤}
 use Rattle.std.proofs.lemmas.Result.{err_from_is_err_and}
 use Rattle.dl_sections.specs.Section.{of_open}
-use Rattle.dl_lint.specs.declared.finding.Finding.{Finding}
+use Rattle.dl_findings.specs.declared.finding.Finding.{Finding}
 use Rattle.dl_lint.specs.Telling.{Tells}
 use Rattle.dl_lint.proofs.KeptLemmas.{reached_quiet}
 use Rattle.dl_lint.proofs.LintingLemmas.{lints, loses}
+use Rattle.dl_lint.proofs.OperationLemmas.{knows_on}
 use Rattle.dl_lint.proofs.linting.LinterVisitor.unterminated.Goals as goal
 
 pub returns-in_err-tell-clause-heard : goal.returns-in_err-tell-clause-heard
@@ -25,3 +26,4 @@ returns-clause-heard g c first start visits linted =
     (subst (λ (l : List Finding). Tells {A = ⊤} old new c.args.self.now.report c.tell.new.self l (Ok tt))
     (c.no_end.ensures visits linted.reached) c.in_ok-tell.ensures.told) refl refl
     (linted.reached ∙ sym (reached_quiet visits of_open refl refl refl refl refl))
+    (knows_on c.args.self.now.operations visits of_open linted.knows)

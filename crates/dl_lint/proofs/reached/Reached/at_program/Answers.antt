@@ -1,6 +1,7 @@
 use Rattle.std.proofs.Common.{◌∙◌, sym, ap}
 use Rattle.dl_field.specs.declared.params.Params.{Params}
-use Rattle.dl_lint.specs.Before.{at_most_64_bits, program_offset}
+use Rattle.dl_findings.specs.Counting.{at_most_64_bits}
+use Rattle.dl_lint.specs.Before.{program_offset}
 use Rattle.dl_lint.proofs.KeptLemmas.{at_start, reached_header}
 use Rattle.dl_lint.proofs.reached.Reached.at_program.Goals as goal
 

@@ -1,5 +1,5 @@
 use Rattle.std.proofs.Common.{◌∙◌, ◌+◌, ℕ, length, sym, ap}
-use Rattle.dl_lint.specs.Before.{at_most_64_bits}
+use Rattle.dl_findings.specs.Counting.{at_most_64_bits}
 use Rattle.dl_lint.specs.declared.reached.Reached.{Reached}
 use Rattle.dl_lint.proofs.KeptLemmas.{reached_bytes}
 use Rattle.dl_lint.proofs.reached.Reached.with_bytes.Goals as goal

@@ -2,7 +2,7 @@ use Rattle.std.proofs.Common.{◌+◌, ◌-◌, ◌∙◌, List, arith, ap, leng
 use Rattle.std.specs.Prelude.{flat_map, option_to_list}
 use Rattle.std.proofs.lemmas.Result.{err_from_is_err_and}
 use Rattle.dl_table.specs.TableData.{TableData}
-use Rattle.dl_lint.specs.declared.finding.Finding.{Finding}
+use Rattle.dl_findings.specs.declared.finding.Finding.{Finding}
 use Rattle.dl_lint.specs.HeaderRules.{directories_found, directory_of_file, numbers_from}
 use Rattle.dl_lint.proofs.FindingLemmas.{all_numbers, next_numbers, no_numbers}
 use Rattle.dl_lint.proofs.TellLemmas.{Front, all_told, lost, more_told, none_yet}

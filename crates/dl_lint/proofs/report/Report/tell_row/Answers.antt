@@ -3,7 +3,7 @@ use Rattle.std.specs.Prelude.{option_to_list}
 use Rattle.std.proofs.lemmas.Result.{err_from_is_err_and}
 use Rattle.dl_rows.specs.Items.{a_row}
 use Rattle.dl_sections.specs.Section.{Visit, of_item}
-use Rattle.dl_lint.specs.declared.finding.Finding.{Finding}
+use Rattle.dl_findings.specs.declared.finding.Finding.{Finding}
 use Rattle.dl_lint.specs.Findings.{findings_at}
 use Rattle.dl_lint.specs.RowRules.{empty_sequence_at, falling_place_at, file_index_at, line_wrapped_at, no_statement_at}
 use Rattle.dl_lint.specs.RowRules.{split_instruction_at}

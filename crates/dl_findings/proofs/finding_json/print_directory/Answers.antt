@@ -1,0 +1,27 @@
+use Rattle.std.proofs.Common.{◌++◌, codes}
+use Rattle.std.proofs.lemmas.Result.{err_from_is_err_and}
+use Rattle.dl_path.proofs.PrintLemmas.{loses_front, loses_then, prints_then}
+use Rattle.std.specs.Prelude.{decimal}
+use Rattle.dl_findings.specs.FindingJson.{counted_members, directory_members}
+use Rattle.dl_findings.proofs.finding_json.print_directory.Goals as goal
+
+pub returns-in_err-number-clause-printed : goal.returns-in_err-number-clause-printed
+unfolding directory_members
+returns-in_err-number-clause-printed g c start text h =
+    let e = err_from_is_err_and c.from_residual.result c.from_residual.ensures.1 in
+    rw (e.1, e.2) (loses_front _ _ _ (codes ",\"file\":" ++ decimal c.args.file) ((codes ",\"directory\":" ++ decimal c.args.directory) ++ (counted_members (codes ",\"directories\":") c.args.directories c.args.first)) _
+    c.in_err-number.ensures.printed start text h)
+
+pub returns-in_err-number-2-clause-printed : goal.returns-in_err-number-2-clause-printed
+unfolding directory_members
+returns-in_err-number-2-clause-printed g c start text h =
+    let e = err_from_is_err_and c.from_residual-in_err-number-2.result c.from_residual-in_err-number-2.ensures.1 in
+    rw (e.1, e.2) (loses_then _ _ _ _ _ (codes ",\"file\":" ++ decimal c.args.file) ((codes ",\"directory\":" ++ decimal c.args.directory) ++ (counted_members (codes ",\"directories\":") c.args.directories c.args.first)) _ c.in_ok-number.ensures.printed
+    (loses_front _ _ _ (codes ",\"directory\":" ++ decimal c.args.directory) (counted_members (codes ",\"directories\":") c.args.directories c.args.first) _ c.in_err-number-2.ensures.printed) start text h)
+
+pub returns-clause-printed : goal.returns-clause-printed
+unfolding directory_members
+returns-clause-printed g c =
+    prints_then _ _ _ _ _ _ (codes ",\"file\":" ++ decimal c.args.file) ((codes ",\"directory\":" ++ decimal c.args.directory) ++ (counted_members (codes ",\"directories\":") c.args.directories c.args.first)) _ c.in_ok-number.ensures.printed
+    (prints_then _ _ _ _ _ _ (codes ",\"directory\":" ++ decimal c.args.directory) (counted_members (codes ",\"directories\":") c.args.directories c.args.first) _ c.in_ok-number-2.ensures.printed
+    c.print_counted.ensures.printed)

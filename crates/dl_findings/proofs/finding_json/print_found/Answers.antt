@@ -1,0 +1,4 @@
+use Rattle.dl_findings.proofs.finding_json.print_found.Goals as goal
+
+pub returns-in-FallingPlace-clause-printed : goal.returns-in-FallingPlace-clause-printed
+returns-in-FallingPlace-clause-printed g c = rw c.in-FallingPlace.is c.print_place.ensures.printed

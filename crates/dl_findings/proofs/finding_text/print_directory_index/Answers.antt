@@ -1,0 +1,26 @@
+use Rattle.std.proofs.Common.{◌++◌, codes}
+use Rattle.std.proofs.lemmas.Result.{err_from_is_err_and}
+use Rattle.dl_path.proofs.PrintLemmas.{loses_front, loses_then, prints_then}
+use Rattle.std.specs.Prelude.{decimal}
+use Rattle.dl_findings.specs.FindingText.{directory_index_text, numbered_text}
+use Rattle.dl_findings.proofs.finding_text.print_directory_index.Goals as goal
+
+pub returns-in_err-number-clause-printed : goal.returns-in_err-number-clause-printed
+unfolding directory_index_text
+returns-in_err-number-clause-printed g c start text h =
+    let e = err_from_is_err_and c.from_residual.result c.from_residual.ensures.1 in
+    rw (e.1, e.2) (loses_front _ _ _ (codes "file " ++ decimal c.args.file) ((codes " names directory " ++ decimal c.args.directory) ++ (numbered_text c.args.directories c.args.first)) _ c.in_err-number.ensures.printed start text h)
+
+pub returns-in_err-print_named_directory-clause-printed : goal.returns-in_err-print_named_directory-clause-printed
+unfolding directory_index_text
+returns-in_err-print_named_directory-clause-printed g c start text h =
+    let e = err_from_is_err_and c.from_residual-in_err-print_named_directory.result c.from_residual-in_err-print_named_directory.ensures.1 in
+    rw (e.1, e.2) (loses_then _ _ _ _ _ (codes "file " ++ decimal c.args.file) ((codes " names directory " ++ decimal c.args.directory) ++ (numbered_text c.args.directories c.args.first)) _ c.in_ok-number.ensures.printed
+    (loses_front _ _ _ (codes " names directory " ++ decimal c.args.directory) (numbered_text c.args.directories c.args.first) _ c.in_err-print_named_directory.ensures.printed) start text h)
+
+pub returns-clause-printed : goal.returns-clause-printed
+unfolding directory_index_text
+returns-clause-printed g c =
+    prints_then _ _ _ _ _ _ (codes "file " ++ decimal c.args.file) ((codes " names directory " ++ decimal c.args.directory) ++ (numbered_text c.args.directories c.args.first)) _ c.in_ok-number.ensures.printed
+    (prints_then _ _ _ _ _ _ (codes " names directory " ++ decimal c.args.directory) (numbered_text c.args.directories c.args.first) _ c.in_ok-print_named_directory.ensures.printed
+    c.print_numbered.ensures.printed)

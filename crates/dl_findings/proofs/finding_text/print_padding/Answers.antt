@@ -1,0 +1,19 @@
+use Rattle.std.proofs.Common.{codes}
+use Rattle.std.specs.Prelude.{decimal}
+use Rattle.std.proofs.lemmas.Result.{err_from_is_err_and}
+use Rattle.dl_path.proofs.PrintLemmas.{loses_front, prints_then}
+use Rattle.dl_findings.specs.FindingText.{padding_text}
+use Rattle.dl_findings.proofs.finding_text.print_padding.Goals as goal
+
+pub returns-in_err-number-clause-printed : goal.returns-in_err-number-clause-printed
+unfolding padding_text
+returns-in_err-number-clause-printed g c start text h =
+    let e = err_from_is_err_and c.from_residual.result c.from_residual.ensures.1 in
+    rw (e.1, e.2) (loses_front _ _ _ (decimal c.args.bytes) (codes " bytes stand between the tables and the program") _
+    c.in_err-number.ensures.printed start text h)
+
+pub returns-clause-printed : goal.returns-clause-printed
+unfolding padding_text
+returns-clause-printed g c =
+    prints_then _ _ _ _ _ _ (decimal c.args.bytes) (codes " bytes stand between the tables and the program") _
+    c.in_ok-number.ensures.printed c.put.ensures.printed

@@ -1,0 +1,118 @@
+//! What is found.
+
+use crate::rule::Rule;
+use dl_look::Place;
+
+/// A row that a finding is about.
+#[derive(Clone, Copy)]
+pub struct RowSeen {
+    /// Which row of its unit it is, from 1 on; 2^64 - 1 for all above it too.
+    pub number: u64,
+    /// Where it stands. Section 6.2.2.
+    pub place: Place,
+}
+
+/// A finding, and where.
+#[derive(Clone, Copy)]
+pub struct Finding {
+    /// The offset in the section: of the first byte of the operation that it is about, which for a row is the one that appends
+    /// it. Of a unit whose end row is missing it is the end of its program, and of a header that of its unit. 2^64 - 1 stands for every offset above it too.
+    pub offset: u64,
+    /// The row that it is about, where it is about one.
+    pub row: Option<RowSeen>,
+    pub found: Found,
+}
+
+/// An opcode that is passed over. Sections 6.2.5.2 and 6.2.5.3.
+#[derive(Clone, Copy, Debug, PartialEq, Eq)]
+pub enum Opcode {
+    /// A standard one, by its number.
+    Standard(u8),
+    /// An extended one, by its number.
+    Extended(u8),
+}
+
+/// What is found, with all numbers that tell it beside the row.
+#[derive(Clone, Copy)]
+pub enum Found {
+    /// The row names the file of this number. There are so many `files`, and the number of the first is `first`.
+    FileIndex {
+        file: u64,
+        files: u64,
+        first: u64,
+    },
+    /// The file of this number names this directory. There are so many `directories`, and the number of the first is `first`.
+    DirectoryIndex {
+        file: u64,
+        directory: u64,
+        directories: u64,
+        first: u64,
+    },
+    /// The row stands below the place `before` of the row before it.
+    FallingPlace {
+        before: Place,
+    },
+    /// The row is the last of its unit, and no end row.
+    NoEnd,
+    /// The row ends a sequence whose first row has its address.
+    EmptySequence,
+    /// A number in LEB128 of the operation has so many bytes, more than ten. Section 7.6.
+    LongNumber {
+        bytes: u64,
+    },
+    /// So many bytes, more than none, stand between the tables of a header and the program.
+    Padding {
+        bytes: u64,
+    },
+    /// The operation advances the address `from` past what an address of `size` bytes holds.
+    WrappedAddress {
+        from: u64,
+        size: u64,
+    },
+    /// The row has this line, which is above 2^32 - 1.
+    LineWrapped {
+        line: u64,
+    },
+    /// The row ends a sequence of which no row before it is a statement.
+    NoStatement,
+    /// The address of the row is no multiple of `least` bytes, the least length of an instruction, from the address `first` of
+    /// the first row of its sequence.
+    SplitInstruction {
+        first: u64,
+        least: u64,
+    },
+    /// The operation has this opcode, which the standard doesn't name and no operation of the unit before it has.
+    UnknownOpcode {
+        opcode: Opcode,
+    },
+    /// The standard doesn't name this content code of a format of the header's tables. Section 6.2.4.1.
+    UnknownContent {
+        content_code: u64,
+    },
+}
+
+impl Found {
+    ghost use Rattle.std.specs.Prelude.{◌≡◌};
+    ghost use Rattle.dl_findings.specs.FindingText.{rule_of};
+
+    /// The rule that finds it.
+    pub fn rule(&self) -> Rule
+        ensures { result ≡ rule_of self.now }
+    {
+        match self {
+            Found::FileIndex { .. } => Rule::FileIndex,
+            Found::DirectoryIndex { .. } => Rule::DirectoryIndex,
+            Found::FallingPlace { .. } => Rule::FallingPlace,
+            Found::NoEnd => Rule::NoEnd,
+            Found::EmptySequence => Rule::EmptySequence,
+            Found::LongNumber { .. } => Rule::LongNumber,
+            Found::Padding { .. } => Rule::Padding,
+            Found::WrappedAddress { .. } => Rule::WrappedAddress,
+            Found::LineWrapped { .. } => Rule::LineWrapped,
+            Found::NoStatement => Rule::NoStatement,
+            Found::SplitInstruction { .. } => Rule::SplitInstruction,
+            Found::UnknownOpcode { .. } => Rule::UnknownOpcode,
+            Found::UnknownContent { .. } => Rule::UnknownOpcode,
+        }
+    }
+}

@@ -1,0 +1,313 @@
+//! A finding as a JSON object. RFC 8259.
+
+ghost use Rattle.std.specs.Prelude.{◌≡◌, ◌++◌, codes, decimal};
+ghost use Rattle.dl_print.specs.Output.{BlamesWriter, Prints};
+ghost use Rattle.dl_findings.specs.FindingJson.{address_member, both_members, counted_members, directory_members, file_members};
+ghost use Rattle.dl_findings.specs.FindingJson.{finding_object, finding_told, found_members, object_start, opcode_members};
+ghost use Rattle.dl_findings.specs.FindingJson.{row_members, subject_members};
+
+use crate::finding::{Finding, Found, Opcode, RowSeen};
+use crate::finding_text::print_line;
+use dl_look::Place;
+use dl_output::Destination;
+use dl_print::{Printer, WriteFault};
+
+/// Prints a finding as a line of words, or as a JSON object in a line.
+pub fn print_finding<W: Destination>(
+    printer: &mut Printer,
+    output: &mut W,
+    json: bool,
+    finding: &Finding,
+) -> Result<(), WriteFault>
+    ensures printed { Prints (W.contents output.old) (W.contents output.new) printer.old printer.new
+        (finding_told json finding.now) result }
+    ensures blames { BlamesWriter W.fails result }
+{
+    if json {
+        print_object(printer, output, finding)
+    } else {
+        print_line(printer, output, finding)
+    }
+}
+
+/// Prints the JSON object of a finding, and ends its line.
+fn print_object<W: Destination>(
+    printer: &mut Printer,
+    output: &mut W,
+    finding: &Finding,
+) -> Result<(), WriteFault>
+    ensures printed { Prints (W.contents output.old) (W.contents output.new) printer.old printer.new
+        (finding_object finding.now) result }
+    ensures blames { BlamesWriter W.fails result }
+{
+    print_start(printer, output, finding.offset, finding.found.rule().name())?;
+    print_subject(printer, output, &finding.row)?;
+    print_found(printer, output, &finding.found)?;
+    printer.put(output, b"}\n")
+}
+
+/// Prints where a finding is, and the name of its rule.
+#[tactic(auto, unfolding(crate::specs::FindingJson::object_start))]
+fn print_start<W: Destination>(
+    printer: &mut Printer,
+    output: &mut W,
+    offset: u64,
+    name: &[u8],
+) -> Result<(), WriteFault>
+    ensures printed { Prints (W.contents output.old) (W.contents output.new) printer.old printer.new
+        (object_start offset name.now) result }
+    ensures blames { BlamesWriter W.fails result }
+{
+    printer.number(output, b"{\"offset\":", offset)?;
+    printer.put(output, b",\"rule\":\"")?;
+    printer.put(output, name)?;
+    printer.put(output, b"\"")
+}
+
+/// Prints what a finding is about.
+fn print_subject<W: Destination>(
+    printer: &mut Printer,
+    output: &mut W,
+    row: &Option<RowSeen>,
+) -> Result<(), WriteFault>
+    ensures printed { Prints (W.contents output.old) (W.contents output.new) printer.old printer.new
+        (subject_members row.now) result }
+    ensures blames { BlamesWriter W.fails result }
+{
+    match row {
+        Some(row) => print_row(printer, output, row),
+        None => printer.put(output, b""),
+    }
+}
+
+/// Prints which row it is.
+#[tactic(auto, unfolding(crate::specs::FindingJson::row_members))]
+fn print_row<W: Destination>(
+    printer: &mut Printer,
+    output: &mut W,
+    row: &RowSeen,
+) -> Result<(), WriteFault>
+    ensures printed { Prints (W.contents output.old) (W.contents output.new) printer.old printer.new
+        (row_members row.now) result }
+    ensures blames { BlamesWriter W.fails result }
+{
+    printer.number(output, b",\"row\":", row.number)?;
+    print_place(
+        printer,
+        output,
+        b",\"address\":\"",
+        row.place,
+        b",\"op_index\":",
+    )
+}
+
+/// Prints what is found.
+fn print_found<W: Destination>(
+    printer: &mut Printer,
+    output: &mut W,
+    found: &Found,
+) -> Result<(), WriteFault>
+    ensures printed { Prints (W.contents output.old) (W.contents output.new) printer.old printer.new
+        (found_members found.now) result }
+    ensures blames { BlamesWriter W.fails result }
+{
+    match found {
+        Found::FileIndex { file, files, first } => {
+            print_file(printer, output, *file, *files, *first)
+        }
+        Found::DirectoryIndex {
+            file,
+            directory,
+            directories,
+            first,
+        } => print_directory(printer, output, *file, *directory, *directories, *first),
+        Found::FallingPlace { before } => print_place(
+            printer,
+            output,
+            b",\"before\":\"",
+            *before,
+            b",\"before_op_index\":",
+        ),
+        Found::NoEnd => printer.put(output, b""),
+        Found::EmptySequence => printer.put(output, b""),
+        Found::LongNumber { bytes } => printer.number(output, b",\"bytes\":", *bytes),
+        Found::Padding { bytes } => printer.number(output, b",\"bytes\":", *bytes),
+        Found::WrappedAddress { from, size } => print_both(
+            printer,
+            output,
+            b",\"from\":\"",
+            *from,
+            b",\"size\":",
+            *size,
+        ),
+        Found::LineWrapped { line } => printer.number(output, b",\"line\":", *line),
+        Found::NoStatement => printer.put(output, b""),
+        Found::SplitInstruction { first, least } => print_both(
+            printer,
+            output,
+            b",\"first\":\"",
+            *first,
+            b",\"least\":",
+            *least,
+        ),
+        Found::UnknownOpcode { opcode } => print_opcode(printer, output, *opcode),
+        Found::UnknownContent { content_code } => {
+            printer.number(output, b",\"content_code\":", *content_code)
+        }
+    }
+}
+
+/// Prints which opcode is passed over.
+fn print_opcode<W: Destination>(
+    printer: &mut Printer,
+    output: &mut W,
+    opcode: Opcode,
+) -> Result<(), WriteFault>
+    ensures printed { Prints (W.contents output.old) (W.contents output.new) printer.old printer.new
+        (opcode_members opcode) result }
+    ensures blames { BlamesWriter W.fails result }
+{
+    match opcode {
+        Opcode::Standard(number) => {
+            print_code(printer, output, b",\"standard_opcode\":", number)
+        }
+        Opcode::Extended(number) => {
+            print_code(printer, output, b",\"extended_opcode\":", number)
+        }
+    }
+}
+
+/// Prints which file is named, and how many there are.
+#[tactic(auto, unfolding(crate::specs::FindingJson::file_members))]
+fn print_file<W: Destination>(
+    printer: &mut Printer,
+    output: &mut W,
+    file: u64,
+    files: u64,
+    first: u64,
+) -> Result<(), WriteFault>
+    ensures printed { Prints (W.contents output.old) (W.contents output.new) printer.old printer.new
+        (file_members file files first) result }
+    ensures blames { BlamesWriter W.fails result }
+{
+    printer.number(output, b",\"file\":", file)?;
+    print_counted(printer, output, b",\"files\":", files, first)
+}
+
+/// Prints which file names which directory, and how many of these there are.
+#[tactic(auto, unfolding(crate::specs::FindingJson::directory_members))]
+fn print_directory<W: Destination>(
+    printer: &mut Printer,
+    output: &mut W,
+    file: u64,
+    directory: u64,
+    directories: u64,
+    first: u64,
+) -> Result<(), WriteFault>
+    ensures printed { Prints (W.contents output.old) (W.contents output.new) printer.old printer.new
+        (directory_members file directory directories first) result }
+    ensures blames { BlamesWriter W.fails result }
+{
+    printer.number(output, b",\"file\":", file)?;
+    printer.number(output, b",\"directory\":", directory)?;
+    print_counted(printer, output, b",\"directories\":", directories, first)
+}
+
+/// Prints how many there are, under this name, and the number of the first.
+#[tactic(auto, unfolding(crate::specs::FindingJson::counted_members))]
+fn print_counted<W: Destination>(
+    printer: &mut Printer,
+    output: &mut W,
+    name: &[u8],
+    count: u64,
+    first: u64,
+) -> Result<(), WriteFault>
+    ensures printed { Prints (W.contents output.old) (W.contents output.new) printer.old printer.new
+        (counted_members name.now count first) result }
+    ensures blames { BlamesWriter W.fails result }
+{
+    print_number(printer, output, name, count)?;
+    printer.number(output, b",\"first\":", first)
+}
+
+/// Prints an address and a number, each under its name.
+#[tactic(auto, unfolding(crate::specs::FindingJson::both_members))]
+fn print_both<W: Destination>(
+    printer: &mut Printer,
+    output: &mut W,
+    name: &[u8],
+    address: u64,
+    other: &[u8],
+    number: u64,
+) -> Result<(), WriteFault>
+    ensures printed { Prints (W.contents output.old) (W.contents output.new) printer.old printer.new
+        (both_members name.now address other.now number) result }
+    ensures blames { BlamesWriter W.fails result }
+{
+    print_address(printer, output, name, address)?;
+    print_number(printer, output, other, number)
+}
+
+/// Prints an address under this name.
+#[tactic(auto, unfolding(crate::specs::FindingJson::address_member))]
+fn print_address<W: Destination>(
+    printer: &mut Printer,
+    output: &mut W,
+    name: &[u8],
+    address: u64,
+) -> Result<(), WriteFault>
+    ensures printed { Prints (W.contents output.old) (W.contents output.new) printer.old printer.new
+        (address_member name.now address) result }
+    ensures blames { BlamesWriter W.fails result }
+{
+    printer.put(output, name)?;
+    printer.address(output, address)?;
+    printer.put(output, b"\"")
+}
+
+/// Prints the address and the op_index of a place, each under its name.
+#[tactic(auto, unfolding(crate::specs::FindingJson::both_members))]
+fn print_place<W: Destination>(
+    printer: &mut Printer,
+    output: &mut W,
+    name: &[u8],
+    place: Place,
+    other: &[u8],
+) -> Result<(), WriteFault>
+    ensures printed { Prints (W.contents output.old) (W.contents output.new) printer.old printer.new
+        (both_members name.now place.address other.now place.op_index) result }
+    ensures blames { BlamesWriter W.fails result }
+{
+    print_address(printer, output, name, place.address)?;
+    print_code(printer, output, other, place.op_index)
+}
+
+/// Prints a number under this name.
+fn print_number<W: Destination>(
+    printer: &mut Printer,
+    output: &mut W,
+    name: &[u8],
+    number: u64,
+) -> Result<(), WriteFault>
+    ensures printed { Prints (W.contents output.old) (W.contents output.new) printer.old printer.new
+        (name.now ++ decimal number) result }
+    ensures blames { BlamesWriter W.fails result }
+{
+    printer.put(output, name)?;
+    printer.number(output, b"", number)
+}
+
+/// Prints a code of one byte under this name.
+fn print_code<W: Destination>(
+    printer: &mut Printer,
+    output: &mut W,
+    name: &[u8],
+    code: u8,
+) -> Result<(), WriteFault>
+    ensures printed { Prints (W.contents output.old) (W.contents output.new) printer.old printer.new
+        (name.now ++ decimal code) result }
+    ensures blames { BlamesWriter W.fails result }
+{
+    printer.put(output, name)?;
+    printer.number(output, b"", u64::from(code))
+}

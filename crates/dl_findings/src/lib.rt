@@ -1,0 +1,15 @@
+//! Findings of rules about line tables, how they are told, and how many there are.
+#![tactic(auto)]
+
+mod counts;
+mod finding;
+mod finding_json;
+mod finding_text;
+mod rule;
+mod rules;
+
+pub use counts::FindingCounts;
+pub use finding::{Finding, Found, Opcode, RowSeen};
+pub use finding_json::print_finding;
+pub use rule::{RULES, Rule};
+pub use rules::Rules;

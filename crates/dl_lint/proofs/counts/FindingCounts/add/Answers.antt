@@ -1,9 +1,0 @@
-use Rattle.std.proofs.Common.{◌∙◌, ap}
-use Rattle.dl_lint.specs.RuleNames.{rule_place}
-use Rattle.dl_lint.proofs.FindingLemmas.{counts_more}
-use Rattle.dl_lint.proofs.counts.FindingCounts.add.Goals as goal
-
-pub returns : goal.returns
-returns c findings counts =
-    counts_more c.args.self.now.of findings c.args.finding.now c.place-place.result c.saturating_add.result (search)
-    (c.place-place.ensures.place ∙ ap rule_place c.rule.ensures) (search) counts
