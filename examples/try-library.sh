@@ -1,7 +1,8 @@
 #!/usr/bin/env bash
 # try-library.sh [PATH OF dwline]: over the library that `make lib` has built, the examples in C, Rust and Python print of
 # each section of examples/ what `dwline check` prints, the rows that `dwline dump` prints, what `dwline copy` writes,
-# and for the address of each row the row that `dwline find` prints and the location that `dwline addr` prints; where a
+# and for the address of each row the row that `dwline find` prints and the location that `dwline addr` prints, and for lines
+# of each source file the places that `dwline lines` prints; where a
 # section is damaged they say the same of it, after the same rows and locations; with --keep-going they count what `dwline
 # check --keep-going` counts, say the first fault, and find what stands in the units after it; where a growth is refused
 # they say so, whichever it is; of each ELF file that ships the index that they make is the one that `dwline index` makes, its
@@ -89,6 +90,24 @@ if is_installed python3; then
     python3 bindings/python/test_boxantrel.py 2> "$work/tests" || { cat "$work/tests" >&2; exit 1; }
 fi
 
+# The places of lines of source files in a section of examples/: of files that have rows, lines that have some, and those
+# after them, of the line alone and of the least one above it.
+try_lines() {
+    mapfile -t lines < <(cut -d ' ' -f 5 "$here/rows.wanted" | awk '{print $1; print $1 + 1}' | sort -nu | head -n 50)
+    mapfile -t files < <("$dwline" sources --rows --line-str "$line_str" --str "$str" "${order[@]}" < "$section" |
+        awk '$1 > 0' | sed 's|.*[ /]||' | grep '^[A-Za-z0-9._-]*$' | sort -u | head -n 4)
+    for file in "${files[@]}"; do
+        for exact in "" --exact; do
+            { "$dwline" lines - $exact --line-str "$line_str" --str "$str" "${order[@]}" \
+                "${lines[@]/#/$file:}" < "$section" || true; } | sed "s|^\(0x[0-9a-f]*\) .*$file:|\1 |" > "$here/places.wanted"
+            for name in $names; do
+                "run_$name" "${order[@]}" "--${exact:+exact-}lines" "$line_str" "$str" "$file" "${lines[@]}" < "$section" |
+                    cmp - "$here/places.wanted"
+            done
+        done
+    done
+}
+
 # One section of examples/.
 try_section() {
     section=$1
@@ -126,7 +145,8 @@ try_section() {
         "run_$name" "${order[@]}" --addr "$line_str" "$str" "${addresses[@]}" 0x0 0x1 < "$section" |
             cmp - "$here/located.wanted"
     done
-    echo "$folder:$names, ${#addresses[@]} addresses"
+    try_lines
+    echo "$folder:$names, ${#addresses[@]} addresses, ${#lines[@]} lines of ${#files[@]} files"
 }
 
 # A section that ends after this many bytes: whole where `dwline` has it whole, and else at fault where and how it says.
@@ -166,6 +186,10 @@ try_around() {
     mapfile -t addresses < "$here/addresses"
     "$dwline" addr - --line-str $folder/debug_line_str "${order[@]}" "${addresses[@]}" 0x0 < $folder/debug_line \
         > "$here/located.wanted" || true
+    { "$dwline" lines - --line-str $folder/debug_line_str "${order[@]}" series.c:{1..40} < $folder/debug_line || true; } |
+        sed 's|^\(0x[0-9a-f]*\) .*series.c:|\1 |' > "$here/places.wanted"
+    cp "$here/places.wanted" "$here/places.middle"
+    printf '??\n%.0s' {1..40} > "$here/places.first"
     for place in first middle; do
         "$dwline" check --keep-going "${order[@]}" < "$here/$place" > "$here/counts.wanted" 2> "$here/said" || true
         grep -q ' damaged 1$' "$here/counts.wanted"
@@ -177,6 +201,12 @@ try_around() {
             sed 's/^look: //' "$here/fault" | cmp - <(sed -n '1s/^dwline: //p' "$here/said")
             { "run_$name" "${order[@]}" --keep-going --addr $folder/debug_line_str /dev/null "${addresses[@]}" 0x0 \
                 < "$here/$place" 2> "$here/fault" || true; } | cmp - "$here/located.wanted"
+            sed 's/^look: //' "$here/fault" | cmp - <(sed -n '1s/^dwline: //p' "$here/said")
+            { "run_$name" "${order[@]}" --keep-going --lines $folder/debug_line_str /dev/null series.c {1..40} \
+                < "$here/$place" 2> "$here/fault" || true; } | cmp - "$here/places.wanted"
+            sed 's/^look: //' "$here/fault" | cmp - <(sed -n '1s/^dwline: //p' "$here/said")
+            { "run_$name" "${order[@]}" --lines $folder/debug_line_str /dev/null series.c {1..40} \
+                < "$here/$place" 2> "$here/fault" || true; } | cmp - "$here/places.$place"
             sed 's/^look: //' "$here/fault" | cmp - <(sed -n '1s/^dwline: //p' "$here/said")
         done
     done
@@ -190,9 +220,10 @@ try_around() {
 # refused, and before that the front of the rows is printed, and nothing of the counts and the copy.
 try_refused() {
     section=examples/gcc-O2/debug_line
+    strings=examples/gcc-O2/debug_line_str
     here=$work/refused-$1
     mkdir "$here"
-    for words in "" --keep-going --rows --copy; do
+    for words in "" --keep-going --rows --copy "--lines $strings /dev/null series.c 8"; do
         REFUSED=0 "refused_$1" $words < "$section" > "$here/whole"
         refusals=0
         for REFUSED in {1..40}; do
@@ -316,7 +347,7 @@ for_each() {
 }
 
 export dwline work names
-export -f run_c run_rust run_python refused_c refused_rust refused_python try_section try_cut try_around try_refused
+export -f run_c run_rust run_python refused_c refused_rust refused_python try_section try_lines try_cut try_around try_refused
 export -f where_c where_rust where_python try_where
 printf '%s\n' examples/*/debug_line | for_each try_section
 # At each of its first bytes, and at some later ones.

@@ -42,9 +42,9 @@ enum {
     DL_OLDER_8 = 16,    /* of eight */
     DL_ALL = 64,        /* only for dl_index_build and the calls beside it: each sequence counts, one that begins where there
                            is no code too */
-    DL_KEEP_GOING = 128 /* dl_check, dl_find_all, dl_index_build and the calls beside it go on after a damaged unit whose
-                           initial length is good, with the unit that begins where this length says; the other calls take
-                           no notice of it */
+    DL_KEEP_GOING = 128 /* dl_check, dl_find_all, dl_lines, dl_index_build and the calls beside it go on after a damaged
+                           unit whose initial length is good, with the unit that begins where this length says; the other
+                           calls take no notice of it */
 };
 
 /* How a call ends. */
@@ -92,7 +92,8 @@ enum {
     DL_OPCODE_OVERRUN = 16,   /* the unit ends inside an opcode */
     DL_TRUNCATED = 17,        /* the section ends inside a unit */
 
-    /* of an ELF file, which dl_index_build tells; the offset and the detail are 0 where nothing is said of them */
+    /* of an ELF file, which dl_index_build tells; the offset and the detail are 0 where nothing is said of them. dl_lines
+       tells the last one of its section */
     DL_NOT_ELF = 32,            /* the bytes don't begin with the header of an ELF file */
     DL_DAMAGED_ELF = 33,        /* something lies outside the file, or doesn't fit what it stands in */
     DL_NO_LINE_SECTION = 34,    /* there is no section with a line table */
@@ -220,6 +221,30 @@ uint32_t dl_find(const uint8_t *section, size_t len, uint8_t how, uint64_t addre
  */
 uint32_t dl_find_all(const uint8_t *section, size_t len, uint8_t how, const uint64_t *addresses, size_t count,
                      dl_row *rows, uint64_t *units, dl_fault *fault);
+
+/* A place of a line: where a breakpoint on it goes. */
+typedef struct {
+    uint64_t address;
+    uint64_t line;        /* the line that answers, modulo 2^64 */
+    uint64_t column;      /* from 1 on; 0 is the line's left edge */
+    uint8_t prologue_end; /* 1 where a breakpoint at the entry of a function belongs here, else 0 */
+} dl_place;
+
+/*
+ * Finds the places of the line of a file, in one pass, as `dwline lines` does: of the files whose path is the one that is
+ * asked for, or ends in it after a slash, the first statement of each run of rows that have the line, in each sequence.
+ * Where the line has no place, that of the least line above it that has one answers, as debuggers move a breakpoint down; but
+ * not with `exact`. Paths are joined as by dl_path_at, and `line_str` and `str` are as of it. The path that is asked for is
+ * `path_len` bytes, of which none is escaped. The places are told by their addresses, each once for each path of a file, and
+ * as many as there is room for.
+ * DL_DONE: *count is how many places there are, be there room for them or not, and the first of them are written.
+ * DL_NO_ANSWER: there is none. DL_FAULT: *fault is the first fault of the section, and *count and the places, of which there
+ * may be none, are those of the units before it; with DL_KEEP_GOING of all units that aren't damaged, those after a damaged
+ * one too.
+ */
+uint32_t dl_lines(const uint8_t *section, size_t len, uint8_t how, const uint8_t *line_str, size_t line_str_len,
+                  const uint8_t *str, size_t str_len, const uint8_t *path, size_t path_len, uint64_t line, bool exact,
+                  dl_place *places, size_t room, size_t *count, dl_fault *fault);
 
 /*
  * Writes all units anew, each under its header with opcode_base 13 and with the same rows, its numbers shortest. The

@@ -4,7 +4,7 @@
 set -euo pipefail
 kit=$(dirname "$(dirname "$(readlink -f "$(command -v rt)")")")
 cd "$(dirname "$0")/../../crates/dl_c"
-used=(dl_memory dl_buffers dl_index_buffers dl_building)
+used=(dl_memory dl_buffers dl_index_buffers dl_source_buffers dl_building)
 for name in "${used[@]}"; do
     [ -e "../$name/out/rlib/$name.rlib" ] || exec rt lib
 done

@@ -67,6 +67,7 @@ static uint8_t *section_end, *section;
 static dl_counts *counts;
 static dl_fault *fault;
 static dl_row *row, *rows_end;
+static dl_place *places_end;
 static uint64_t *unit;
 static dl_unit *described;
 static size_t *count;
@@ -395,6 +396,46 @@ static void check_same(const struct strings *strings, uint64_t offset, uint64_t 
     wanted(memcmp(alone, path, written) == 0, "another path than that of one file");
 }
 
+/* Places that were told for a line are in order, of one line, and of none below the one that is asked for. */
+static void check_places(const dl_place *places, size_t told, uint64_t line, bool exact)
+{
+    for (size_t i = 0; i < told; i++) {
+        wanted(exact ? places[i].line == line : places[i].line >= line, "a place of another line");
+        wanted(places[i].line == places[0].line && places[i].prologue_end <= 1, "places of two lines");
+        wanted(i == 0 || places[i - 1].address <= places[i].address, "places out of order");
+    }
+}
+
+/* Finds the places of a line of a file of the first unit, where counting ended with this status, into a room. */
+static void check_lines(uint32_t counted, size_t room)
+{
+    static uint8_t path[3 * MOST];
+    struct strings strings = random_strings();
+    size_t length = 0;
+    dl_fault other;
+    if (path_at(&strings, 0, below(3), path, sizeof path, &length, &other) != DL_DONE)
+        length = 0;
+    bool exact = below(2) == 0;
+    uint64_t line = below(4) ? below(32) : next();
+    uint8_t asked = below(2) ? how | DL_KEEP_GOING : up_to_fault();
+    fill();
+    memset(places_end - MOST_ROWS, FILL, MOST_ROWS * sizeof *places_end);
+    dl_place *places = places_end - room;
+    uint32_t status = dl_lines(section, len, asked, strings.line_str, strings.line_str_len, strings.str, strings.str_len,
+                               or_null(path, length), length, line, exact, or_null(places, room), room, count, fault);
+    check_fault(status);
+    wanted(status == counted || (counted == DL_DONE && status == DL_NO_ANSWER), "places with another end than the count");
+    size_t told = 0;
+    if (status == DL_DONE || status == DL_FAULT)
+        told = *count < room ? *count : room;
+    else
+        wanted(is_filled(count, sizeof *count), "a number of places that isn't told");
+    wanted(status != DL_DONE || *count > 0, "no place of a line that has one");
+    check_places(places, told, line, exact);
+    wanted(is_filled(places_end - MOST_ROWS, (MOST_ROWS - room) * sizeof *places), "a place before its room");
+    wanted(is_filled(places + told, (room - told) * sizeof *places), "more than the places");
+}
+
 /* Tells the paths of files of the unit at an offset, whose status is this one, into a room. */
 static void check_paths(uint32_t described_as, uint64_t offset, size_t asked, size_t room)
 {
@@ -490,6 +531,7 @@ int main(int words_count, char **words)
     units_end = (uint64_t *)guarded(MOST_ASKED * sizeof *units_end);
     ends_end = (size_t *)guarded(MOST_ASKED * sizeof *ends_end);
     rows_end = (dl_row *)guarded(MOST_ROWS * sizeof *rows_end);
+    places_end = (dl_place *)guarded(MOST_ROWS * sizeof *places_end);
     uint64_t rounds = strtoull(words[1], NULL, 10);
     for (state = 1; state <= rounds; state++) {
         uint64_t round = state;
@@ -499,6 +541,7 @@ int main(int words_count, char **words)
         check_find_all(counted, below(MOST_ASKED + 1));
         check_counts_around(counted, part_section());
         check_find_all_around(counted, below(MOST_ASKED + 1));
+        check_lines(counted, below(below(2) ? 4 : MOST_ROWS + 1));
         check_copy(counted, below(below(2) ? 64 : MOST_COPY + 1));
         dl_fault told;
         memset(&told, 0, sizeof told);

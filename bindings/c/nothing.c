@@ -51,6 +51,10 @@ static void without_section(void)
     wanted(dl_find_all(NULL, 0, false, NULL, 0, NULL, NULL, &fault) == DL_DONE, "dl_find_all in nothing");
     wanted(dl_find_all(NULL, 0, DL_KEEP_GOING, NULL, 0, NULL, NULL, &fault) == DL_DONE,
            "dl_find_all in nothing around damaged units");
+    wanted(dl_lines(NULL, 0, 0, NULL, 0, NULL, 0, NULL, 0, 8, false, NULL, 0, &length, &fault) == DL_NO_ANSWER,
+           "dl_lines of nothing");
+    wanted(dl_lines(NULL, 0, DL_KEEP_GOING, NULL, 0, NULL, 0, NULL, 0, 8, true, NULL, 0, &length, &fault) == DL_NO_ANSWER,
+           "dl_lines of nothing around damaged units");
     wanted(length == 7, "a length that isn't told");
     wanted(dl_copy(NULL, 0, false, NULL, 0, &length, &fault) == DL_DONE && length == 0, "dl_copy of nothing");
 }
@@ -140,6 +144,16 @@ static void without_room(void)
     wanted(dl_paths_at(section, len, false, 0, files, 2, line_str, line_str_len, NULL, 0, NULL, 0, ends, &fault)
            == DL_NO_ROOM && ends[0] == strlen("/boxantrel/series.c") && ends[1] == 2 * ends[0], "dl_paths_at");
     wanted(dl_find_all(section, len, false, NULL, 0, NULL, NULL, &fault) == DL_DONE, "dl_find_all of no address");
+    const uint8_t *path = (const uint8_t *)"series.c";
+    wanted(dl_lines(section, len, 0, line_str, line_str_len, NULL, 0, path, 8, 7, false, NULL, 0, &length, &fault) == DL_DONE
+           && length == 2, "dl_lines");
+    length = 7;
+    wanted(dl_lines(section, len, 0, line_str, line_str_len, NULL, 0, path, 8, 7, true, NULL, 0, &length, &fault)
+           == DL_NO_ANSWER && length == 7, "dl_lines of that line alone");
+    wanted(dl_lines(section, len, 0, NULL, 0, NULL, 0, path, 8, 7, false, NULL, 0, &length, &fault) == DL_NO_ANSWER,
+           "dl_lines without string sections");
+    wanted(dl_lines(section, len, 0, line_str, line_str_len, NULL, 0, NULL, 0, 7, false, NULL, 0, &length, &fault)
+           == DL_NO_ANSWER, "dl_lines of no path");
     wanted(dl_copy(section, len, false, NULL, 0, &length, &fault) == DL_NO_ROOM && length > 0, "dl_copy");
 }
 

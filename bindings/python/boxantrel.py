@@ -11,6 +11,9 @@
     b'/boxantrel/series.c'
     >>> section.paths_at(0, [1, 2], open("examples/gcc-O2/debug_line_str", "rb").read())
     [b'/boxantrel/series.c', b'/boxantrel/include/range.h']
+    >>> texts = open("examples/gcc-O2/debug_line_str", "rb").read()
+    >>> [(hex(place.address), place.line, place.column) for place in section.lines("series.c", 7, line_str=texts)]
+    [('0x401000', 8, 5), ('0x40102e', 8, 33)]
     >>> [(unit.offset, unit.rows, len(list(section.rows_at(unit.offset)))) for unit in section.units()]
     [(0, 59, 59), (297, 32, 32)]
 
@@ -48,6 +51,7 @@ __all__ = [
     "Location",
     "NoIndex",
     "OtherVersion",
+    "Place",
     "Row",
     "Section",
     "Stretch",
@@ -80,6 +84,10 @@ class _Unit(ctypes.Structure):
         ("address_size", ctypes.c_uint8),
         ("is_dwarf64", ctypes.c_uint8),
     ]
+
+
+class _Place(ctypes.Structure):
+    _fields_ = [(name, ctypes.c_uint64) for name in ("address", "line", "column")] + [("prologue_end", ctypes.c_uint8)]
 
 
 class _Layout(ctypes.Structure):
@@ -190,6 +198,16 @@ class Found(NamedTuple):
     unit: int
 
 
+class Place(NamedTuple):
+    """A place of a line, where a breakpoint on it goes: its address, the line that answers, the column from 1 on (0 is the
+    line's left edge), and whether a breakpoint at the entry of a function belongs there."""
+
+    address: int
+    line: int
+    column: int
+    prologue_end: bool
+
+
 class Damage(Exception):
     """A unit is damaged. `offset` counts from the section's first byte; `kind` and `detail` are the numbers that stand
     for the fault in include/boxantrel.h. Its text says the same in words.
@@ -292,6 +310,10 @@ def _library() -> ctypes.CDLL:
         + [ctypes.c_void_p, ctypes.c_size_t, ctypes.POINTER(ctypes.c_size_t), fault],
         "dl_find_all": section
         + [ctypes.POINTER(ctypes.c_uint64), ctypes.c_size_t, row, ctypes.POINTER(ctypes.c_uint64), fault],
+        "dl_lines": section
+        + held * 3
+        + [ctypes.c_uint64, ctypes.c_bool, ctypes.POINTER(_Place), ctypes.c_size_t]
+        + [ctypes.POINTER(ctypes.c_size_t), fault],
         "dl_find": section + place + [row, ctypes.POINTER(ctypes.c_uint64), fault],
         "dl_index_fault_text": [ctypes.POINTER(_IndexFault), ctypes.c_void_p, ctypes.c_size_t],
         "dl_index_open": held + [index, ctypes.POINTER(_IndexFault)],
@@ -353,6 +375,11 @@ def _refuse(status: int, fault: _Fault) -> NoReturn:
     if status == _NO_MEMORY:
         raise MemoryError("out of memory")
     raise RuntimeError(f"the status {status}, which the call doesn't answer")
+
+
+def _is_damage(status: int, fault: _Fault) -> bool:
+    """Whether units are damaged, and nothing else is wrong with a section."""
+    return status == _FAULT and fault.kind < _NOT_ELF
 
 
 class Section:
@@ -516,6 +543,48 @@ class Section:
         status = _calls.dl_find_all(*self._how(keep_going), asked, count, rows, units, ctypes.byref(fault))
         answers = zip(rows, units)
         return [None if unit == _NO_UNIT else Found(_row(row), unit) for row, unit in answers], status, fault
+
+    def lines(
+        self,
+        path: Any,
+        line: int,
+        exact: bool = False,
+        line_str: Any = b"",
+        text: Any = b"",
+        keep_going: bool = False,
+    ) -> List[Place]:
+        """The places of the line of a file, by their addresses, as `dwline lines` finds them: of the files whose path is this
+        one (a str by its bytes in UTF-8, or bytes), or ends in it after a slash, the first statement of each run of rows that
+        have the line. Where it has none, the least line above it that has one answers, but not with `exact`. A damaged section
+        is raised; the units before the fault answer by `lines_before`. With `keep_going` all units that aren't damaged answer,
+        and no damage is raised: `check` tells of it. More than 64 places are told twice."""
+        places, status, fault = self._lines(path, line, exact, line_str, text, keep_going)
+        if status not in (_DONE, _NO_ANSWER) and not (keep_going and _is_damage(status, fault)):
+            _refuse(status, fault)
+        return places
+
+    def lines_before(
+        self, path: Any, line: int, exact: bool = False, line_str: Any = b"", text: Any = b""
+    ) -> List[Place]:
+        """The same by the units before the first fault, if there is one."""
+        places, status, fault = self._lines(path, line, exact, line_str, text, False)
+        if status not in (_DONE, _NO_ANSWER, _FAULT):
+            _refuse(status, fault)
+        return places
+
+    def _lines(
+        self, path: Any, line: int, exact: bool, line_str: Any, text: Any, keep_going: bool
+    ) -> tuple[List[Place], int, _Fault]:
+        strings = (_Bytes(line_str), _Bytes(text), _Bytes(path.encode() if isinstance(path, str) else path))
+        asked = [number for held in strings for number in held.pointer] + [_number(line, 64), bool(exact)]
+        room, count, fault = 0, ctypes.c_size_t(64), _Fault()
+        while room < count.value:
+            room, count.value = count.value, 0
+            places = (_Place * room)()
+            answer = (places, room, ctypes.byref(count), ctypes.byref(fault))
+            status = _calls.dl_lines(*self._how(keep_going), *asked, *answer)
+        told = [Place(place.address, place.line, place.column, bool(place.prologue_end)) for place in places[: count.value]]
+        return told, status, fault
 
 
 def _location(location: _Location) -> Optional[Location]:

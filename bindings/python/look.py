@@ -1,14 +1,16 @@
-"""look.py [--big] [--older SIZE] [--keep-going] [--rows | --copy | --addr LINE_STR STR ADDRESS.. | ADDRESS..]: of the section
+"""look.py [--big] [--older SIZE] [--keep-going] [--rows | --copy | --addr LINE_STR STR ADDRESS.. |
+--lines LINE_STR STR PATH LINE.. | --exact-lines LINE_STR STR PATH LINE.. | ADDRESS..]: of the section
 on standard input, what `dwline check` prints of it; with --rows the rows that `dwline dump` prints, with --copy what `dwline
-copy` writes, with --addr and the files of both string sections what `dwline addr` prints; or with addresses the row that
-answers for each as `dwline find` prints it. With --keep-going the units after a damaged one count too, and answer with
---addr; the first fault is said."""
+copy` writes, with --addr and the files of both string sections what `dwline addr` prints; with --lines what `dwline lines` prints
+of each line of the path, but for the paths, and with --exact-lines what it prints with --exact; or with addresses the row that
+answers for each as `dwline find` prints it. With --keep-going the units after a damaged one count too, and answer with --addr
+and --lines; the first fault is said."""
 
 import pathlib
 import sys
 from typing import Dict, Iterable, List, Optional, Set, Tuple
 
-from boxantrel import Damage, Found, OtherVersion, Row, Section
+from boxantrel import Damage, Found, OtherVersion, Place, Row, Section
 
 
 def line_of(row: Row) -> str:
@@ -83,6 +85,23 @@ def locate_each(section: Section, keep_going: bool, line_str: bytes, text: bytes
     section.check()
 
 
+def place_line(place: Place) -> str:
+    column = f":{place.column}" if place.column else ""
+    return f"0x{place.address:016x} {place.line}{column}{' prologue' if place.prologue_end else ''}"
+
+
+def find_lines(
+    section: Section, keep_going: bool, exact: bool, line_str: bytes, text: bytes, path: str, words: List[str]
+) -> None:
+    for word in words:
+        if keep_going:
+            places = section.lines(path, int(word), exact, line_str, text, keep_going=True)
+        else:
+            places = section.lines_before(path, int(word), exact, line_str, text)
+        print("\n".join(map(place_line, places)) or "??")
+    section.check()
+
+
 def main(words: List[str]) -> int:
     big = words[:1] == ["--big"]
     words = words[big:]
@@ -101,6 +120,9 @@ def main(words: List[str]) -> int:
         elif words[0] == "--addr":
             files = [pathlib.Path(name).read_bytes() for name in words[1:3]]
             locate_each(section, keep_going, *files, words[3:])
+        elif words[0] in ("--lines", "--exact-lines"):
+            files = [pathlib.Path(name).read_bytes() for name in words[1:3]]
+            find_lines(section, keep_going, words[0] == "--exact-lines", *files, words[3], words[4:])
         else:
             find_each(section, words)
     except (Damage, OtherVersion) as refusal:

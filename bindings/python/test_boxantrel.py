@@ -10,7 +10,7 @@ import pickle
 import tempfile
 import unittest
 
-from boxantrel import Counts, Damage, FileFault, Index, NoIndex, OtherVersion, Section
+from boxantrel import Counts, Damage, FileFault, Index, NoIndex, OtherVersion, Place, Section
 
 EXAMPLES = pathlib.Path(__file__).resolve().parents[2] / "examples"
 BYTES = (EXAMPLES / "gcc-O2" / "debug_line").read_bytes()
@@ -47,6 +47,8 @@ class Numbers(unittest.TestCase):
                 lambda: self.section.path_at(0, number),
                 lambda: self.section.paths_at(number, [1]),
                 lambda: self.section.paths_at(0, [1, number]),
+                lambda: self.section.lines(SERIES, number),
+                lambda: self.section.lines_before(SERIES, number),
                 lambda: Damage(number, 16, 0),
                 lambda: Damage(0, 16, number),
             ):
@@ -66,6 +68,7 @@ class Numbers(unittest.TestCase):
         self.assertEqual(list(self.section.rows_at(most)), [])
         self.assertIsNone(self.section.path_at(most, most))
         self.assertIsNone(self.section.paths_at(most, [most]))
+        self.assertEqual(self.section.lines(SERIES, most, line_str=LINE_STR), [])
 
     def test_what_is_no_number(self) -> None:
         self.assertRaises(TypeError, self.section.find, 1.5)
@@ -154,6 +157,61 @@ class Paths(unittest.TestCase):
     def test_another_version(self) -> None:
         version_4 = bytes([2, 0, 0, 0, 4, 0])
         self.assertRaises(OtherVersion, Section(version_4).paths_at, 0, [1])
+
+
+# Of line 8 of series.c, which has two runs with a statement, and none on the line before.
+PLACES = [Place(0x401000, 8, 5, False), Place(0x40102E, 8, 33, False)]
+
+
+class Lines(unittest.TestCase):
+    def setUp(self) -> None:
+        self.section = Section(BYTES)
+
+    def lines(self, path: object, line: int, exact: bool = False) -> list:
+        return self.section.lines(path, line, exact, LINE_STR)
+
+    def test_the_first_statements_of_runs(self) -> None:
+        for path in (SERIES, b"series.c", "series.c", bytearray(SERIES)):
+            self.assertEqual(self.lines(path, 8), PLACES)
+            self.assertEqual(self.lines(path, 8, True), PLACES)
+        self.assertEqual(self.lines("include/range.h", 17), [Place(0x40101A, 17, 5, False)])
+        self.assertEqual(self.lines("grammar.y", 70002), [Place(0x4010E6, 70002, 5, False)])
+
+    def test_the_least_line_above(self) -> None:
+        self.assertEqual(self.lines("series.c", 7), PLACES)
+        self.assertEqual(self.lines("range.h", 11), [Place(0x401072, 12, 5, False)])
+        self.assertEqual(self.lines("series.c", 7, True), [])
+
+    def test_no_place(self) -> None:
+        # The rows of line 19 of range.h are no statements; the others are parts of names, or none.
+        for path, line in (("range.h", 18), ("series.c", 34), ("eries.c", 8), ("", 8), ("/", 8), ("series.c/", 8)):
+            self.assertEqual(self.lines(path, line), [])
+        self.assertEqual(self.section.lines("series.c", 8), [])
+        self.assertEqual(Section(b"").lines("series.c", 8), [])
+
+    def test_an_end_of_the_prologue(self) -> None:
+        folder = EXAMPLES / "clang-O2"
+        section = Section((folder / "debug_line").read_bytes())
+        strings = (folder / "debug_line_str").read_bytes()
+        ends = {row.address for unit in section.units() for row in section.rows_at(unit.offset) if row.prologue_end}
+        places = [place for line in range(100) for place in section.lines("series.c", line, True, strings)]
+        self.assertEqual({place.address for place in places if place.prologue_end} - ends, set())
+        self.assertTrue(any(place.prologue_end for place in places))
+
+    def test_many_places(self) -> None:
+        address = (0x401000).to_bytes(8, "little")
+        starts = [0x401000 + 0x1000 * number for number in range(100)]
+        self.section = Section(b"".join(BYTES[:FIRST].replace(address, start.to_bytes(8, "little")) for start in starts))
+        places = [place._replace(address=place.address - 0x401000 + start) for start in starts for place in PLACES]
+        self.assertEqual(self.lines("series.c", 8), places)
+
+    def test_a_damaged_unit(self) -> None:
+        section = Section(DAMAGED + BYTES)
+        self.assertRaises(Damage, section.lines, "series.c", 8, False, LINE_STR)
+        self.assertEqual(section.lines_before("series.c", 8, False, LINE_STR), [])
+        self.assertEqual(section.lines("series.c", 8, False, LINE_STR, keep_going=True), PLACES)
+        behind = Section(BYTES + DAMAGED)
+        self.assertEqual(behind.lines_before("series.c", 8, False, LINE_STR), PLACES)
 
 
 class Around(unittest.TestCase):

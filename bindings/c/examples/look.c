@@ -1,9 +1,12 @@
 /*
- * look [--big] [--older SIZE] [--keep-going] [--rows | --copy | --addr LINE_STR STR ADDRESS.. | ADDRESS..]: of the section
+ * look [--big] [--older SIZE] [--keep-going] [--rows | --copy | --addr LINE_STR STR ADDRESS.. |
+ * --lines LINE_STR STR PATH LINE.. | --exact-lines LINE_STR STR PATH LINE.. | ADDRESS..]: of the section
  * on standard input, what `dwline check` prints of it; with --rows the rows that `dwline dump` prints, with --copy what
- * `dwline copy` writes, with --addr and the files of both string sections what `dwline addr` prints; or with addresses the
- * row that answers for each as `dwline find` prints it. With --older units of versions 2 to 4 are read too, with addresses
- * of this size. With --keep-going the units after a damaged one count too, and answer with --addr; the first fault is said.
+ * `dwline copy` writes, with --addr and the files of both string sections what `dwline addr` prints; with --lines what `dwline
+ * lines` prints of each line of the path, but for the paths, and with --exact-lines what it prints with --exact; or with
+ * addresses the row that answers for each as `dwline find` prints it. With --older units of versions 2 to 4 are read too, with
+ * addresses of this size. With --keep-going the units after a damaged one count too, and answer with --addr and --lines; the
+ * first fault is said.
  */
 #include <boxantrel.h>
 #include <inttypes.h>
@@ -225,6 +228,50 @@ static int locate(char **words, size_t count)
     return status == DL_DONE ? 0 : refused(status, &fault);
 }
 
+static void print_places(const dl_place *places, size_t count)
+{
+    if (count == 0)
+        puts("??");
+    for (size_t i = 0; i < count; i++) {
+        printf("0x%016" PRIx64 " %" PRIu64, places[i].address, places[i].line);
+        if (places[i].column != 0)
+            printf(":%" PRIu64, places[i].column);
+        puts(places[i].prologue_end ? " prologue" : "");
+    }
+}
+
+/* Finds the places of a line, in as much room as they want, and gives the status of the call. */
+static uint32_t find_line(const char *path, uint64_t line, bool exact, dl_place **places, size_t *count, dl_fault *fault)
+{
+    for (size_t room = 16;; room = *count) {
+        free(*places);
+        *places = malloc(room * sizeof **places);
+        *count = 0;
+        if (*places == NULL)
+            return DL_NO_MEMORY;
+        uint32_t status = dl_lines(bytes, len, how, texts[0], texts_len[0], texts[1], texts_len[1], (const uint8_t *)path,
+                                   strlen(path), line, exact, *places, room, count, fault);
+        if (*count <= room)
+            return status;
+    }
+}
+
+/* Prints the places of each line of a path; the fault of the section is said at the end. */
+static int find_lines(const char *path, char **lines, size_t count, bool exact)
+{
+    uint32_t status = DL_DONE;
+    dl_fault fault;
+    for (size_t i = 0; i < count && status != DL_NO_MEMORY; i++) {
+        dl_place *places = NULL;
+        size_t found = 0;
+        status = find_line(path, strtoull(lines[i], NULL, 10), exact, &places, &found, &fault);
+        if (status != DL_NO_MEMORY)
+            print_places(places, found);
+        free(places);
+    }
+    return status == DL_DONE || status == DL_NO_ANSWER ? 0 : refused(status, &fault);
+}
+
 /* Prints the rows of the unit at the offset, those before a fault too, and gives the status of the call. */
 static uint32_t print_rows(uint64_t offset, dl_fault *fault)
 {
@@ -293,7 +340,9 @@ int main(int count, char **words)
     bytes = read_all(stdin, &len);
     bool has_all = bytes != NULL;
     bool is_addr = at + 2 < count && strcmp(words[at], "--addr") == 0;
-    for (int i = 0; i < 2 && is_addr; i++) {
+    bool is_exact = at + 3 < count && strcmp(words[at], "--exact-lines") == 0;
+    bool is_lines = is_exact || (at + 3 < count && strcmp(words[at], "--lines") == 0);
+    for (int i = 0; i < 2 && (is_addr || is_lines); i++) {
         FILE *file = fopen(words[at + 1 + i], "rb");
         texts[i] = read_all(file, &texts_len[i]);
         has_all = has_all && texts[i] != NULL;
@@ -313,6 +362,8 @@ int main(int count, char **words)
         status = copy();
     else if (is_addr)
         status = locate(words + at + 3, (size_t)(count - at - 3));
+    else if (is_lines)
+        status = find_lines(words[at + 3], words + at + 4, (size_t)(count - at - 4), is_exact);
     else
         for (; at < count && status == 0; at++)
             status = find(words[at]);

@@ -1,10 +1,12 @@
-//! look [--big] [--older SIZE] [--keep-going] [--rows | --copy | --addr LINE_STR STR ADDRESS.. | ADDRESS..]: of the section
+//! look [--big] [--older SIZE] [--keep-going] [--rows | --copy | --addr LINE_STR STR ADDRESS.. |
+//! --lines LINE_STR STR PATH LINE.. | --exact-lines LINE_STR STR PATH LINE.. | ADDRESS..]: of the section
 //! on standard input, what `dwline check` prints of it; with --rows the rows that `dwline dump` prints, with --copy what
-//! `dwline copy` writes, with --addr and the files of both string sections what `dwline addr` prints; or with addresses the
-//! row that answers for each as `dwline find` prints it. With --keep-going the units after a damaged one count too, and
-//! answer with --addr; the first fault is said.
+//! `dwline copy` writes, with --addr and the files of both string sections what `dwline addr` prints; with --lines what `dwline
+//! lines` prints of each line of the path, but for the paths, and with --exact-lines what it prints with --exact; or with
+//! addresses the row that answers for each as `dwline find` prints it. With --keep-going the units after a damaged one count
+//! too, and answer with --addr and --lines; the first fault is said.
 
-use boxantrel::{AddressSize, Error, Found, Order, Row, Section, Survey};
+use boxantrel::{AddressSize, Error, Found, Order, Place, Row, Section, Survey};
 use std::collections::{HashMap, HashSet};
 use std::io::{self, BufWriter, Read, Write};
 use std::process::ExitCode;
@@ -153,6 +155,47 @@ fn locate_each(
     Ok(all.error.map_or(Ok(()), Err))
 }
 
+fn print_place(output: &mut impl Write, place: &Place) -> io::Result<()> {
+    write!(output, "0x{:016x} {}", place.address, place.line)?;
+    if place.column != 0 {
+        write!(output, ":{}", place.column)?;
+    }
+    writeln!(output, "{}", if place.prologue_end { " prologue" } else { "" })
+}
+
+fn find_lines(
+    output: &mut impl Write,
+    section: &Section,
+    keep_going: bool,
+    exact: bool,
+    words: &[String],
+) -> io::Result<Result<(), Error>> {
+    let [line_str, str, path, words @ ..] = words else {
+        return Err(io::Error::other("no files, or no path"));
+    };
+    let (line_str, str) = (std::fs::read(line_str)?, std::fs::read(str)?);
+    let mut end = Ok(());
+    for word in words {
+        let line = word.parse().map_err(|_| io::Error::other("no line"))?;
+        let found = if keep_going {
+            section.lines_around(path.as_bytes(), line, exact, &line_str, &str)
+        } else {
+            section.lines(path.as_bytes(), line, exact, &line_str, &str)
+        };
+        if found.error == Some(Error::NoMemory) {
+            return Ok(Err(Error::NoMemory));
+        }
+        if found.places.is_empty() {
+            writeln!(output, "??")?;
+        }
+        for place in &found.places {
+            print_place(output, place)?;
+        }
+        end = found.error.map_or(Ok(()), Err);
+    }
+    Ok(end)
+}
+
 fn address_size(text: &str) -> Option<AddressSize> {
     match text {
         "1" => Some(AddressSize::One),
@@ -194,6 +237,8 @@ fn main() -> io::Result<ExitCode> {
         copy(&mut output, &section)?
     } else if words[0] == "--addr" {
         locate_each(&mut output, &section, keep_going, &words[1..])?
+    } else if words[0] == "--lines" || words[0] == "--exact-lines" {
+        find_lines(&mut output, &section, keep_going, words[0] == "--exact-lines", &words[1..])?
     } else {
         find_each(&mut output, &section, &words)?
     };

@@ -16,6 +16,8 @@
 //! assert_eq!(path, b"/boxantrel/series.c");
 //! let paths = section.paths_at(found.unit, &[1, found.row.file], &texts, &[])?.unwrap();
 //! assert_eq!(paths, [path.clone(), path]);
+//! let places = section.lines(b"series.c", 7, false, &texts, &[]).places;
+//! assert_eq!(places.iter().map(|place| (place.address, place.line)).collect::<Vec<_>>(), [(0x401000, 8), (0x40102e, 8)]);
 //! let survey = section.check_around()?;
 //! assert_eq!((survey.counts, survey.damaged, survey.first), (section.check()?, 0, None));
 //! assert_eq!(section.find_all_around(&[0x401008, 0]), section.find_all(&[0x401008, 0]));
@@ -128,6 +130,18 @@ pub struct Found {
     pub unit: u64,
 }
 
+/// A place of a line: where a breakpoint on it goes.
+#[derive(Clone, Copy, Debug, PartialEq, Eq)]
+pub struct Place {
+    pub address: u64,
+    /// The line that answers.
+    pub line: u64,
+    /// From 1 on; 0 is the line's left edge.
+    pub column: u64,
+    /// Whether a breakpoint at the entry of a function belongs here.
+    pub prologue_end: bool,
+}
+
 /// A unit that was read whole.
 #[derive(Clone, Copy, Debug, PartialEq, Eq)]
 pub struct Unit {
@@ -169,7 +183,7 @@ pub enum Error {
     /// The section is damaged at this offset. The kind and its detail are the numbers that stand for the fault in
     /// include/boxantrel.h; Display has it in words.
     Damage { offset: u64, kind: u32, detail: u64 },
-    /// The ELF file is damaged, or has no line table that is read. The kind, the offset and the detail are the numbers that
+    /// The ELF file is damaged, or has no line table that is read, or the section is too long. The kind, the offset and the detail are the numbers that
     /// stand for the fault in include/boxantrel.h; Display has it in words.
     File { kind: u32, offset: u64, detail: u64 },
     /// Memory was refused.
@@ -453,6 +467,59 @@ impl<'a> Section<'a> {
         }
     }
 
+    /// The places of the line of a file, by their addresses, as `dwline lines` finds them: of the files whose path is this one, or
+    /// ends in it after a slash, the first statement of each run of rows that have the line. Where it has none, the least line
+    /// above it that has one answers, but not with `exact`. The string sections are those of `path_at`. Where the section is
+    /// damaged the units before the fault answer. More than 64 places are told twice.
+    pub fn lines(&self, path: &[u8], line: u64, exact: bool, line_str: &[u8], str: &[u8]) -> FoundPlaces {
+        self.places(self.how(), path, line, exact, line_str, str)
+    }
+
+    /// The same, but goes on after a damaged unit as `check_around` does: all units that aren't damaged answer, and the error is
+    /// the damage of the first that is.
+    pub fn lines_around(&self, path: &[u8], line: u64, exact: bool, line_str: &[u8], str: &[u8]) -> FoundPlaces {
+        self.places(self.how() + raw::KEEP_GOING, path, line, exact, line_str, str)
+    }
+
+    fn places(&self, how: u8, path: &[u8], line: u64, exact: bool, line_str: &[u8], str: &[u8]) -> FoundPlaces {
+        let mut places = vec![raw::Place::default(); 64];
+        loop {
+            let mut count = 0;
+            let mut fault = raw::Fault::default();
+            // SAFETY: as in `path_at`; the path is a slice's.
+            let status = unsafe {
+                raw::dl_lines(
+                    self.bytes.as_ptr(),
+                    self.bytes.len(),
+                    how,
+                    line_str.as_ptr(),
+                    line_str.len(),
+                    str.as_ptr(),
+                    str.len(),
+                    path.as_ptr(),
+                    path.len(),
+                    line,
+                    exact,
+                    places.as_mut_ptr(),
+                    places.len(),
+                    &mut count,
+                    &mut fault,
+                )
+            };
+            let is_whole = count <= places.len();
+            places.resize(count, raw::Place::default());
+            if is_whole {
+                return FoundPlaces {
+                    places: places.into_iter().map(Place::from).collect(),
+                    error: match status {
+                        raw::DONE | raw::NO_ANSWER => None,
+                        status => Some(error(status, &fault)),
+                    },
+                };
+            }
+        }
+    }
+
     /// The index of the section: of the sequences that begin in the ranges, in any order, or of all where there are none. The
     /// string sections are those of `path_at`. Where damaged units are gone around, what is wrong with the first of them comes
     /// beside it.
@@ -523,6 +590,14 @@ pub struct FoundAll {
     pub error: Option<Error>,
 }
 
+/// The places of a line, and what is wrong with the section, or that memory was refused.
+#[derive(Clone, Debug, PartialEq, Eq)]
+pub struct FoundPlaces {
+    /// By their addresses; of a damaged section those of the units that were looked at.
+    pub places: Vec<Place>,
+    pub error: Option<Error>,
+}
+
 impl Iterator for Units<'_> {
     type Item = Result<Unit, Error>;
 
@@ -588,6 +663,17 @@ impl From<raw::Row> for Row {
             prologue_end: row.flags & 4 != 0,
             epilogue_begin: row.flags & 8 != 0,
             end_sequence: row.flags & 16 != 0,
+        }
+    }
+}
+
+impl From<raw::Place> for Place {
+    fn from(place: raw::Place) -> Place {
+        Place {
+            address: place.address,
+            line: place.line,
+            column: place.column,
+            prologue_end: place.prologue_end != 0,
         }
     }
 }

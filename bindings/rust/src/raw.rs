@@ -63,6 +63,15 @@ pub struct Unit {
     pub is_dwarf64: u8,
 }
 
+#[repr(C)]
+#[derive(Clone, Copy, Debug, Default)]
+pub struct Place {
+    pub address: u64,
+    pub line: u64,
+    pub column: u64,
+    pub prologue_end: u8,
+}
+
 /// By which the calls find the parts of an index.
 #[repr(C)]
 #[derive(Clone, Copy, Debug, PartialEq, Eq)]
@@ -238,6 +247,23 @@ extern "C" {
         count: usize,
         rows: *mut Row,
         units: *mut u64,
+        fault: *mut Fault,
+    ) -> u32;
+    pub fn dl_lines(
+        section: *const u8,
+        len: usize,
+        how: u8,
+        line_str: *const u8,
+        line_str_len: usize,
+        str: *const u8,
+        str_len: usize,
+        path: *const u8,
+        path_len: usize,
+        line: u64,
+        exact: bool,
+        places: *mut Place,
+        room: usize,
+        count: *mut usize,
         fault: *mut Fault,
     ) -> u32;
     pub fn dl_copy(

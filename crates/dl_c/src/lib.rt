@@ -1,4 +1,4 @@
-//! The library for C: each export calls the function of dl_buffers that does its work. Before them stand the calls of
+//! The library for C: each export calls the function of another crate that does its work. Before them stand the calls of
 //! bindings/c/calls.c, whose names begin with `dl_`: no slice here is at a null pointer, also where it is empty. What C
 //! hands in and owes stands in include/boxantrel.h.
 #![tactic(auto)]
@@ -19,6 +19,7 @@ ghost use Rattle.dl_buffers.specs.Records.{status_code};
 ghost use Rattle.dl_buffers.specs.UnitCalls.{Describes, Lists, length_told, written_over};
 ghost use Rattle.dl_memory.specs.Refusals.{SystemRefuses};
 ghost use Rattle.dl_memory.specs.declared.system.System.{System};
+ghost use Rattle.dl_source_buffers.specs.LineCalls.{FindsLines};
 ghost use Rattle.dl_index_buffers.specs.IndexFaultCalls as index_faults;
 ghost use Rattle.dl_index_buffers.specs.IndexFindCalls.{FindsMany, FindsOne};
 ghost use Rattle.dl_index_buffers.specs.IndexPathCalls.{path_told};
@@ -29,6 +30,7 @@ use dl_buffers::{Counts, FaultRecord, Place, RowRecord, UnitRecord};
 use dl_building::CodeRange;
 use dl_index_buffers::{IndexFaultRecord, IndexRecord, Layout, LocationRecord};
 use dl_memory::System;
+use dl_source_buffers::PlaceRecord;
 use std::alloc::Global;
 
 /// As `dl_buffers::check`.
@@ -199,6 +201,41 @@ pub extern "C" fn boxantrel_fault_text(fault: &FaultRecord, text: &mut [u8]) -> 
     ensures few { result ≤ 128 }
 {
     dl_buffers::fault_text(fault, text)
+}
+
+/// As `dl_source_buffers::lines`.
+#[unsafe(no_mangle)]
+pub extern "C" fn boxantrel_lines(
+    alloc: Global,
+    section: &[u8],
+    how: u8,
+    line_str: &[u8],
+    str: &[u8],
+    path: &[u8],
+    line: u64,
+    exact: bool,
+    places: &mut [PlaceRecord],
+    count: &mut usize,
+    fault: &mut FaultRecord,
+) -> u32
+    ensures { (status : Status) × (result ≡ status_code status)
+        × FindsLines SystemRefuses (goes_on how) (dialect_of how) (both_strings line_str.now str.now) path.now line exact section.now
+        places.old places.new count.old count.new fault.old fault.new status }
+{
+    dl_source_buffers::lines(
+        &System::new(alloc),
+        section,
+        how,
+        line_str,
+        str,
+        path,
+        line,
+        exact,
+        places,
+        count,
+        fault,
+    )
+    .code()
 }
 
 /// As `dl_index_buffers::open`.
