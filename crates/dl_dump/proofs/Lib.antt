@@ -1,3 +1,5 @@
 pub mod ShowingLemmas
+pub mod UnitLemmas
 pub mod CommandLemmas
+pub mod UnitCommandLemmas
 pub mod PlainLemmas

@@ -3,5 +3,7 @@ pub mod Reached
 pub mod OperationText
 pub mod DetailText
 pub mod Commands
+pub mod UnitCommand
 -- Of contracts inside the crate, and of proofs; no public contract reaches these.
 pub mod Dumping
+pub mod UnitDumping

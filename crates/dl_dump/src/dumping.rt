@@ -28,13 +28,13 @@ use std::alloc::Global;
 
 /// Prints what is told of units with details, and tells of damaged ones.
 #[derive(Drop)]
-struct Dumper<'d, 'p, D> {
-    printer: &'d mut Printer,
-    strings: &'d StringSections<'d>,
-    details: &'d Details<'p>,
+pub struct Dumper<'d, 'p, D> {
+    pub printer: &'d mut Printer,
+    pub strings: &'d StringSections<'d>,
+    pub details: &'d Details<'p>,
     /// How far the current unit has come.
-    at: Reached,
-    damages: &'d mut D,
+    pub at: Reached,
+    pub damages: &'d mut D,
 }
 
 /// Prints the end of the line of an operation that was cut off.
@@ -221,7 +221,7 @@ impl<W: Destination, D: DamageSink> AroundDamage<W> for Dumper<'_, '_, D> {
 
 /// Hears of no unit, where the first damaged one is the fault.
 #[derive(Drop)]
-struct NoneTold;
+pub struct NoneTold;
 
 impl DamageSink for NoneTold {
     ghost use Rattle.std.specs.Prelude.{⊤};

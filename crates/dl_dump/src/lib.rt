@@ -7,7 +7,9 @@ mod dumping;
 mod operation;
 mod path;
 mod reached;
+mod unit_dumping;
 
 pub use details::Details;
 pub use dl_dirs::CompilationDirectories;
 pub use dumping::{dump_details, dump_details_around};
+pub use unit_dumping::{UnitAt, dump_unit};

@@ -4,6 +4,8 @@
 #[cfg(test)]
 mod around;
 #[cfg(test)]
+mod one_unit;
+#[cfg(test)]
 mod operations;
 #[cfg(test)]
 mod paths;
