@@ -68,13 +68,7 @@ fn least_lines(rt: HostRuntime) -> Result<(), Fail> {
         (line("c", 10), false, &[]),
     ] {
         let question = asked(wanted, exact);
-        assert_places(
-            &rt,
-            rt.alloc(),
-            section.as_slice(),
-            &question,
-            (told, None),
-        );
+        assert_places(&rt, rt.alloc(), section.as_slice(), &question, (told, None));
     }
     Ok(())
 }
