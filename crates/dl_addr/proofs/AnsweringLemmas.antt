@@ -339,9 +339,12 @@ module _ {M : Type 0} (dialect : Dialect) (q : Question) (s : Strings) (first : 
         absurd (let e = (stopped _ units b back has stops).0 in cc)
     reads_some fault.NotFound (units, b, back, inl (ends, settled)) = absurd ends
     reads_some fault.TwoSums (units, b, back, inl (ends, settled)) = absurd ends
+    reads_some fault.NoUnit (units, b, back, inl (ends, settled)) = absurd ends
     reads_some fault.NotFound (units, b, back, inr (has, sound, stops)) =
         absurd (let e = (stopped _ units b back has stops).0 in cc)
     reads_some fault.TwoSums (units, b, back, inr (has, sound, stops)) =
+        absurd (let e = (stopped _ units b back has stops).0 in cc)
+    reads_some fault.NoUnit (units, b, back, inr (has, sound, stops)) =
         absurd (let e = (stopped _ units b back has stops).0 in cc)
     reads_some (fault.ForeignUnit unit) (units, b, back, inl (ends, settled)) = absurd ends
     reads_some (fault.ForeignUnit unit) (units, b, back, inr (has, sound, stops)) =
@@ -421,6 +424,8 @@ module _ {M : Type 0} (dialect : Dialect) (q : Question) (s : Strings) (first : 
           let r = reads_some fault.NotFound ran in told_of fault.NotFound all_found r (prints r.visits r.stands)
       fault_told fault.TwoSums all_found ran prints =
           let r = reads_some fault.TwoSums ran in told_of fault.TwoSums all_found r (prints r.visits r.stands)
+      fault_told fault.NoUnit all_found ran prints =
+          let r = reads_some fault.NoUnit ran in told_of fault.NoUnit all_found r (prints r.visits r.stands)
       fault_told (fault.ForeignUnit unit) all_found ran prints =
           let r = reads_some (fault.ForeignUnit unit) ran in
           told_of (fault.ForeignUnit unit) all_found r (prints r.visits r.stands)

@@ -175,9 +175,12 @@ module _ {M : Type 0} (dialect : Dialect) (q : Question) (s : Strings) (first : 
         absurd (let e = (stopped _ blocks rest others is_cut stops).0 in cc)
     reads (Err fault.NotFound) (blocks, rest, inl (ends, settled)) = absurd ends
     reads (Err fault.TwoSums) (blocks, rest, inl (ends, settled)) = absurd ends
+    reads (Err fault.NoUnit) (blocks, rest, inl (ends, settled)) = absurd ends
     reads (Err fault.NotFound) (blocks, rest, inr (others, is_cut, sound, stops)) =
         absurd (let e = (stopped _ blocks rest others is_cut stops).0 in cc)
     reads (Err fault.TwoSums) (blocks, rest, inr (others, is_cut, sound, stops)) =
+        absurd (let e = (stopped _ blocks rest others is_cut stops).0 in cc)
+    reads (Err fault.NoUnit) (blocks, rest, inr (others, is_cut, sound, stops)) =
         absurd (let e = (stopped _ blocks rest others is_cut stops).0 in cc)
     reads (Err (fault.ForeignUnit unit)) (blocks, rest, inl (ends, settled)) = absurd ends
     reads (Err (fault.ForeignUnit unit)) (blocks, rest, inr (others, is_cut, sound, stops)) =
@@ -216,6 +219,7 @@ module _ {M : Type 0} (dialect : Dialect) (q : Question) (s : Strings) (first : 
         by (fault.Damage offset kind) r = absurd r.ends
         by fault.NotFound r = absurd r.ends
         by fault.TwoSums r = absurd r.ends
+        by fault.NoUnit r = absurd r.ends
         by (fault.ForeignUnit unit) r = absurd r.ends
         by (fault.Emit unit e) r = absurd r.ends
 

@@ -57,6 +57,7 @@ pub fn copy<M: Memory>(
         Err(RunFault::Read) => unreachable!(),
         Err(RunFault::NotFound) => unreachable!(),
         Err(RunFault::TwoSums) => unreachable!(),
+        Err(RunFault::NoUnit) => unreachable!(),
     }
 }
 

@@ -238,6 +238,8 @@ module _ {M : Type 0} (refuses : M → ℕ → Type 0) (dialect : Dialect) (s : 
         (units, b, back, subst (EndsAs dialect limit bytes left units b back) is ends, out_all p.1)
     of_told (Err fault.TwoSums) (Ok all_found) is p =
         (units, b, back, subst (EndsAs dialect limit bytes left units b back) is ends, out_all p.1)
+    of_told (Err fault.NoUnit) (Ok all_found) is p =
+        (units, b, back, subst (EndsAs dialect limit bytes left units b back) is ends, out_all p.1)
     of_told (Err (fault.ForeignUnit unit)) (Ok all_found) is p =
         (units, b, back, subst (EndsAs dialect limit bytes left units b back) is ends, out_all p.1)
     of_told (Err (fault.Emit unit f)) (Ok all_found) is p =
@@ -320,6 +322,7 @@ module _ {M : Type 0} (refuses : M → ℕ → Type 0) (dialect : Dialect) (s : 
   of_ran (Err fault.SectionTooLong) is ran = of_fault fault.SectionTooLong is refl ran
   of_ran (Err fault.NotFound) is ran = of_fault fault.NotFound is refl ran
   of_ran (Err fault.TwoSums) is ran = of_fault fault.TwoSums is refl ran
+  of_ran (Err fault.NoUnit) is ran = of_fault fault.NoUnit is refl ran
   of_ran (Err (fault.ForeignUnit unit)) is ran = of_fault (fault.ForeignUnit unit) is refl ran
   of_ran (Err (fault.Emit unit f)) is ran = of_fault (fault.Emit unit f) is refl ran
 

@@ -163,6 +163,7 @@ module _ {M : Type 0} (refuses : M → ℕ → Type 0) (dialect : Dialect) (s : 
   of_ran (Err fault.SectionTooLong) is ran = of_fault fault.SectionTooLong is refl ran
   of_ran (Err fault.NotFound) is ran = of_fault fault.NotFound is refl ran
   of_ran (Err fault.TwoSums) is ran = of_fault fault.TwoSums is refl ran
+  of_ran (Err fault.NoUnit) is ran = of_fault fault.NoUnit is refl ran
   of_ran (Err (fault.ForeignUnit unit)) is ran = of_fault (fault.ForeignUnit unit) is refl ran
   of_ran (Err (fault.Emit unit f)) is ran = of_fault (fault.Emit unit f) is refl ran
 
@@ -277,6 +278,7 @@ module _ {M : Type 0} (refuses : M → ℕ → Type 0) (dialect : Dialect) (s : 
   around_ran (Err fault.SectionTooLong) is ran = around_fault fault.SectionTooLong is refl ran
   around_ran (Err fault.NotFound) is ran = around_fault fault.NotFound is refl ran
   around_ran (Err fault.TwoSums) is ran = around_fault fault.TwoSums is refl ran
+  around_ran (Err fault.NoUnit) is ran = around_fault fault.NoUnit is refl ran
   around_ran (Err (fault.ForeignUnit unit)) is ran = around_fault (fault.ForeignUnit unit) is refl ran
   around_ran (Err (fault.Emit unit f)) is ran = around_fault (fault.Emit unit f) is refl ran
 

@@ -64,6 +64,7 @@ module _ (fails : Type 0) (refuses : ℕ → Type 0) (dialect : Dialect) (s : St
   never_until (Err fault.SectionTooLong) index makes = tt
   never_until (Err fault.NotFound) index makes = tt
   never_until (Err fault.TwoSums) index makes = tt
+  never_until (Err fault.NoUnit) index makes = tt
   never_until (Err (fault.ForeignUnit unit)) index makes = tt
   never_until (Err (fault.Emit unit e)) index makes = tt
 
@@ -77,5 +78,6 @@ module _ (fails : Type 0) (refuses : ℕ → Type 0) (dialect : Dialect) (s : St
   never_until_around (Err fault.SectionTooLong) index makes = tt
   never_until_around (Err fault.NotFound) index makes = tt
   never_until_around (Err fault.TwoSums) index makes = tt
+  never_until_around (Err fault.NoUnit) index makes = tt
   never_until_around (Err (fault.ForeignUnit unit)) index makes = tt
   never_until_around (Err (fault.Emit unit e)) index makes = tt

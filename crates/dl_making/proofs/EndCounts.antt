@@ -68,6 +68,7 @@ module _ (dialect : Dialect) where
     ended_few units b back (Err (fault.Write out)) ends = absurd ends
     ended_few units b back (Err fault.NotFound) ends = absurd ends
     ended_few units b back (Err fault.TwoSums) ends = absurd ends
+    ended_few units b back (Err fault.NoUnit) ends = absurd ends
     ended_few units b back (Err (fault.ForeignUnit unit)) ends = absurd ends
     ended_few units b back (Err (fault.Emit unit e)) ends = absurd ends
 
@@ -83,5 +84,6 @@ module _ (dialect : Dialect) where
     ended_around_few blocks rest (Err (fault.Write out)) ends = absurd ends
     ended_around_few blocks rest (Err fault.NotFound) ends = absurd ends
     ended_around_few blocks rest (Err fault.TwoSums) ends = absurd ends
+    ended_around_few blocks rest (Err fault.NoUnit) ends = absurd ends
     ended_around_few blocks rest (Err (fault.ForeignUnit unit)) ends = absurd ends
     ended_around_few blocks rest (Err (fault.Emit unit e)) ends = absurd ends

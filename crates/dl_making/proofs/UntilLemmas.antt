@@ -108,8 +108,10 @@ module _ {M : Type 0} (refuses : M → ℕ → Type 0) (dialect : Dialect) (firs
       absurd (let e = stops.reason.is in cc)
   until (Err fault.NotFound) refused told (units, b, back, inl (ends, settled)) = absurd ends
   until (Err fault.TwoSums) refused told (units, b, back, inl (ends, settled)) = absurd ends
+  until (Err fault.NoUnit) refused told (units, b, back, inl (ends, settled)) = absurd ends
   until (Err fault.NotFound) refused told (units, b, back, inr (has, sound, stops)) = absurd (let e = stops.reason.is in cc)
   until (Err fault.TwoSums) refused told (units, b, back, inr (has, sound, stops)) = absurd (let e = stops.reason.is in cc)
+  until (Err fault.NoUnit) refused told (units, b, back, inr (has, sound, stops)) = absurd (let e = stops.reason.is in cc)
   until (Err (fault.ForeignUnit unit)) refused told (units, b, back, inl (ends, settled)) = absurd ends
   until (Err (fault.ForeignUnit unit)) refused told (units, b, back, inr (has, sound, stops)) =
       absurd (let e = stops.reason.is in cc)
@@ -137,8 +139,10 @@ module _ {M : Type 0} (refuses : M → ℕ → Type 0) (dialect : Dialect) (firs
   until_around (Err fault.SectionTooLong) refused told (blocks, rest, inr stops) = absurd (let e = stops.3.reason.is in cc)
   until_around (Err fault.NotFound) refused told (blocks, rest, inl (ends, settled)) = absurd ends
   until_around (Err fault.TwoSums) refused told (blocks, rest, inl (ends, settled)) = absurd ends
+  until_around (Err fault.NoUnit) refused told (blocks, rest, inl (ends, settled)) = absurd ends
   until_around (Err fault.NotFound) refused told (blocks, rest, inr stops) = absurd (let e = stops.3.reason.is in cc)
   until_around (Err fault.TwoSums) refused told (blocks, rest, inr stops) = absurd (let e = stops.3.reason.is in cc)
+  until_around (Err fault.NoUnit) refused told (blocks, rest, inr stops) = absurd (let e = stops.3.reason.is in cc)
   until_around (Err (fault.ForeignUnit unit)) refused told (blocks, rest, inl (ends, settled)) = absurd ends
   until_around (Err (fault.ForeignUnit unit)) refused told (blocks, rest, inr stops) = absurd (let e = stops.3.reason.is in cc)
   until_around (Err (fault.Emit unit e)) refused told (blocks, rest, inl (ends, settled)) = absurd ends
@@ -165,8 +169,10 @@ module _ {M : Type 0} (refuses : M → ℕ → Type 0) (dialect : Dialect) (firs
       absurd (let e = stops.reason.is in cc)
   told_until (Err fault.NotFound) some (units, b, back, inl (ends, settled)) = absurd ends
   told_until (Err fault.TwoSums) some (units, b, back, inl (ends, settled)) = absurd ends
+  told_until (Err fault.NoUnit) some (units, b, back, inl (ends, settled)) = absurd ends
   told_until (Err fault.NotFound) some (units, b, back, inr (has, sound, stops)) = absurd (let e = stops.reason.is in cc)
   told_until (Err fault.TwoSums) some (units, b, back, inr (has, sound, stops)) = absurd (let e = stops.reason.is in cc)
+  told_until (Err fault.NoUnit) some (units, b, back, inr (has, sound, stops)) = absurd (let e = stops.reason.is in cc)
   told_until (Err (fault.ForeignUnit unit)) some (units, b, back, inl (ends, settled)) = absurd ends
   told_until (Err (fault.ForeignUnit unit)) some (units, b, back, inr (has, sound, stops)) =
       absurd (let e = stops.reason.is in cc)
@@ -191,8 +197,10 @@ module _ {M : Type 0} (refuses : M → ℕ → Type 0) (dialect : Dialect) (firs
   told_until_around (Err fault.SectionTooLong) some (blocks, rest, inr stops) = absurd (let e = stops.3.reason.is in cc)
   told_until_around (Err fault.NotFound) some (blocks, rest, inl (ends, settled)) = absurd ends
   told_until_around (Err fault.TwoSums) some (blocks, rest, inl (ends, settled)) = absurd ends
+  told_until_around (Err fault.NoUnit) some (blocks, rest, inl (ends, settled)) = absurd ends
   told_until_around (Err fault.NotFound) some (blocks, rest, inr stops) = absurd (let e = stops.3.reason.is in cc)
   told_until_around (Err fault.TwoSums) some (blocks, rest, inr stops) = absurd (let e = stops.3.reason.is in cc)
+  told_until_around (Err fault.NoUnit) some (blocks, rest, inr stops) = absurd (let e = stops.3.reason.is in cc)
   told_until_around (Err (fault.ForeignUnit unit)) some (blocks, rest, inl (ends, settled)) = absurd ends
   told_until_around (Err (fault.ForeignUnit unit)) some (blocks, rest, inr stops) = absurd (let e = stops.3.reason.is in cc)
   told_until_around (Err (fault.Emit unit e)) some (blocks, rest, inl (ends, settled)) = absurd ends

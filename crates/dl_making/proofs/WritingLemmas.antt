@@ -41,6 +41,7 @@ module _ (refuses : ℕ → Type 0) (dialect : Dialect) (s : Strings) (table : T
     not_made fault.SectionTooLong makes keeps = (makes, keeps)
     not_made fault.NotFound makes keeps = (makes, keeps)
     not_made fault.TwoSums makes keeps = (makes, keeps)
+    not_made fault.NoUnit makes keeps = (makes, keeps)
     not_made (fault.ForeignUnit unit) makes keeps = (makes, keeps)
     not_made (fault.Emit unit e) makes keeps = (makes, keeps)
 
@@ -72,6 +73,7 @@ module _ (fails : Type 0) (refuses : ℕ → Type 0) (dialect : Dialect) (s : St
   never_written fault.SectionTooLong makes = tt
   never_written fault.NotFound makes = tt
   never_written fault.TwoSums makes = tt
+  never_written fault.NoUnit makes = tt
   never_written (fault.ForeignUnit unit) makes = tt
   never_written (fault.Emit unit e) makes = tt
 
@@ -83,5 +85,6 @@ module _ (fails : Type 0) (refuses : ℕ → Type 0) (dialect : Dialect) (s : St
   never_written_around fault.SectionTooLong makes = tt
   never_written_around fault.NotFound makes = tt
   never_written_around fault.TwoSums makes = tt
+  never_written_around fault.NoUnit makes = tt
   never_written_around (fault.ForeignUnit unit) makes = tt
   never_written_around (fault.Emit unit e) makes = tt

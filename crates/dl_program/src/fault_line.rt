@@ -28,6 +28,7 @@ fn write_fault(buffer: &mut [u8], at: usize, fault: RunFault) -> usize
         RunFault::SectionTooLong => write_bytes(buffer, at, b"section too long"),
         RunFault::NotFound => write_bytes(buffer, at, b"no line for this address"),
         RunFault::TwoSums => write_bytes(buffer, at, b"two MD5 sums of one path"),
+        RunFault::NoUnit => write_bytes(buffer, at, b"no unit at this offset"),
         RunFault::ForeignUnit { unit } => {
             let at = write_hexadecimal_number(buffer, at, b"unit 0x", unit);
             write_bytes(buffer, at, b" is not version 5")

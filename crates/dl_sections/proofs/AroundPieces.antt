@@ -146,6 +146,7 @@ module _ {S : Type 0} {story : Story S} {dialect : Dialect} {limit : ℕ} {old i
             had_reason fault.SectionTooLong (no_cell_other dialect fault.SectionTooLong (λ e. absurd cc)) w
         stopped fault.NotFound w = had_reason fault.NotFound (no_cell_other dialect fault.NotFound (λ e. absurd cc)) w
         stopped fault.TwoSums w = had_reason fault.TwoSums (no_cell_other dialect fault.TwoSums (λ e. absurd cc)) w
+        stopped fault.NoUnit w = had_reason fault.NoUnit (no_cell_other dialect fault.NoUnit (λ e. absurd cc)) w
         stopped (fault.ForeignUnit unit) w =
             had_reason (fault.ForeignUnit unit) (no_cell_other dialect (fault.ForeignUnit unit) (λ e. absurd cc)) w
         stopped (fault.Emit unit f) w =

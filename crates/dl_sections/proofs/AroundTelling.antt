@@ -209,6 +209,7 @@ module _ {U : Type 0} (story : UnitStory U) (dialect : Dialect) (s : List ℕ) (
       stopped fault.SectionTooLong w = absurd (neither fault.SectionTooLong (λ e. absurd cc) w)
       stopped fault.NotFound w = absurd (neither fault.NotFound (λ e. absurd cc) w)
       stopped fault.TwoSums w = absurd (neither fault.TwoSums (λ e. absurd cc) w)
+      stopped fault.NoUnit w = absurd (neither fault.NoUnit (λ e. absurd cc) w)
       stopped (fault.ForeignUnit unit) w = absurd (neither (fault.ForeignUnit unit) (λ e. absurd cc) w)
       stopped (fault.Emit unit f) w = absurd (neither (fault.Emit unit f) (λ e. absurd cc) w)
 

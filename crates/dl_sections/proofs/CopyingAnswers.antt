@@ -193,6 +193,7 @@ module _ {M : Type 0} (refuses : M → ℕ → Type 0) (dialect : Dialect) (limi
   settled units b back (fault.Write out) ends s = absurd ends
   settled units b back fault.NotFound ends s = absurd ends
   settled units b back fault.TwoSums ends s = absurd ends
+  settled units b back fault.NoUnit ends s = absurd ends
   settled units b back f ends s =
       let (no_version, all) = all_copied units b ends.0.each s in (units, b, back, ends, no_version, all)
 

@@ -174,6 +174,7 @@ sound_unless dialect b fault.Read sound = sound
 sound_unless dialect b fault.SectionTooLong sound = sound
 sound_unless dialect b fault.NotFound sound = sound
 sound_unless dialect b fault.TwoSums sound = sound
+sound_unless dialect b fault.NoUnit sound = sound
 sound_unless dialect b (fault.ForeignUnit unit) sound = sound
 sound_unless dialect b (fault.Emit unit f) sound = sound
 

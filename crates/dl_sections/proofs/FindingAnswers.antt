@@ -83,4 +83,5 @@ module _ (dialect : Dialect) (own : Strings) (limit : ℕ) (bytes : List ℕ) (l
       wrote ran.0 ran.1 ran.2 ran.4.0 ran.4.1 out ran.3 ran.4.2 (search_of first.place ran.4.0) refl (rw is at ran.4.3)
   failed fault.NotFound ran = absurd (refused fault.NotFound ran.0 ran.1 ran.2 ran.3).3
   failed fault.TwoSums ran = absurd (refused fault.TwoSums ran.0 ran.1 ran.2 ran.3).3
+  failed fault.NoUnit ran = absurd (refused fault.NoUnit ran.0 ran.1 ran.2 ran.3).3
   failed f ran = refused f ran.0 ran.1 ran.2 ran.3

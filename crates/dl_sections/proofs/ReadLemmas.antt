@@ -168,6 +168,7 @@ module _ {S : Type 0} (story : Story S) (dialect : Dialect) (limit : ℕ) (old i
       stopped fault.SectionTooLong w = stopping fault.SectionTooLong (λ units b back has stops. absurd stops) w
       stopped fault.NotFound w = stopping fault.NotFound (λ units b back has stops. absurd stops) w
       stopped fault.TwoSums w = stopping fault.TwoSums (λ units b back has stops. absurd stops) w
+      stopped fault.NoUnit w = stopping fault.NoUnit (λ units b back has stops. absurd stops) w
       stopped (fault.ForeignUnit unit) w = stopping (fault.ForeignUnit unit) (λ units b back has stops. absurd stops) w
       stopped (fault.Emit unit f) w = stopping (fault.Emit unit f) (λ units b back has stops. absurd stops) w
 

@@ -187,6 +187,7 @@ module _ {U : Type 0} (story : UnitStory U) (dialect : Dialect) (s : List ℕ) (
   stopped fault.SectionTooLong stop damage want w = absurd (neither fault.SectionTooLong w)
   stopped fault.NotFound stop damage want w = absurd (neither fault.NotFound w)
   stopped fault.TwoSums stop damage want w = absurd (neither fault.TwoSums w)
+  stopped fault.NoUnit stop damage want w = absurd (neither fault.NoUnit w)
   stopped (fault.ForeignUnit unit) stop damage want w = absurd (neither (fault.ForeignUnit unit) w)
   stopped (fault.Emit unit f) stop damage want w = absurd (neither (fault.Emit unit f) w)
 

@@ -34,6 +34,7 @@ module _ {S : Type 0} (story : Story S) (dialect : Dialect) (past : Before diale
   lost units b back has heard more is fault.SectionTooLong t = absurd t
   lost units b back has heard more is fault.NotFound t = absurd t
   lost units b back has heard more is fault.TwoSums t = absurd t
+  lost units b back has heard more is fault.NoUnit t = absurd t
   lost units b back has heard more is (fault.ForeignUnit unit) t = absurd t
   lost units b back has heard more is (fault.Emit unit f) t = absurd t
 
@@ -111,6 +112,7 @@ module _ {S : Type 0} (story : Story S) (dialect : Dialect) (past : Before diale
     all_out (Err fault.SectionTooLong) kept fed = stopped fault.SectionTooLong (λ b s. s) fed
     all_out (Err fault.NotFound) kept fed = stopped fault.NotFound (λ b s. s) fed
     all_out (Err fault.TwoSums) kept fed = stopped fault.TwoSums (λ b s. s) fed
+    all_out (Err fault.NoUnit) kept fed = stopped fault.NoUnit (λ b s. s) fed
     all_out (Err (fault.ForeignUnit unit)) kept fed = stopped (fault.ForeignUnit unit) (λ b s. s) fed
     all_out (Err (fault.Emit unit f)) kept fed = stopped (fault.Emit unit f) (λ b s. s) fed
 
@@ -147,5 +149,6 @@ module _ {S : Type 0} (story : Story S) (dialect : Dialect) (past : Before diale
     not_out (Err fault.SectionTooLong) kept fed = lost_at fault.SectionTooLong fed
     not_out (Err fault.NotFound) kept fed = lost_at fault.NotFound fed
     not_out (Err fault.TwoSums) kept fed = lost_at fault.TwoSums fed
+    not_out (Err fault.NoUnit) kept fed = lost_at fault.NoUnit fed
     not_out (Err (fault.ForeignUnit unit)) kept fed = lost_at (fault.ForeignUnit unit) fed
     not_out (Err (fault.Emit unit g)) kept fed = lost_at (fault.Emit unit g) fed

@@ -4,7 +4,7 @@ use Rattle.dl_print.specs.Digits.{hexadecimal}
 use Rattle.dl_print.specs.Text.{damage_text}
 use Rattle.dl_sections.specs.declared.fault.RunFault.{RunFault}
 use Rattle.dl_sections.specs.declared.fault.RunFault.TheVariants.{Damage, NoMemory, Read, Write, SectionTooLong, NotFound, TwoSums}
-use Rattle.dl_sections.specs.declared.fault.RunFault.TheVariants.{ForeignUnit, Emit}
+use Rattle.dl_sections.specs.declared.fault.RunFault.TheVariants.{NoUnit, ForeignUnit, Emit}
 
 abbrev pub run_fault_text : RunFault → List ℕ
 run_fault_text (Damage offset kind) = damage_text offset kind
@@ -14,6 +14,7 @@ run_fault_text (Write out) = codes "cannot write the output"
 run_fault_text SectionTooLong = codes "section too long"
 run_fault_text NotFound = codes "no line for this address"
 run_fault_text TwoSums = codes "two MD5 sums of one path"
+run_fault_text NoUnit = codes "no unit at this offset"
 run_fault_text (ForeignUnit unit) = codes "unit 0x" ++ hexadecimal unit ++ codes " is not version 5"
 run_fault_text (Emit unit fault) = codes "cannot write unit 0x" ++ hexadecimal unit ++ codes ": unit too long"
 
@@ -26,5 +27,6 @@ status (Write out) = 3
 status SectionTooLong = 1
 status NotFound = 1
 status TwoSums = 1
+status NoUnit = 1
 status (ForeignUnit unit) = 1
 status (Emit unit fault) = 1

@@ -23,6 +23,8 @@ pub enum RunFault {
     NotFound,
     /// Some path has two MD5 sums, which are those of two files. None of the commands here answers it.
     TwoSums,
+    /// No unit begins at the offset that was asked for. None of the commands here answers it.
+    NoUnit,
     /// A unit isn't of version 5, or, of `copy_to_5`, of a version that is read. Its offset counts from the section's
     /// first byte. Only `copy` and `copy_to_5` answer it, and the next one.
     ForeignUnit { unit: u64 },
@@ -58,6 +60,7 @@ impl RunFault {
             | RunFault::SectionTooLong
             | RunFault::NotFound
             | RunFault::TwoSums
+            | RunFault::NoUnit
             | RunFault::ForeignUnit { .. }
             | RunFault::Emit { .. } => 1,
             RunFault::NoMemory | RunFault::Read | RunFault::Write { .. } => 3,
@@ -80,6 +83,7 @@ impl fmt::Display for RunFault {
             RunFault::SectionTooLong => write!(f, "section too long"),
             RunFault::NotFound => write!(f, "no line for this address"),
             RunFault::TwoSums => write!(f, "two MD5 sums of one path"),
+            RunFault::NoUnit => write!(f, "no unit at this offset"),
             RunFault::ForeignUnit { unit } => write!(f, "unit 0x{unit:x} is not version 5"),
             RunFault::Emit { unit, .. } => {
                 write!(f, "cannot write unit 0x{unit:x}: unit too long")

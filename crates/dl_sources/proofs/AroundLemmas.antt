@@ -77,8 +77,10 @@ module _ {M : Type 0} (refuses : M → ℕ → Type 0) (dialect : Dialect) (firs
     reads (Err fault.SectionTooLong) is (blocks, rest, inr stops) = absurd (let e = stops.3.reason.is in cc)
     reads (Err fault.NotFound) is (blocks, rest, inl (ends, settled)) = absurd ends
     reads (Err fault.TwoSums) is (blocks, rest, inl (ends, settled)) = absurd ends
+    reads (Err fault.NoUnit) is (blocks, rest, inl (ends, settled)) = absurd ends
     reads (Err fault.NotFound) is (blocks, rest, inr stops) = absurd (let e = stops.3.reason.is in cc)
     reads (Err fault.TwoSums) is (blocks, rest, inr stops) = absurd (let e = stops.3.reason.is in cc)
+    reads (Err fault.NoUnit) is (blocks, rest, inr stops) = absurd (let e = stops.3.reason.is in cc)
     reads (Err (fault.ForeignUnit unit)) is (blocks, rest, inl (ends, settled)) = absurd ends
     reads (Err (fault.ForeignUnit unit)) is (blocks, rest, inr stops) = absurd (let e = stops.3.reason.is in cc)
     reads (Err (fault.Emit unit e)) is (blocks, rest, inl (ends, settled)) = absurd ends
@@ -147,6 +149,7 @@ module _ {M : Type 0} (refuses : M → ℕ → Type 0) (dialect : Dialect) (firs
                 (r.blocks, r.rest, r.ends, Appends-trans start mid now [] (report q (mentions_around dialect s q r.blocks)) r.out p.1)
             by (Err fault.NotFound) (Ok sums) is r p = absurd r.ends
             by (Err fault.TwoSums) (Ok sums) is r p = absurd r.ends
+            by (Err fault.NoUnit) (Ok sums) is r p = absurd r.ends
             by (Err (fault.ForeignUnit unit)) (Ok sums) is r p = absurd r.ends
             by (Err (fault.Emit unit e)) (Ok sums) is r p = absurd r.ends
 

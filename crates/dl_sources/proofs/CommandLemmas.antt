@@ -59,6 +59,7 @@ want_is (Err fault.Read) is = absurd (true≢false (sym is))
 want_is (Err fault.SectionTooLong) is = absurd (true≢false (sym is))
 want_is (Err fault.NotFound) is = absurd (true≢false (sym is))
 want_is (Err fault.TwoSums) is = absurd (true≢false (sym is))
+want_is (Err fault.NoUnit) is = absurd (true≢false (sym is))
 want_is (Err (fault.ForeignUnit unit)) is = absurd (true≢false (sym is))
 want_is (Err (fault.Emit unit e)) is = absurd (true≢false (sym is))
 
@@ -139,8 +140,10 @@ module _ {M : Type 0} (refuses : M → ℕ → Type 0) (dialect : Dialect) (firs
     reads (Err fault.SectionTooLong) is (units, b, back, inr (has, sound, stops)) = absurd (let e = stops.reason.is in cc)
     reads (Err fault.NotFound) is (units, b, back, inl (ends, settled)) = absurd ends
     reads (Err fault.TwoSums) is (units, b, back, inl (ends, settled)) = absurd ends
+    reads (Err fault.NoUnit) is (units, b, back, inl (ends, settled)) = absurd ends
     reads (Err fault.NotFound) is (units, b, back, inr (has, sound, stops)) = absurd (let e = stops.reason.is in cc)
     reads (Err fault.TwoSums) is (units, b, back, inr (has, sound, stops)) = absurd (let e = stops.reason.is in cc)
+    reads (Err fault.NoUnit) is (units, b, back, inr (has, sound, stops)) = absurd (let e = stops.reason.is in cc)
     reads (Err (fault.ForeignUnit unit)) is (units, b, back, inl (ends, settled)) = absurd ends
     reads (Err (fault.ForeignUnit unit)) is (units, b, back, inr (has, sound, stops)) =
         absurd (let e = stops.reason.is in cc)
@@ -216,6 +219,7 @@ module _ {M : Type 0} (refuses : M → ℕ → Type 0) (dialect : Dialect) (firs
                 (r.units, r.b, r.back, r.ends, Appends-trans start mid now [] (report q (mentions_of dialect s q r.units)) r.out p.1)
             by (Err fault.NotFound) (Ok sums) is r p = absurd r.ends
             by (Err fault.TwoSums) (Ok sums) is r p = absurd r.ends
+            by (Err fault.NoUnit) (Ok sums) is r p = absurd r.ends
             by (Err (fault.ForeignUnit unit)) (Ok sums) is r p = absurd r.ends
             by (Err (fault.Emit unit e)) (Ok sums) is r p = absurd r.ends
 

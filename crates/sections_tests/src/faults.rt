@@ -12,6 +12,7 @@ const FAULTS: &[(RunFault, &str, u8)] = &[
     (RunFault::Read, "cannot read the input", 3),
     (RunFault::SectionTooLong, "section too long", 1),
     (RunFault::TwoSums, "two MD5 sums of one path", 1),
+    (RunFault::NoUnit, "no unit at this offset", 1),
     (
         RunFault::Emit {
             unit: 11,
