@@ -15,7 +15,7 @@ header = $(DESTDIR)$(PREFIX)/include/boxantrel.h
 package = $(DESTDIR)$(PREFIX)/lib/pkgconfig/boxantrel.pc
 
 # The scripts that try what is built.
-tries = compare-with-dwline.sh try-archives.sh try-damaged.py try-debug-files.sh try-dwline.sh try-files.py try-growth.py try-index.py try-sections.py try-truncated.py try-documents.sh try-install.sh \
+tries = compare-with-dwline.sh compare-json.py try-archives.sh try-damaged.py try-debug-files.sh try-dwline.sh try-files.py try-growth.py try-index.py try-sections.py try-truncated.py try-documents.sh try-install.sh \
 	try-library.sh
 
 version = $(shell sed -n 's/^.* VERSION: &str = "\(.*\)";$$/\1/p' crates/dl_options/src/command_line.rt)

@@ -12,7 +12,8 @@ import sys
 
 HERE = os.path.dirname(os.path.abspath(__file__))
 OUT = os.path.join(HERE, "out")
-COMMANDS = [["check"], ["find", "0xffffffffffff"], ["dump"], ["dump", "--header"], ["dump", "--operations"], ["dump", "--paths"], ["copy"],
+COMMANDS = [["check"], ["find", "0xffffffffffff"], ["dump"], ["dump", "--header"], ["dump", "--operations"], ["dump", "--paths"], ["dump", "--json"],
+            ["dump", "--range", "0x401000-0x401001"], ["copy"], ["lint"],
             ["sources"], ["sources", "--rows"], ["lines", "-", "no_such_file:1"]]
 WITHOUT_STRINGS = ("check", "copy")
 

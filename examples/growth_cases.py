@@ -41,7 +41,8 @@ def over_file(name, count, words, files, status=0, **bounds):
 def sections():
     """Each command over a section on the input."""
     for words, status in [
-        (["dump"], 0), (["dump", "--header"], 0), (["check"], 0), (["find", NONE], 1), (["copy"], 0), (["addr", "-", FIRST, NONE], 1),
+        (["dump"], 0), (["dump", "--header"], 0), (["dump", "--json"], 0), (["dump", "--range", "0-0xffffffffffff"], 0), (["lint"], 1),
+        (["check"], 0), (["find", NONE], 1), (["copy"], 0), (["addr", "-", FIRST, NONE], 1),
     ]:
         yield over_input("a section", 1500, words, units, status)
     yield over_input("a section of version 4", 1500, ["copy", "--to-5", "--older", "8"], older_units)
@@ -59,7 +60,7 @@ def files():
     """Each command over an ELF file, and some over one whose line section is compressed."""
     for words, status in [
         (["dump", "elf"], 0), (["check", "elf"], 0), (["find", NONE, "elf"], 1), (["copy", "elf"], 0), (ADDR, 0), (LINES, 0),
-        (MAKE, 0),
+        (MAKE, 0), (["lint", "elf"], 1), (["dump", "--json", "elf"], 0),
     ]:
         yield over_file("a file", 1500, words, lambda n: elf(units(n)), status)
     for words in (["dump", "elf"], ADDR, LINES):

@@ -18,11 +18,12 @@ class Depth:
 
 
 COMMANDS = [
-    (["dump", "elf"], 0), (["check", "elf"], 0), (["find", FIRST, "elf"], 0), (["copy", "elf"], 0), (ADDR, 0),
+    (["dump", "elf"], 0), (["dump", "--json", "elf"], 0), (["dump", "--range", "0-0xffffffffffff", "elf"], 0), (["lint", "--rule", "padding", "elf"], 0),
+    (["check", "elf"], 0), (["find", FIRST, "elf"], 0), (["copy", "elf"], 0), (ADDR, 0),
     (["addr", "-s", "elf"], 0), (["addr", "--json", "elf"], 0), (MAKE, 0), (["addr", "made", FIRST], 0),
     (["addr", "-s", "made"], 0), (["addr", "--json", "made"], 0), (["index", "--list", "made"], 0),
 ]
-ON_INPUT = [(["dump"], 0), (["check"], 0), (["find", FIRST], 0), (["copy"], 0), (["addr", "-", FIRST], 0)]
+ON_INPUT = [(["dump"], 0), (["lint", "--rule", "padding"], 0), (["check"], 0), (["find", FIRST], 0), (["copy"], 0), (["addr", "-", FIRST], 0)]
 
 
 def asked(files):

@@ -34,7 +34,8 @@ def names(length):
 def streams():
     """What is read piece by piece. A part has 1024 bytes, 16 rows and a sequence."""
     yield Room("a section", 1024, 64, lambda n: {"input": wide_units(n)}, [
-        (["dump"], nothing, 0), (["dump", "--header"], nothing, 0), (["check"], nothing, 0), (["find", NONE], nothing, 1), (["copy"], nothing, 0),
+        (["dump"], nothing, 0), (["dump", "--header"], nothing, 0), (["dump", "--json"], nothing, 0),
+        (["dump", "--range", "0-0xffffffffffff"], nothing, 0), (["lint"], nothing, 1), (["check"], nothing, 0), (["find", NONE], nothing, 1), (["copy"], nothing, 0),
         (["copy", "--to-5"], nothing, 0), (["addr", "-", FIRST], nothing, 0),
     ])
     # Of a part an index has 16 stretches, a file and a text, in at most 256 bytes. While it is made, at most 44 bytes are

@@ -27,12 +27,12 @@ has() {
 
 # The help of the program and of each command, which say what there is.
 commands=$("$dwline" --help | sed -n '/^Commands:/,/^$/s/^  \([a-z]*\) .*/\1/p')
-[ "$(echo "$commands" | wc -w)" = 9 ]
-help=$("$dwline" --help; for command in addr index dump check find copy sources lines; do "$dwline" "$command" --help; done)
+[ "$(echo "$commands" | wc -w)" = 10 ]
+help=$("$dwline" --help; for command in addr index dump check find copy sources lines lint; do "$dwline" "$command" --help; done)
 options=$(grep -oE -e '^ *(-[A-Za-z0-9], )?--[a-z0-9-]+' <<< "$help" | grep -oE -e '-[-A-Za-z0-9]+' | sort -u)
 values=$(grep -oE -e '[<[][A-Z]+[]>]' <<< "$help" | tr -d '[]<>' | sort -u)
-[ "$(echo "$options" | wc -w)" = 44 ]
-[ "$(echo "$values" | wc -w)" = 9 ]
+[ "$(echo "$options" | wc -w)" = 48 ]
+[ "$(echo "$values" | wc -w)" = 10 ]
 for word in $commands $options; do
     has docs/dwline.1 "$word"
     has completions/dwline.bash "$word"

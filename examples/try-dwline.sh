@@ -187,6 +187,16 @@ wants 0 "/boxantrel/packed.c
 wants 0 '{"path":"/boxantrel/packed.c"}
 ' "" operations/debug_line sources --json "${lines[@]}" "${others[@]}"
 
+# The unit at an offset, the sequences of a range, and findings, of files.
+"$dwline" dump operations/program > "$work/operations"
+wants 0 "$(cat "$work/operations")"$'\n' "" / dump --unit 0 operations/program
+wants 1 "" $'dwline: no unit at this offset\n' / dump --unit 7 operations/program
+wants 0 "$(cat "$work/operations")"$'\n' "" / dump --range 0x2000b-0x2000c operations/program
+wants 0 "" "" / dump --range 0x2000c-0x30000 operations/program
+wants 0 "" "" / lint --rule falling-place --rule no-end operations/program
+wants 2 "" $'dwline: fallen is no rule\n' / lint --rule fallen operations/program
+wants 1 "" $'dwline: README.md: not an ELF file\n' / lint README.md
+
 # The paths of rows of version 4 stand under the directory that .debug_info says.
 paths=$("$dwline" dump --paths gcc-dwarf4/program | sed -n 's/^row .* //p' | sort -u)
 if [ "$paths" = $'/boxantrel/grammar.y\n/boxantrel/include/range.h\n/boxantrel/main.c\n/boxantrel/series.c' ]; then

@@ -1,8 +1,8 @@
 #!/usr/bin/env bash
 # try-library.sh [PATH OF dwline]: over the library that `make lib` has built, the examples in C, Rust and Python print of
 # each section of examples/ what `dwline check` prints, the rows that `dwline dump` prints, what `dwline copy` writes,
-# and for the address of each row the row that `dwline find` prints and the location that `dwline addr` prints, and for lines
-# of each source file the places that `dwline lines` prints; where a
+# and for the address of each row the row that `dwline find` prints and the location that `dwline addr` prints, for lines
+# of each source file the places that `dwline lines` prints, and the source files that `dwline sources` prints; where a
 # section is damaged they say the same of it, after the same rows and locations; with --keep-going they count what `dwline
 # check --keep-going` counts, say the first fault, and find what stands in the units after it; where a growth is refused
 # they say so, whichever it is; of each ELF file that ships the index that they make is the one that `dwline index` makes, its
@@ -137,6 +137,8 @@ try_section() {
     [ -e "$str" ] || str=/dev/null
     "$dwline" addr - --line-str "$line_str" --str "$str" "${order[@]}" "${addresses[@]}" 0x0 0x1 < "$section" \
         > "$here/located.wanted" || true
+    "$dwline" sources --rows --md5 --line-str "$line_str" --str "$str" "${order[@]}" < "$section" \
+        > "$here/sources.wanted" || true
     for name in $names; do
         "run_$name" "${order[@]}" < "$section" | cmp - "$here/counts.wanted"
         "run_$name" "${order[@]}" --rows < "$section" | cmp - "$here/rows.wanted"
@@ -144,6 +146,7 @@ try_section() {
         [ ${#addresses[@]} = 0 ] || "run_$name" "${order[@]}" "${addresses[@]}" < "$section" | cmp - "$here/found.wanted"
         "run_$name" "${order[@]}" --addr "$line_str" "$str" "${addresses[@]}" 0x0 0x1 < "$section" |
             cmp - "$here/located.wanted"
+        "run_$name" "${order[@]}" --sources "$line_str" "$str" < "$section" | cmp - "$here/sources.wanted"
     done
     try_lines
     echo "$folder:$names, ${#addresses[@]} addresses, ${#lines[@]} lines of ${#files[@]} files"
@@ -193,6 +196,10 @@ try_around() {
     for place in first middle; do
         "$dwline" check --keep-going "${order[@]}" < "$here/$place" > "$here/counts.wanted" 2> "$here/said" || true
         grep -q ' damaged 1$' "$here/counts.wanted"
+        for goes_on in "" --keep-going; do
+            "$dwline" sources --rows --md5 $goes_on --line-str $folder/debug_line_str "${order[@]}" < "$here/$place" \
+                > "$here/sources$goes_on.wanted" 2> /dev/null || true
+        done
         for name in $names; do
             status=0
             "run_$name" "${order[@]}" --keep-going < "$here/$place" > "$here/counts" 2> "$here/fault" || status=$?
@@ -208,6 +215,11 @@ try_around() {
             { "run_$name" "${order[@]}" --lines $folder/debug_line_str /dev/null series.c {1..40} \
                 < "$here/$place" 2> "$here/fault" || true; } | cmp - "$here/places.$place"
             sed 's/^look: //' "$here/fault" | cmp - <(sed -n '1s/^dwline: //p' "$here/said")
+            for goes_on in "" --keep-going; do
+                { "run_$name" "${order[@]}" $goes_on --sources $folder/debug_line_str /dev/null < "$here/$place" \
+                    2> "$here/fault" || true; } | cmp - "$here/sources$goes_on.wanted"
+                sed 's/^look: //' "$here/fault" | cmp - <(sed -n '1s/^dwline: //p' "$here/said")
+            done
         done
     done
     for name in $names; do
@@ -223,7 +235,7 @@ try_refused() {
     strings=examples/gcc-O2/debug_line_str
     here=$work/refused-$1
     mkdir "$here"
-    for words in "" --keep-going --rows --copy "--lines $strings /dev/null series.c 8"; do
+    for words in "" --keep-going --rows --copy "--lines $strings /dev/null series.c 8" "--sources $strings /dev/null"; do
         REFUSED=0 "refused_$1" $words < "$section" > "$here/whole"
         refusals=0
         for REFUSED in {1..40}; do

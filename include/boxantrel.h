@@ -42,9 +42,9 @@ enum {
     DL_OLDER_8 = 16,    /* of eight */
     DL_ALL = 64,        /* only for dl_index_build and the calls beside it: each sequence counts, one that begins where there
                            is no code too */
-    DL_KEEP_GOING = 128 /* dl_check, dl_find_all, dl_lines, dl_index_build and the calls beside it go on after a damaged
-                           unit whose initial length is good, with the unit that begins where this length says; the other
-                           calls take no notice of it */
+    DL_KEEP_GOING = 128 /* dl_check, dl_find_all, dl_lines, dl_sources, dl_index_build and the calls beside it go on after a
+                           damaged unit whose initial length is good, with the unit that begins where this length says; the
+                           other calls take no notice of it */
 };
 
 /* How a call ends. */
@@ -93,7 +93,7 @@ enum {
     DL_TRUNCATED = 17,        /* the section ends inside a unit */
 
     /* of an ELF file, which dl_index_build tells; the offset and the detail are 0 where nothing is said of them. dl_lines
-       tells the last one of its section */
+       and dl_sources tell the last one of their section */
     DL_NOT_ELF = 32,            /* the bytes don't begin with the header of an ELF file */
     DL_DAMAGED_ELF = 33,        /* something lies outside the file, or doesn't fit what it stands in */
     DL_NO_LINE_SECTION = 34,    /* there is no section with a line table */
@@ -245,6 +245,32 @@ typedef struct {
 uint32_t dl_lines(const uint8_t *section, size_t len, uint8_t how, const uint8_t *line_str, size_t line_str_len,
                   const uint8_t *str, size_t str_len, const uint8_t *path, size_t path_len, uint64_t line, bool exact,
                   dl_place *places, size_t room, size_t *count, dl_fault *fault);
+
+/* A source file, with one of its MD5 sums; one that has none without one. */
+typedef struct {
+    size_t path_begin; /* the byte of the paths at which its path begins */
+    size_t path_len;   /* how many bytes its path has */
+    uint64_t rows;     /* how many rows name it, those that end a sequence left out; 2^64 - 1 where there are more */
+    uint64_t bytes;    /* how many bytes of code these rows have: the distances from their addresses to those of the next rows
+                          of their sequences; 2^64 - 1 where there are more */
+    uint8_t md5[16];   /* the sum; zeros where there is none */
+    uint8_t has_md5;   /* 1 where there is a sum, else 0 */
+} dl_source;
+
+/*
+ * Finds the source files of a section, in one pass, as `dwline sources` does: each path that a table of files names, in the
+ * order of their bytes. A path has an element for each of its MD5 sums, in the order of their bytes, with the same path and
+ * counts, or one where it has none: where there are two, two versions of the file were compiled. Paths are joined as by
+ * dl_path_at, and `line_str` and `str` are as of it; each is told once, one after the other, with nothing between them. As
+ * many elements are told as there is room for in `sources`, and as many bytes of the paths as in `paths`.
+ * DL_DONE: *count is how many elements there are, and *paths_len how many bytes the paths have, be there room for them or not
+ * (2^64 - 1 where there are more), and the first of them are written. DL_FAULT: *fault is the first fault of the section, and
+ * *count, *paths_len and what is written, which may be none, are those of the units before it; with DL_KEEP_GOING of all units
+ * that aren't damaged, those after a damaged one too.
+ */
+uint32_t dl_sources(const uint8_t *section, size_t len, uint8_t how, const uint8_t *line_str, size_t line_str_len,
+                    const uint8_t *str, size_t str_len, dl_source *sources, size_t room, size_t *count, uint8_t *paths,
+                    size_t paths_room, size_t *paths_len, dl_fault *fault);
 
 /*
  * Writes all units anew, each under its header with opcode_base 13 and with the same rows, its numbers shortest. The

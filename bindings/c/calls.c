@@ -26,6 +26,9 @@ uint32_t boxantrel_find_all(const uint8_t *section, size_t len, uint8_t how, con
 uint32_t boxantrel_lines(const uint8_t *section, size_t len, uint8_t how, const uint8_t *line_str, size_t line_str_len,
                          const uint8_t *str, size_t str_len, const uint8_t *path, size_t path_len, uint64_t line, bool exact,
                          dl_place *places, size_t room, size_t *count, dl_fault *fault);
+uint32_t boxantrel_sources(const uint8_t *section, size_t len, uint8_t how, const uint8_t *line_str, size_t line_str_len,
+                           const uint8_t *str, size_t str_len, dl_source *sources, size_t room, size_t *count, uint8_t *paths,
+                           size_t paths_room, size_t *paths_len, dl_fault *fault);
 uint32_t boxantrel_copy(const uint8_t *section, size_t len, uint8_t how, uint8_t *out, size_t room, size_t *copied,
                         dl_fault *fault);
 size_t boxantrel_fault_text(const dl_fault *fault, uint8_t *text, size_t room);
@@ -148,6 +151,14 @@ uint32_t dl_lines(const uint8_t *section, size_t len, uint8_t how, const uint8_t
 {
     return boxantrel_lines(from(section, len), len, how, from(line_str, line_str_len), line_str_len, from(str, str_len),
                            str_len, from(path, path_len), path_len, line, exact, into(places, room), room, count, fault);
+}
+
+uint32_t dl_sources(const uint8_t *section, size_t len, uint8_t how, const uint8_t *line_str, size_t line_str_len,
+                    const uint8_t *str, size_t str_len, dl_source *sources, size_t room, size_t *count, uint8_t *paths,
+                    size_t paths_room, size_t *paths_len, dl_fault *fault)
+{
+    return boxantrel_sources(from(section, len), len, how, from(line_str, line_str_len), line_str_len, from(str, str_len),
+                             str_len, into(sources, room), room, count, into(paths, paths_room), paths_room, paths_len, fault);
 }
 
 uint32_t dl_copy(const uint8_t *section, size_t len, uint8_t how, uint8_t *out, size_t room, size_t *copied,

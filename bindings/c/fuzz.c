@@ -68,6 +68,8 @@ static dl_counts *counts;
 static dl_fault *fault;
 static dl_row *row, *rows_end;
 static dl_place *places_end;
+static dl_source *sources_end;
+static size_t *paths_len;
 static uint64_t *unit;
 static dl_unit *described;
 static size_t *count;
@@ -93,6 +95,7 @@ static void fill(void)
     memset(unit, FILL, sizeof *unit);
     memset(described, FILL, sizeof *described);
     memset(count, FILL, sizeof *count);
+    memset(paths_len, FILL, sizeof *paths_len);
     memset(rows_end - MOST_ROWS, FILL, MOST_ROWS * sizeof *rows_end);
 }
 
@@ -436,6 +439,57 @@ static void check_lines(uint32_t counted, size_t room)
     wanted(is_filled(places + told, (room - told) * sizeof *places), "more than the places");
 }
 
+/* Source files that were told stand by their paths, which follow one another, and those of one path by their sums. */
+static void check_files(const dl_source *sources, size_t told, const uint8_t *paths, size_t written)
+{
+    for (size_t i = 0; i < told; i++) {
+        const dl_source *one = &sources[i], *other = &sources[i > 0 ? i - 1 : 0];
+        static const uint8_t none[sizeof one->md5];
+        size_t end = other->path_begin + other->path_len;
+        wanted(one->has_md5 <= 1 && (one->has_md5 || memcmp(one->md5, none, sizeof none) == 0), "a sum of none");
+        wanted(one->rows > 0 || one->bytes == 0, "bytes of no row");
+        if (i > 0 && one->path_begin == other->path_begin && one->path_len == other->path_len) {
+            wanted(one->has_md5 && other->has_md5 && memcmp(other->md5, one->md5, sizeof one->md5) < 0, "sums out of order");
+            wanted(one->rows == other->rows && one->bytes == other->bytes, "two counts of one path");
+            continue;
+        }
+        wanted(one->path_begin == (i > 0 ? end : 0), "a path that doesn't begin where the one before it ends");
+        if (i > 0 && one->path_begin + one->path_len <= written) {
+            size_t least = one->path_len < other->path_len ? one->path_len : other->path_len;
+            int order = memcmp(paths + other->path_begin, paths + one->path_begin, least);
+            wanted(order < 0 || (order == 0 && other->path_len < one->path_len), "paths out of order");
+        }
+    }
+}
+
+/* Finds the source files, where counting ended with this status, into rooms for them and for their paths. */
+static void check_sources(uint32_t counted, size_t room, size_t paths_room)
+{
+    struct strings strings = random_strings();
+    uint8_t asked = below(2) ? how | DL_KEEP_GOING : up_to_fault();
+    fill();
+    memset(sources_end - MOST_ROWS, FILL, MOST_ROWS * sizeof *sources_end);
+    memset(copy_end - MOST_COPY, FILL, MOST_COPY);
+    dl_source *sources = sources_end - room;
+    uint8_t *paths = copy_end - paths_room;
+    uint32_t status = dl_sources(section, len, asked, strings.line_str, strings.line_str_len, strings.str, strings.str_len,
+                                 or_null(sources, room), room, count, or_null(paths, paths_room), paths_room, paths_len, fault);
+    check_fault(status);
+    wanted(status == counted, "source files with another end than the count");
+    size_t told = 0, written = 0;
+    if (status == DL_DONE || status == DL_FAULT) {
+        told = *count < room ? *count : room;
+        written = *paths_len < paths_room ? *paths_len : paths_room;
+    } else {
+        wanted(is_filled(count, sizeof *count) && is_filled(paths_len, sizeof *paths_len), "numbers that aren't told");
+    }
+    check_files(sources, told, paths, written);
+    wanted(is_filled(sources_end - MOST_ROWS, (MOST_ROWS - room) * sizeof *sources), "a source file before its room");
+    wanted(is_filled(sources + told, (room - told) * sizeof *sources), "more than the source files");
+    wanted(is_filled(copy_end - MOST_COPY, MOST_COPY - paths_room), "paths before their room");
+    wanted(is_filled(paths + written, paths_room - written), "more than the paths");
+}
+
 /* Tells the paths of files of the unit at an offset, whose status is this one, into a room. */
 static void check_paths(uint32_t described_as, uint64_t offset, size_t asked, size_t room)
 {
@@ -532,6 +586,8 @@ int main(int words_count, char **words)
     ends_end = (size_t *)guarded(MOST_ASKED * sizeof *ends_end);
     rows_end = (dl_row *)guarded(MOST_ROWS * sizeof *rows_end);
     places_end = (dl_place *)guarded(MOST_ROWS * sizeof *places_end);
+    sources_end = (dl_source *)guarded(MOST_ROWS * sizeof *sources_end);
+    paths_len = (size_t *)guarded(sizeof *paths_len) - 1;
     uint64_t rounds = strtoull(words[1], NULL, 10);
     for (state = 1; state <= rounds; state++) {
         uint64_t round = state;
@@ -542,6 +598,7 @@ int main(int words_count, char **words)
         check_counts_around(counted, part_section());
         check_find_all_around(counted, below(MOST_ASKED + 1));
         check_lines(counted, below(below(2) ? 4 : MOST_ROWS + 1));
+        check_sources(counted, below(below(2) ? 4 : MOST_ROWS + 1), below(below(2) ? 64 : MOST_COPY + 1));
         check_copy(counted, below(below(2) ? 64 : MOST_COPY + 1));
         dl_fault told;
         memset(&told, 0, sizeof told);

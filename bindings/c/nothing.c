@@ -56,6 +56,11 @@ static void without_section(void)
     wanted(dl_lines(NULL, 0, DL_KEEP_GOING, NULL, 0, NULL, 0, NULL, 0, 8, true, NULL, 0, &length, &fault) == DL_NO_ANSWER,
            "dl_lines of nothing around damaged units");
     wanted(length == 7, "a length that isn't told");
+    size_t count = 7;
+    wanted(dl_sources(NULL, 0, 0, NULL, 0, NULL, 0, NULL, 0, &count, NULL, 0, &length, &fault) == DL_DONE
+           && count == 0 && length == 0, "dl_sources of nothing");
+    wanted(dl_sources(NULL, 0, DL_KEEP_GOING, NULL, 0, NULL, 0, NULL, 0, &count, NULL, 0, &length, &fault) == DL_DONE
+           && count == 0 && length == 0, "dl_sources of nothing around damaged units");
     wanted(dl_copy(NULL, 0, false, NULL, 0, &length, &fault) == DL_DONE && length == 0, "dl_copy of nothing");
 }
 
@@ -154,6 +159,12 @@ static void without_room(void)
            "dl_lines without string sections");
     wanted(dl_lines(section, len, 0, line_str, line_str_len, NULL, 0, NULL, 0, 7, false, NULL, 0, &length, &fault)
            == DL_NO_ANSWER, "dl_lines of no path");
+    size_t count;
+    wanted(dl_sources(section, len, 0, line_str, line_str_len, NULL, 0, NULL, 0, &count, NULL, 0, &length, &fault) == DL_DONE
+           && count == 5 && length == strlen("/boxantrel/grammar.y/boxantrel/include/range.h/boxantrel/main.c"
+                                             "/boxantrel/series.c/boxantrel/series.h"), "dl_sources");
+    wanted(dl_sources(section, len, 0, NULL, 0, NULL, 0, NULL, 0, &count, NULL, 0, &length, &fault) == DL_DONE
+           && count == 0 && length == 0, "dl_sources without string sections");
     wanted(dl_copy(section, len, false, NULL, 0, &length, &fault) == DL_NO_ROOM && length > 0, "dl_copy");
 }
 

@@ -14,6 +14,8 @@
     >>> texts = open("examples/gcc-O2/debug_line_str", "rb").read()
     >>> [(hex(place.address), place.line, place.column) for place in section.lines("series.c", 7, line_str=texts)]
     [('0x401000', 8, 5), ('0x40102e', 8, 33)]
+    >>> [(file.path, file.rows) for file in section.sources(texts)][2:]
+    [(b'/boxantrel/main.c', 21), (b'/boxantrel/series.c', 48), (b'/boxantrel/series.h', 0)]
     >>> [(unit.offset, unit.rows, len(list(section.rows_at(unit.offset)))) for unit in section.units()]
     [(0, 59, 59), (297, 32, 32)]
 
@@ -36,6 +38,7 @@ from __future__ import annotations
 
 import ctypes
 import ctypes.util
+import itertools
 import mmap
 import operator
 import os
@@ -54,6 +57,7 @@ __all__ = [
     "Place",
     "Row",
     "Section",
+    "SourceFile",
     "Stretch",
     "Unit",
 ]
@@ -88,6 +92,17 @@ class _Unit(ctypes.Structure):
 
 class _Place(ctypes.Structure):
     _fields_ = [(name, ctypes.c_uint64) for name in ("address", "line", "column")] + [("prologue_end", ctypes.c_uint8)]
+
+
+class _Source(ctypes.Structure):
+    _fields_ = [
+        ("path_begin", ctypes.c_size_t),
+        ("path_len", ctypes.c_size_t),
+        ("rows", ctypes.c_uint64),
+        ("bytes", ctypes.c_uint64),
+        ("md5", ctypes.c_uint8 * 16),
+        ("has_md5", ctypes.c_uint8),
+    ]
 
 
 class _Layout(ctypes.Structure):
@@ -208,6 +223,17 @@ class Place(NamedTuple):
     prologue_end: bool
 
 
+class SourceFile(NamedTuple):
+    """A source file: its path, how many rows name it, those that end a sequence left out, how many bytes of code these have,
+    and its MD5 sums in the order of their bytes, of which there may be none. Where there are two, two versions of it were
+    compiled."""
+
+    path: bytes
+    rows: int
+    code_bytes: int
+    sums: List[bytes]
+
+
 class Damage(Exception):
     """A unit is damaged. `offset` counts from the section's first byte; `kind` and `detail` are the numbers that stand
     for the fault in include/boxantrel.h. Its text says the same in words.
@@ -314,6 +340,10 @@ def _library() -> ctypes.CDLL:
         + held * 3
         + [ctypes.c_uint64, ctypes.c_bool, ctypes.POINTER(_Place), ctypes.c_size_t]
         + [ctypes.POINTER(ctypes.c_size_t), fault],
+        "dl_sources": section
+        + held * 2
+        + [ctypes.POINTER(_Source), ctypes.c_size_t, ctypes.POINTER(ctypes.c_size_t)]
+        + [ctypes.c_void_p, ctypes.c_size_t, ctypes.POINTER(ctypes.c_size_t), fault],
         "dl_find": section + place + [row, ctypes.POINTER(ctypes.c_uint64), fault],
         "dl_index_fault_text": [ctypes.POINTER(_IndexFault), ctypes.c_void_p, ctypes.c_size_t],
         "dl_index_open": held + [index, ctypes.POINTER(_IndexFault)],
@@ -585,6 +615,46 @@ class Section:
             status = _calls.dl_lines(*self._how(keep_going), *asked, *answer)
         told = [Place(place.address, place.line, place.column, bool(place.prologue_end)) for place in places[: count.value]]
         return told, status, fault
+
+    def sources(self, line_str: Any = b"", text: Any = b"", keep_going: bool = False) -> List[SourceFile]:
+        """The source files, in the order of their paths' bytes, as `dwline sources` finds them: each path that a table of files
+        names, with what the rows come to that name it, and its MD5 sums. A damaged section is raised; those of the units before
+        the fault are told by `sources_before`. With `keep_going` those of all units that aren't damaged are told, and no damage
+        is raised: `check` tells of it. More than 64 of them, or than 4,096 bytes of paths, are told twice."""
+        files, status, fault = self._sources(line_str, text, keep_going)
+        if status != _DONE and not (keep_going and _is_damage(status, fault)):
+            _refuse(status, fault)
+        return files
+
+    def sources_before(self, line_str: Any = b"", text: Any = b"") -> List[SourceFile]:
+        """The same of the units before the first fault, if there is one."""
+        files, status, fault = self._sources(line_str, text, False)
+        if status not in (_DONE, _FAULT):
+            _refuse(status, fault)
+        return files
+
+    def _sources(self, line_str: Any, text: Any, keep_going: bool) -> tuple[List[SourceFile], int, _Fault]:
+        strings = (_Bytes(line_str), _Bytes(text))
+        asked = [number for held in strings for number in held.pointer]
+        room, paths_room, fault = 0, 0, _Fault()
+        count, paths_len = ctypes.c_size_t(64), ctypes.c_size_t(4096)
+        while room < count.value or paths_room < paths_len.value:
+            room, paths_room = max(room, count.value), max(paths_room, paths_len.value)
+            count.value = paths_len.value = 0
+            sources, paths = (_Source * room)(), ctypes.create_string_buffer(paths_room)
+            answer = (sources, room, ctypes.byref(count), paths, paths_room, ctypes.byref(paths_len), ctypes.byref(fault))
+            status = _calls.dl_sources(*self._how(keep_going), *asked, *answer)
+        return _files(sources[: count.value], paths.raw), status, fault
+
+
+def _files(sources: Sequence[_Source], paths: bytes) -> List[SourceFile]:
+    """The source files of elements and paths that a call told: those of one path, one for each of its sums, make one file."""
+    files = []
+    for (begin, length), of_one in itertools.groupby(sources, lambda source: (source.path_begin, source.path_len)):
+        elements = list(of_one)
+        sums = [bytes(source.md5) for source in elements if source.has_md5]
+        files.append(SourceFile(paths[begin : begin + length], elements[0].rows, elements[0].bytes, sums))
+    return files
 
 
 def _location(location: _Location) -> Optional[Location]:

@@ -1,10 +1,10 @@
 """look.py [--big] [--older SIZE] [--keep-going] [--rows | --copy | --addr LINE_STR STR ADDRESS.. |
---lines LINE_STR STR PATH LINE.. | --exact-lines LINE_STR STR PATH LINE.. | ADDRESS..]: of the section
+--lines LINE_STR STR PATH LINE.. | --exact-lines LINE_STR STR PATH LINE.. | --sources LINE_STR STR | ADDRESS..]: of the section
 on standard input, what `dwline check` prints of it; with --rows the rows that `dwline dump` prints, with --copy what `dwline
 copy` writes, with --addr and the files of both string sections what `dwline addr` prints; with --lines what `dwline lines` prints
-of each line of the path, but for the paths, and with --exact-lines what it prints with --exact; or with addresses the row that
-answers for each as `dwline find` prints it. With --keep-going the units after a damaged one count too, and answer with --addr
-and --lines; the first fault is said."""
+of each line of the path, but for the paths, and with --exact-lines what it prints with --exact; with --sources what `dwline
+sources --rows --md5` prints; or with addresses the row that answers for each as `dwline find` prints it. With --keep-going the
+units after a damaged one count too, and answer with --addr, --lines and --sources; the first fault is said."""
 
 import pathlib
 import sys
@@ -102,6 +102,14 @@ def find_lines(
     section.check()
 
 
+def list_sources(section: Section, keep_going: bool, line_str: bytes, text: bytes) -> None:
+    files = section.sources(line_str, text, keep_going=True) if keep_going else section.sources_before(line_str, text)
+    for file in files:
+        for sum_text in [each.hex() for each in file.sums] or ["-"]:
+            print(f"{file.rows} {file.code_bytes} {sum_text} {file.path.decode(errors='surrogateescape')}")
+    section.check()
+
+
 def main(words: List[str]) -> int:
     big = words[:1] == ["--big"]
     words = words[big:]
@@ -123,6 +131,8 @@ def main(words: List[str]) -> int:
         elif words[0] in ("--lines", "--exact-lines"):
             files = [pathlib.Path(name).read_bytes() for name in words[1:3]]
             find_lines(section, keep_going, words[0] == "--exact-lines", *files, words[3], words[4:])
+        elif words[0] == "--sources":
+            list_sources(section, keep_going, *(pathlib.Path(name).read_bytes() for name in words[1:3]))
         else:
             find_each(section, words)
     except (Damage, OtherVersion) as refusal:

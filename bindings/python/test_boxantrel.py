@@ -10,7 +10,7 @@ import pickle
 import tempfile
 import unittest
 
-from boxantrel import Counts, Damage, FileFault, Index, NoIndex, OtherVersion, Place, Section
+from boxantrel import Counts, Damage, FileFault, Index, NoIndex, OtherVersion, Place, Section, SourceFile
 
 EXAMPLES = pathlib.Path(__file__).resolve().parents[2] / "examples"
 BYTES = (EXAMPLES / "gcc-O2" / "debug_line").read_bytes()
@@ -212,6 +212,60 @@ class Lines(unittest.TestCase):
         self.assertEqual(section.lines("series.c", 8, False, LINE_STR, keep_going=True), PLACES)
         behind = Section(BYTES + DAMAGED)
         self.assertEqual(behind.lines_before("series.c", 8, False, LINE_STR), PLACES)
+
+
+# As llvm-dwarfdump tells the rows and the tables of this section.
+FILES = [
+    SourceFile(b"/boxantrel/grammar.y", 10, 26, []),
+    SourceFile(b"/boxantrel/include/range.h", 9, 23, []),
+    SourceFile(b"/boxantrel/main.c", 21, 67, []),
+    SourceFile(SERIES, 48, 150, []),
+    SourceFile(b"/boxantrel/series.h", 0, 0, []),
+]
+
+# Version 5, directory `/s` and `a.c` in it, up to its MD5 sum; and behind that a row of it, which has 8 bytes of code.
+SUMMED = bytes.fromhex(
+    "510000000500080036000000010101fb0e0d000101010100000001000001"
+    "010108012f7300030108020f051e01612e630000"
+)
+ONE_ROW = bytes.fromhex("00090200100000000000000400010208000101")
+
+
+class Sources(unittest.TestCase):
+    def test_paths_and_counts(self) -> None:
+        self.assertEqual(Section(BYTES).sources(LINE_STR), FILES)
+        self.assertEqual(Section(BYTES).sources_before(LINE_STR), FILES)
+        self.assertEqual(Section(BYTES).sources(LINE_STR, keep_going=True), FILES)
+        twice = [file._replace(rows=2 * file.rows, code_bytes=2 * file.code_bytes) for file in FILES]
+        self.assertEqual(Section(BYTES + BYTES).sources(LINE_STR), twice)
+
+    def test_no_path(self) -> None:
+        self.assertEqual(Section(BYTES).sources(), [])
+        self.assertEqual(Section(b"").sources(LINE_STR), [])
+
+    def test_sums(self) -> None:
+        low, high = bytes(range(16)), b"\xff" + bytes(15)
+        for sums in ([low], [high, low], [high, low, high], [low] * 100):
+            section = Section(b"".join(SUMMED + each + ONE_ROW for each in sums))
+            told = SourceFile(b"/s/a.c", len(sums), 8 * len(sums), sorted(set(sums)))
+            self.assertEqual(section.sources(), [told])
+
+    def test_many_files(self) -> None:
+        # Each unit has a name of its own, of as many bytes.
+        names = [f"{number:03}" for number in range(200)]
+        section = Section(b"".join(SUMMED.replace(b"a.c", name.encode()) + bytes(16) + ONE_ROW for name in names))
+        told = [SourceFile(f"/s/{name}".encode(), 1, 8, [bytes(16)]) for name in names]
+        self.assertEqual(section.sources(), told)
+        section = Section(b"".join(SUMMED + number.to_bytes(16, "big") + ONE_ROW for number in range(200)))
+        sums = [number.to_bytes(16, "big") for number in range(200)]
+        self.assertEqual(section.sources(), [SourceFile(b"/s/a.c", 200, 1600, sums)])
+
+    def test_a_damaged_unit(self) -> None:
+        section = Section(DAMAGED + BYTES)
+        self.assertRaises(Damage, section.sources, LINE_STR)
+        self.assertEqual(section.sources_before(LINE_STR), [])
+        self.assertEqual(section.sources(LINE_STR, keep_going=True), FILES)
+        self.assertEqual(Section(BYTES + DAMAGED).sources_before(LINE_STR), FILES)
 
 
 class Around(unittest.TestCase):

@@ -137,6 +137,65 @@ DAMAGED = [
 ]
 
 
+NO_UNIT = error("no unit at this offset")
+NOT_UNDERSTOOD = error("words not understood")
+ENDS_INSIDE = "unit ends inside an opcode"
+
+# A section, words of `dump` by which a part of it is printed, the part, and what is told: units before the one at an offset may be
+# damaged, and nothing after it is read; the sequence of three rows covers the addresses from 0x401000 on and below 0x401006.
+PARTS = [
+    (THREE_ROWS * 2, ("--unit", "52"), at(52, THREE_DUMP), b""),
+    (THREE_ROWS * 2, ("--unit", "0x34"), at(52, THREE_DUMP), b""),
+    (THREE_ROWS * 2, ("--unit", "0"), THREE_DUMP, b""),
+    (THREE_ROWS * 2, ("--unit", "1"), "", NO_UNIT),
+    (THREE_ROWS * 2, ("--unit", "104"), "", NO_UNIT),
+    (b"", ("--unit", "0"), "", NO_UNIT),
+    (FOREIGN, ("--unit", "0"), "unit 0x0 version 4 skipped\n", b""),
+    (THREE_ROWS_AND_A_BYTE + THREE_ROWS, ("--unit", "53"), at(53, THREE_DUMP), b""),
+    (THREE_ROWS_AND_A_BYTE + THREE_ROWS, ("--unit", "0"), THREE_DUMP, damage(52, ENDS_INSIDE)),
+    (THREE_ROWS + b"\5", ("--unit", "0"), THREE_DUMP, b""),
+    (EMPTY_PROGRAM * 2, ("--unit", "34", "--header"), at(34, UNIT) + fields(30, 22), b""),
+    (THREE_ROWS, ("--range", "0x401005-0x401006"), THREE_DUMP, b""),
+    (THREE_ROWS, ("--range", "0-0x401001"), THREE_DUMP, b""),
+    (THREE_ROWS, ("--range", "0-0x401000"), "", b""),
+    (THREE_ROWS, ("--range", "0x401006-0x402000"), "", b""),
+    (THREE_ROWS, ("--range", "0x401001-0x401000"), "", b""),
+    (THREE_ROWS, ("--range", "4198400-4198401"), THREE_DUMP, b""),
+    (WITH_FILE + THREE_ROWS, ("--range", "0x401000-0x401001"), at(len(WITH_FILE), THREE_DUMP), b""),
+    (THREE_ROWS_AND_A_BYTE + THREE_ROWS, ("--keep-going", "--range", "0x401000-0x401001"), THREE_DUMP + at(53, THREE_DUMP),
+     damage(52, ENDS_INSIDE)),
+]
+
+NO_FILE = "file-index: row {} at 0x{:016x} names file 1 of 0, numbered from 0\n"
+TWO_NAMES = "0x2d " + NO_FILE.format(1, 0x401000) + "0x2e " + NO_FILE.format(2, 0x401004)
+THREE_BYTES = "0x0 padding: 3 bytes stand between the tables and the program\n"
+
+# A section, words of `lint`, the findings, and what is told of them. The rows of three name a file of no table.
+FINDINGS = [
+    (b"", (), "", b""),
+    (THREE_ROWS, (), TWO_NAMES, b"findings: file-index=2\n"),
+    (THREE_ROWS, ("--rule", "file-index"), TWO_NAMES, b"findings: file-index=2\n"),
+    (THREE_ROWS, ("--no-rule", "file-index"), "", b""),
+    (THREE_ROWS, ("--rule", "padding"), "", b""),
+    (THREE_ROWS, ("--rule", "padding", "--rule", "file-index"), TWO_NAMES, b"findings: file-index=2\n"),
+    (THREE_ROWS, ("--rule", "file-index", "--no-rule", "file-index"), "", b""),
+    (PADDING_OF_THREE_BYTES, (), THREE_BYTES, b"findings: padding=1\n"),
+    (PADDING_OF_THREE_BYTES, ("--json",), '{"offset":0,"rule":"padding","bytes":3}\n', b"findings: padding=1\n"),
+    (PADDING_OF_THREE_BYTES + THREE_ROWS_AND_A_BYTE, ("--rule=padding", "--keep-going"), THREE_BYTES,
+     damage(len(PADDING_OF_THREE_BYTES) + 52, ENDS_INSIDE) + b"findings: padding=1\n"),
+    (THREE_ROWS_AND_A_BYTE + PADDING_OF_THREE_BYTES, ("--rule=padding",), "", damage(52, ENDS_INSIDE)),
+]
+
+# Words that say no offset, no range and no rule.
+REFUSED_WORDS = [
+    (("dump", "--unit", "1x"), NOT_UNDERSTOOD),
+    (("dump", "--range", "5"), NOT_UNDERSTOOD),
+    (("dump", "--range", "5-"), NOT_UNDERSTOOD),
+    (("lint", "--rule", "no-such"), error("no-such is no rule")),
+    (("lint", "--rule", "padding", "--no-rule", "x", "--no-rule", "y"), error("x is no rule")),
+]
+
+
 def runs_of_sections():
     for name, section, dump, fault, copied, not_copied in SECTIONS:
         status = 1 if fault else 0
@@ -154,6 +213,15 @@ def runs_of_headers():
         for going_on in ((), ("--keep-going",)):
             words = ("dump", "--header", *going_on, *order)
             yield Run(f"{name}: {' '.join(words)}", words, section, 1 if fault else 0, text(dump), (fault,))
+
+
+def runs_of_parts():
+    for section, words, dump, fault in PARTS:
+        yield Run(f"dump {' '.join(words)}", ("dump", *words), section, 1 if fault else 0, text(dump), (fault,))
+    for section, words, lines, told in FINDINGS:
+        yield Run(f"lint {' '.join(words)}", ("lint", *words), section, 1 if told else 0, text(lines), (told,))
+    for words, fault in REFUSED_WORDS:
+        yield Run(" ".join(words), words, THREE_ROWS, 2, b"", (fault,))
 
 
 def runs_of_places():
@@ -184,3 +252,4 @@ def runs():
     yield from runs_of_headers()
     yield from runs_of_fronts()
     yield from runs_of_places()
+    yield from runs_of_parts()

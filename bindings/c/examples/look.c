@@ -1,12 +1,12 @@
 /*
  * look [--big] [--older SIZE] [--keep-going] [--rows | --copy | --addr LINE_STR STR ADDRESS.. |
- * --lines LINE_STR STR PATH LINE.. | --exact-lines LINE_STR STR PATH LINE.. | ADDRESS..]: of the section
- * on standard input, what `dwline check` prints of it; with --rows the rows that `dwline dump` prints, with --copy what
+ * --lines LINE_STR STR PATH LINE.. | --exact-lines LINE_STR STR PATH LINE.. | --sources LINE_STR STR | ADDRESS..]: of the
+ * section on standard input, what `dwline check` prints of it; with --rows the rows that `dwline dump` prints, with --copy what
  * `dwline copy` writes, with --addr and the files of both string sections what `dwline addr` prints; with --lines what `dwline
- * lines` prints of each line of the path, but for the paths, and with --exact-lines what it prints with --exact; or with
- * addresses the row that answers for each as `dwline find` prints it. With --older units of versions 2 to 4 are read too, with
- * addresses of this size. With --keep-going the units after a damaged one count too, and answer with --addr and --lines; the
- * first fault is said.
+ * lines` prints of each line of the path, but for the paths, and with --exact-lines what it prints with --exact; with --sources
+ * what `dwline sources --rows --md5` prints; or with addresses the row that answers for each as `dwline find` prints it. With
+ * --older units of versions 2 to 4 are read too, with addresses of this size. With --keep-going the units after a damaged one
+ * count too, and answer with --addr, --lines and --sources; the first fault is said.
  */
 #include <boxantrel.h>
 #include <inttypes.h>
@@ -272,6 +272,43 @@ static int find_lines(const char *path, char **lines, size_t count, bool exact)
     return status == DL_DONE || status == DL_NO_ANSWER ? 0 : refused(status, &fault);
 }
 
+static void print_sources(const dl_source *sources, size_t count, const uint8_t *paths)
+{
+    for (size_t i = 0; i < count; i++) {
+        printf("%" PRIu64 " %" PRIu64 " ", sources[i].rows, sources[i].bytes);
+        for (size_t byte = 0; sources[i].has_md5 && byte < sizeof sources[i].md5; byte++)
+            printf("%02x", sources[i].md5[byte]);
+        fputs(sources[i].has_md5 ? " " : "- ", stdout);
+        fwrite(paths + sources[i].path_begin, 1, sources[i].path_len, stdout);
+        putchar('\n');
+    }
+}
+
+/* Prints the source files, for which more room is taken where they want it; the fault of the section is said at the end. */
+static int list_sources(void)
+{
+    size_t room = 4, paths_room = 64;
+    for (;;) {
+        size_t count = 0, paths_len = 0;
+        dl_source *sources = malloc(room * sizeof *sources);
+        uint8_t *paths = malloc(paths_room);
+        dl_fault fault;
+        uint32_t status = DL_NO_MEMORY;
+        if (sources != NULL && paths != NULL)
+            status = dl_sources(bytes, len, how, texts[0], texts_len[0], texts[1], texts_len[1], sources, room, &count, paths,
+                                paths_room, &paths_len, &fault);
+        bool is_all = count <= room && paths_len <= paths_room;
+        if (is_all)
+            print_sources(sources, count, paths);
+        free(sources);
+        free(paths);
+        if (is_all)
+            return status == DL_DONE ? 0 : refused(status, &fault);
+        room = count > room ? count : room;
+        paths_room = paths_len > paths_room ? paths_len : paths_room;
+    }
+}
+
 /* Prints the rows of the unit at the offset, those before a fault too, and gives the status of the call. */
 static uint32_t print_rows(uint64_t offset, dl_fault *fault)
 {
@@ -342,7 +379,8 @@ int main(int count, char **words)
     bool is_addr = at + 2 < count && strcmp(words[at], "--addr") == 0;
     bool is_exact = at + 3 < count && strcmp(words[at], "--exact-lines") == 0;
     bool is_lines = is_exact || (at + 3 < count && strcmp(words[at], "--lines") == 0);
-    for (int i = 0; i < 2 && (is_addr || is_lines); i++) {
+    bool is_sources = at + 2 < count && strcmp(words[at], "--sources") == 0;
+    for (int i = 0; i < 2 && (is_addr || is_lines || is_sources); i++) {
         FILE *file = fopen(words[at + 1 + i], "rb");
         texts[i] = read_all(file, &texts_len[i]);
         has_all = has_all && texts[i] != NULL;
@@ -364,6 +402,8 @@ int main(int count, char **words)
         status = locate(words + at + 3, (size_t)(count - at - 3));
     else if (is_lines)
         status = find_lines(words[at + 3], words + at + 4, (size_t)(count - at - 4), is_exact);
+    else if (is_sources)
+        status = list_sources();
     else
         for (; at < count && status == 0; at++)
             status = find(words[at]);

@@ -1,12 +1,12 @@
 //! look [--big] [--older SIZE] [--keep-going] [--rows | --copy | --addr LINE_STR STR ADDRESS.. |
-//! --lines LINE_STR STR PATH LINE.. | --exact-lines LINE_STR STR PATH LINE.. | ADDRESS..]: of the section
-//! on standard input, what `dwline check` prints of it; with --rows the rows that `dwline dump` prints, with --copy what
+//! --lines LINE_STR STR PATH LINE.. | --exact-lines LINE_STR STR PATH LINE.. | --sources LINE_STR STR | ADDRESS..]: of the
+//! section on standard input, what `dwline check` prints of it; with --rows the rows that `dwline dump` prints, with --copy what
 //! `dwline copy` writes, with --addr and the files of both string sections what `dwline addr` prints; with --lines what `dwline
-//! lines` prints of each line of the path, but for the paths, and with --exact-lines what it prints with --exact; or with
-//! addresses the row that answers for each as `dwline find` prints it. With --keep-going the units after a damaged one count
-//! too, and answer with --addr and --lines; the first fault is said.
+//! lines` prints of each line of the path, but for the paths, and with --exact-lines what it prints with --exact; with --sources
+//! what `dwline sources --rows --md5` prints; or with addresses the row that answers for each as `dwline find` prints it. With
+//! --keep-going the units after a damaged one count too, and answer with --addr, --lines and --sources; the first fault is said.
 
-use boxantrel::{AddressSize, Error, Found, Order, Place, Row, Section, Survey};
+use boxantrel::{AddressSize, Error, Found, Order, Place, Row, Section, SourceFile, Survey};
 use std::collections::{HashMap, HashSet};
 use std::io::{self, BufWriter, Read, Write};
 use std::process::ExitCode;
@@ -196,6 +196,39 @@ fn find_lines(
     Ok(end)
 }
 
+/// A line for each sum of a source file, or one where it has none.
+fn print_file(output: &mut impl Write, file: &SourceFile) -> io::Result<()> {
+    let mut sums: Vec<String> =
+        file.sums.iter().map(|sum| sum.iter().map(|byte| format!("{byte:02x}")).collect()).collect();
+    if sums.is_empty() {
+        sums.push("-".to_string());
+    }
+    for sum in sums {
+        write!(output, "{} {} {sum} ", file.rows, file.bytes)?;
+        output.write_all(&file.path)?;
+        writeln!(output)?;
+    }
+    Ok(())
+}
+
+fn list_sources(
+    output: &mut impl Write,
+    section: &Section,
+    keep_going: bool,
+    words: &[String],
+) -> io::Result<Result<(), Error>> {
+    let [line_str, str] = words else {
+        return Err(io::Error::other("no files"));
+    };
+    let (line_str, str) = (std::fs::read(line_str)?, std::fs::read(str)?);
+    let found =
+        if keep_going { section.sources_around(&line_str, &str) } else { section.sources(&line_str, &str) };
+    for file in &found.files {
+        print_file(output, file)?;
+    }
+    Ok(found.error.map_or(Ok(()), Err))
+}
+
 fn address_size(text: &str) -> Option<AddressSize> {
     match text {
         "1" => Some(AddressSize::One),
@@ -239,6 +272,8 @@ fn main() -> io::Result<ExitCode> {
         locate_each(&mut output, &section, keep_going, &words[1..])?
     } else if words[0] == "--lines" || words[0] == "--exact-lines" {
         find_lines(&mut output, &section, keep_going, words[0] == "--exact-lines", &words[1..])?
+    } else if words[0] == "--sources" {
+        list_sources(&mut output, &section, keep_going, &words[1..])?
     } else {
         find_each(&mut output, &section, &words)?
     };

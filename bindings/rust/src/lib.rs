@@ -18,6 +18,8 @@
 //! assert_eq!(paths, [path.clone(), path]);
 //! let places = section.lines(b"series.c", 7, false, &texts, &[]).places;
 //! assert_eq!(places.iter().map(|place| (place.address, place.line)).collect::<Vec<_>>(), [(0x401000, 8), (0x40102e, 8)]);
+//! let files = section.sources(&texts, &[]).files;
+//! assert_eq!((files.len(), files[3].path.as_slice(), files[3].rows), (5, &b"/boxantrel/series.c"[..], 48));
 //! let survey = section.check_around()?;
 //! assert_eq!((survey.counts, survey.damaged, survey.first), (section.check()?, 0, None));
 //! assert_eq!(section.find_all_around(&[0x401008, 0]), section.find_all(&[0x401008, 0]));
@@ -140,6 +142,19 @@ pub struct Place {
     pub column: u64,
     /// Whether a breakpoint at the entry of a function belongs here.
     pub prologue_end: bool,
+}
+
+/// A source file of a section.
+#[derive(Clone, Debug, PartialEq, Eq)]
+pub struct SourceFile {
+    pub path: Vec<u8>,
+    /// How many rows name it, those that end a sequence left out.
+    pub rows: u64,
+    /// How many bytes of code these rows have.
+    pub bytes: u64,
+    /// Its MD5 sums, in the order of their bytes, of which there may be none. Where there are two, two versions of the file were
+    /// compiled.
+    pub sums: Vec<[u8; 16]>,
 }
 
 /// A unit that was read whole.
@@ -520,6 +535,55 @@ impl<'a> Section<'a> {
         }
     }
 
+    /// The source files, in the order of their paths' bytes, as `dwline sources` finds them: each path that a table of files names,
+    /// with what the rows come to that name it, and its MD5 sums. The string sections are those of `path_at`. Where the section
+    /// is damaged those of the units before the fault are told. More than 64 of them, or than 4,096 bytes of paths, are told twice.
+    pub fn sources(&self, line_str: &[u8], str: &[u8]) -> FoundSources {
+        self.source_files(self.how(), line_str, str)
+    }
+
+    /// The same, but goes on after a damaged unit as `check_around` does: those of all units that aren't damaged are told, and the
+    /// error is the damage of the first that is.
+    pub fn sources_around(&self, line_str: &[u8], str: &[u8]) -> FoundSources {
+        self.source_files(self.how() + raw::KEEP_GOING, line_str, str)
+    }
+
+    fn source_files(&self, how: u8, line_str: &[u8], str: &[u8]) -> FoundSources {
+        let mut sources = vec![raw::Source::default(); 64];
+        let mut paths = vec![0; 4096];
+        loop {
+            let (mut count, mut paths_len) = (0, 0);
+            let mut fault = raw::Fault::default();
+            // SAFETY: as in `path_at`; both rooms are slices'.
+            let status = unsafe {
+                raw::dl_sources(
+                    self.bytes.as_ptr(),
+                    self.bytes.len(),
+                    how,
+                    line_str.as_ptr(),
+                    line_str.len(),
+                    str.as_ptr(),
+                    str.len(),
+                    sources.as_mut_ptr(),
+                    sources.len(),
+                    &mut count,
+                    paths.as_mut_ptr(),
+                    paths.len(),
+                    &mut paths_len,
+                    &mut fault,
+                )
+            };
+            if count <= sources.len() && paths_len <= paths.len() {
+                return FoundSources {
+                    files: files_of(&sources[..count], &paths),
+                    error: (status != raw::DONE).then(|| error(status, &fault)),
+                };
+            }
+            sources.resize(count.max(sources.len()), raw::Source::default());
+            paths.resize(paths_len.max(paths.len()), 0);
+        }
+    }
+
     /// The index of the section: of the sequences that begin in the ranges, in any order, or of all where there are none. The
     /// string sections are those of `path_at`. Where damaged units are gone around, what is wrong with the first of them comes
     /// beside it.
@@ -595,6 +659,14 @@ pub struct FoundAll {
 pub struct FoundPlaces {
     /// By their addresses; of a damaged section those of the units that were looked at.
     pub places: Vec<Place>,
+    pub error: Option<Error>,
+}
+
+/// The source files of a section, and what is wrong with it, or that memory was refused.
+#[derive(Clone, Debug, PartialEq, Eq)]
+pub struct FoundSources {
+    /// In the order of their paths' bytes; of a damaged section those of the units that were looked at.
+    pub files: Vec<SourceFile>,
     pub error: Option<Error>,
 }
 
@@ -676,6 +748,20 @@ impl From<raw::Place> for Place {
             prologue_end: place.prologue_end != 0,
         }
     }
+}
+
+/// The source files of elements and paths that a call told: those of one path, one for each of its sums, make one file.
+fn files_of(sources: &[raw::Source], paths: &[u8]) -> Vec<SourceFile> {
+    let is_of_one = |a: &raw::Source, b: &raw::Source| (a.path_begin, a.path_len) == (b.path_begin, b.path_len);
+    sources
+        .chunk_by(is_of_one)
+        .map(|of_one| SourceFile {
+            path: paths[of_one[0].path_begin..][..of_one[0].path_len].to_vec(),
+            rows: of_one[0].rows,
+            bytes: of_one[0].bytes,
+            sums: of_one.iter().filter(|source| source.has_md5 != 0).map(|source| source.md5).collect(),
+        })
+        .collect()
 }
 
 /// The text of a fault; none where no call tells it.

@@ -72,6 +72,17 @@ pub struct Place {
     pub prologue_end: u8,
 }
 
+#[repr(C)]
+#[derive(Clone, Copy, Debug, Default)]
+pub struct Source {
+    pub path_begin: usize,
+    pub path_len: usize,
+    pub rows: u64,
+    pub bytes: u64,
+    pub md5: [u8; 16],
+    pub has_md5: u8,
+}
+
 /// By which the calls find the parts of an index.
 #[repr(C)]
 #[derive(Clone, Copy, Debug, PartialEq, Eq)]
@@ -264,6 +275,22 @@ extern "C" {
         places: *mut Place,
         room: usize,
         count: *mut usize,
+        fault: *mut Fault,
+    ) -> u32;
+    pub fn dl_sources(
+        section: *const u8,
+        len: usize,
+        how: u8,
+        line_str: *const u8,
+        line_str_len: usize,
+        str: *const u8,
+        str_len: usize,
+        sources: *mut Source,
+        room: usize,
+        count: *mut usize,
+        paths: *mut u8,
+        paths_room: usize,
+        paths_len: *mut usize,
         fault: *mut Fault,
     ) -> u32;
     pub fn dl_copy(

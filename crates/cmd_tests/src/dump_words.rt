@@ -1,61 +1,104 @@
 //! What `dump` is asked to print, and command lines that are refused for such words.
 use crate::refusal::refusal;
 use clap::error::ErrorKind;
-use dl_cmd::{Job, Words, read_words};
+use dl_cmd::{DumpWords, Job, UnitWords, Words, read_words};
 use std::test::Fail;
 
-/// A command line, whether units after a damaged one are read, and whether the fields of headers, operations and paths are
-/// printed; and the compilation directory for these.
-type Row = (
-    &'static [&'static str],
-    bool,
-    bool,
-    bool,
-    bool,
-    Option<&'static str>,
-);
+/// What is said of a section on standard input, where nothing else is.
+const INPUT: DumpWords<'static> = DumpWords {
+    file: None,
+    big: false,
+    units: UnitWords {
+        older: None,
+        address_size: None,
+        version_5: false,
+    },
+    line_str: None,
+    strings: None,
+    keep_going: false,
+    header: false,
+    operations: false,
+    paths: false,
+    comp_dir: None,
+    json: false,
+    unit: None,
+    range: None,
+};
 
-const ROWS: &[Row] = &[
-    (&["dwline", "dump", "a"], false, false, false, false, None),
+const PROGRAM: DumpWords<'static> = DumpWords {
+    file: Some("a"),
+    ..INPUT
+};
+
+/// Command lines, and what they say.
+const ROWS: &[(&[&str], DumpWords<'static>)] = &[
+    (&["dwline", "dump", "a"], PROGRAM),
     (
         &["dwline", "dump", "--keep-going"],
-        true,
-        false,
-        false,
-        false,
-        None,
+        DumpWords {
+            keep_going: true,
+            ..INPUT
+        },
     ),
     (
         &["dwline", "dump", "--header", "a"],
-        false,
-        true,
-        false,
-        false,
-        None,
+        DumpWords {
+            header: true,
+            ..PROGRAM
+        },
     ),
     (
         &["dwline", "dump", "--operations", "a"],
-        false,
-        false,
-        true,
-        false,
-        None,
+        DumpWords {
+            operations: true,
+            ..PROGRAM
+        },
     ),
     (
         &["dwline", "dump", "a", "--paths"],
-        false,
-        false,
-        false,
-        true,
-        None,
+        DumpWords {
+            paths: true,
+            ..PROGRAM
+        },
     ),
     (
         &["dwline", "dump", "--comp-dir=c", "--paths", "a"],
-        false,
-        false,
-        false,
-        true,
-        Some("c"),
+        DumpWords {
+            paths: true,
+            comp_dir: Some("c"),
+            ..PROGRAM
+        },
+    ),
+    (
+        &["dwline", "dump", "--json", "--keep-going", "a"],
+        DumpWords {
+            json: true,
+            keep_going: true,
+            ..PROGRAM
+        },
+    ),
+    (
+        &["dwline", "dump", "--unit", "0x1c", "--paths", "a"],
+        DumpWords {
+            unit: Some("0x1c"),
+            paths: true,
+            ..PROGRAM
+        },
+    ),
+    (
+        &[
+            "dwline",
+            "dump",
+            "--range=0x1000-4200",
+            "--header",
+            "--keep-going",
+        ],
+        DumpWords {
+            range: Some("0x1000-4200"),
+            header: true,
+            keep_going: true,
+            ..INPUT
+        },
     ),
     (
         &[
@@ -72,47 +115,47 @@ const ROWS: &[Row] = &[
             "--operations",
             "--comp-dir=--paths",
         ],
-        true,
-        true,
-        true,
-        true,
-        Some("--paths"),
+        DumpWords {
+            big: true,
+            units: UnitWords {
+                older: Some("8"),
+                address_size: None,
+                version_5: false,
+            },
+            strings: Some("s"),
+            keep_going: true,
+            header: true,
+            operations: true,
+            paths: true,
+            comp_dir: Some("--paths"),
+            ..INPUT
+        },
     ),
 ];
 
-fn says(said: Option<&Words<'_>>, row: &Row) -> bool {
+fn says(said: Option<&Words<'_>>, words: &DumpWords<'_>) -> bool {
     match said {
         Some(
             Words {
-                job: Job::Dump {
-                    keep_going,
-                    header,
-                    operations,
-                    paths,
-                    comp_dir,
-                    ..
-                },
+                job: Job::Dump(said),
                 ..
             },
-        ) => {
-            (*keep_going, *header) == (row.1, row.2)
-                && (*operations, *paths) == (row.3, row.4)
-                && *comp_dir == row.5
-        }
+        ) => said == words,
         _ => false,
     }
 }
 
 #[test]
 fn words_of_dump(rt: HostRuntime) -> Result<(), Fail> {
-    for row in ROWS {
-        let said = read_words(rt.alloc(), row.0)?;
-        assert!(rt; says(said.as_ref(), row), "{:?}", row.0);
+    for (line, words) in ROWS {
+        let said = read_words(rt.alloc(), line)?;
+        assert!(rt; says(said.as_ref(), words), "{line:?}");
     }
     Ok(())
 }
 
-/// Command lines that are refused: a word said twice, a directory without paths, and words of other commands.
+/// Command lines that are refused: a word said twice, a directory without paths, words that don't go together, and words of other
+/// commands.
 const REFUSED: &[(&[&str], ErrorKind)] = &[
     (
         &["dwline", "dump", "--header", "a", "--header"],
@@ -137,6 +180,43 @@ const REFUSED: &[(&[&str], ErrorKind)] = &[
     (
         &["dwline", "dump", "a", "--paths", "--comp-dir"],
         ErrorKind::InvalidValue,
+    ),
+    (
+        &["dwline", "dump", "--json", "--header", "a"],
+        ErrorKind::ArgumentConflict,
+    ),
+    (
+        &["dwline", "dump", "--operations", "--json", "a"],
+        ErrorKind::ArgumentConflict,
+    ),
+    (
+        &["dwline", "dump", "--paths", "--json", "a"],
+        ErrorKind::ArgumentConflict,
+    ),
+    (
+        &["dwline", "dump", "--json", "--unit", "0", "a"],
+        ErrorKind::ArgumentConflict,
+    ),
+    (
+        &["dwline", "dump", "--json", "--range", "1-2", "a"],
+        ErrorKind::ArgumentConflict,
+    ),
+    (
+        &["dwline", "dump", "--unit", "0", "--range", "1-2", "a"],
+        ErrorKind::ArgumentConflict,
+    ),
+    (
+        &["dwline", "dump", "--keep-going", "--unit", "0", "a"],
+        ErrorKind::ArgumentConflict,
+    ),
+    (
+        &["dwline", "dump", "--unit", "0", "--unit", "1", "a"],
+        ErrorKind::ArgumentConflict,
+    ),
+    (&["dwline", "dump", "a", "--range"], ErrorKind::InvalidValue),
+    (
+        &["dwline", "check", "--unit", "0", "a"],
+        ErrorKind::UnknownArgument,
     ),
     (
         &["dwline", "check", "--operations", "a"],

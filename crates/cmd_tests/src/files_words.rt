@@ -150,14 +150,13 @@ const ROWS: &[Row] = &[
 
 fn first_file<'a>(job: &Job<'a>) -> Option<&'a str> {
     match job {
-        Job::Dump { file, .. }
-        | Job::Check { file, .. }
-        | Job::Find { file, .. }
-        | Job::Copy { file, .. } => *file,
+        Job::Dump(words) => words.file,
+        Job::Check { file, .. } | Job::Find { file, .. } | Job::Copy { file, .. } => *file,
         Job::Addr(words) => words.file,
         Job::Index(words) => words.file,
         Job::Sources(words) => words.file,
         Job::Lines(words) => words.file,
+        Job::Lint(words) => words.file,
     }
 }
 

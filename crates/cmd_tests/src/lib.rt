@@ -18,6 +18,10 @@ mod lines;
 #[cfg(test)]
 mod lines_words;
 #[cfg(test)]
+mod lint_words;
+#[cfg(test)]
+mod ranges;
+#[cfg(test)]
 mod refusal;
 #[cfg(test)]
 mod sources_words;

@@ -20,6 +20,7 @@ ghost use Rattle.dl_buffers.specs.UnitCalls.{Describes, Lists, length_told, writ
 ghost use Rattle.dl_memory.specs.Refusals.{SystemRefuses};
 ghost use Rattle.dl_memory.specs.declared.system.System.{System};
 ghost use Rattle.dl_source_buffers.specs.LineCalls.{FindsLines};
+ghost use Rattle.dl_source_buffers.specs.SourceCalls.{FindsFiles, rooms};
 ghost use Rattle.dl_index_buffers.specs.IndexFaultCalls as index_faults;
 ghost use Rattle.dl_index_buffers.specs.IndexFindCalls.{FindsMany, FindsOne};
 ghost use Rattle.dl_index_buffers.specs.IndexPathCalls.{path_told};
@@ -30,7 +31,7 @@ use dl_buffers::{Counts, FaultRecord, Place, RowRecord, UnitRecord};
 use dl_building::CodeRange;
 use dl_index_buffers::{IndexFaultRecord, IndexRecord, Layout, LocationRecord};
 use dl_memory::System;
-use dl_source_buffers::PlaceRecord;
+use dl_source_buffers::{PlaceRecord, SourceRecord};
 use std::alloc::Global;
 
 /// As `dl_buffers::check`.
@@ -233,6 +234,40 @@ pub extern "C" fn boxantrel_lines(
         exact,
         places,
         count,
+        fault,
+    )
+    .code()
+}
+
+/// As `dl_source_buffers::sources`.
+#[unsafe(no_mangle)]
+pub extern "C" fn boxantrel_sources(
+    alloc: Global,
+    section: &[u8],
+    how: u8,
+    line_str: &[u8],
+    str: &[u8],
+    sources: &mut [SourceRecord],
+    count: &mut usize,
+    paths: &mut [u8],
+    paths_len: &mut usize,
+    fault: &mut FaultRecord,
+) -> u32
+    ensures { (status : Status) × (result ≡ status_code status)
+        × FindsFiles SystemRefuses (goes_on how) (dialect_of how) (both_strings line_str.now str.now) section.now
+        (rooms sources.old count.old paths.old paths_len.old) (rooms sources.new count.new paths.new paths_len.new)
+        fault.old fault.new status }
+{
+    dl_source_buffers::sources(
+        &System::new(alloc),
+        section,
+        how,
+        line_str,
+        str,
+        sources,
+        count,
+        paths,
+        paths_len,
         fault,
     )
     .code()

@@ -55,16 +55,22 @@ later first second is = rw is (or-true first)
 
 pub file_excludes_input : FileExcludesInput
 file_excludes_input file big units is = (
-  λ line_str strings keep_going header operations paths comp_dir follow files. later (says_both_follow follow) _ (rw is (or-true _)),
+  λ w follow files. later (says_both_follow follow) _ (rw is (or-true _)),
   λ keep_going follow files. later (says_both_follow follow) _ (rw is (or-true _)),
   λ address op section line_str strings follow files. later (says_both_follow follow) _ (rw is (or-true _)),
   λ to_5 comp_dir follow files. later (says_both_follow follow) _ is,
+  λ w follow files. later (says_both_follow follow) _ (rw is (or-true _)),
   λ w follow files. later (says_both_follow follow) _ (rw is (or-true _)),
 )
 
 pub worked_words : WorkedWords
 unfolding clap_on_literals
 worked_words = (
+  refl,
+  refl,
+  refl,
+  refl,
+  refl,
   refl,
   refl,
   refl,

@@ -145,26 +145,26 @@ no_help s names (word ∷ words) w asked none before =
 abbrev is_job : Text → Bool
 is_job name = is_some (request_of name [])
 
-chosen : {X : Type 0} (a b c d e f g h : Bool) (a' b' c' d' e' f' g' h' a'' b'' c'' d'' e'' f'' g'' h'' : X)
-    → is_some (if a then Some a' else (if b then Some b' else (if c then Some c' else (if d then Some d' else
-    (if e then Some e' else (if f then Some f' else (if g then Some g' else (if h then Some h' else None))))))))
-    ≡ is_some (if a then Some a'' else (if b then Some b'' else (if c then Some c'' else (if d then Some d'' else
-    (if e then Some e'' else (if f then Some f'' else (if g then Some g'' else (if h then Some h'' else None))))))))
-chosen true b c d e f g h a' b' c' d' e' f' g' h' a'' b'' c'' d'' e'' f'' g'' h'' = refl
-chosen false true c d e f g h a' b' c' d' e' f' g' h' a'' b'' c'' d'' e'' f'' g'' h'' = refl
-chosen false false true d e f g h a' b' c' d' e' f' g' h' a'' b'' c'' d'' e'' f'' g'' h'' = refl
-chosen false false false true e f g h a' b' c' d' e' f' g' h' a'' b'' c'' d'' e'' f'' g'' h'' = refl
-chosen false false false false true f g h a' b' c' d' e' f' g' h' a'' b'' c'' d'' e'' f'' g'' h'' = refl
-chosen false false false false false true g h a' b' c' d' e' f' g' h' a'' b'' c'' d'' e'' f'' g'' h'' = refl
-chosen false false false false false false true h a' b' c' d' e' f' g' h' a'' b'' c'' d'' e'' f'' g'' h'' = refl
-chosen false false false false false false false true a' b' c' d' e' f' g' h' a'' b'' c'' d'' e'' f'' g'' h'' = refl
-chosen false false false false false false false false a' b' c' d' e' f' g' h' a'' b'' c'' d'' e'' f'' g'' h'' = refl
+chosen : {X : Type 0} (a b c d e f g h i : Bool) (a' b' c' d' e' f' g' h' i' a'' b'' c'' d'' e'' f'' g'' h'' i'' : X)
+    → is_some (if a then Some a' else (if b then Some b' else (if c then Some c' else (if d then Some d' else (if e then Some e' else (if f then Some f' else (if g then Some g' else (if h then Some h' else (if i then Some i' else None)))))))))
+    ≡ is_some (if a then Some a'' else (if b then Some b'' else (if c then Some c'' else (if d then Some d'' else (if e then Some e'' else (if f then Some f'' else (if g then Some g'' else (if h then Some h'' else (if i then Some i'' else None)))))))))
+chosen true b c d e f g h i a' b' c' d' e' f' g' h' i' a'' b'' c'' d'' e'' f'' g'' h'' i'' = refl
+chosen false true c d e f g h i a' b' c' d' e' f' g' h' i' a'' b'' c'' d'' e'' f'' g'' h'' i'' = refl
+chosen false false true d e f g h i a' b' c' d' e' f' g' h' i' a'' b'' c'' d'' e'' f'' g'' h'' i'' = refl
+chosen false false false true e f g h i a' b' c' d' e' f' g' h' i' a'' b'' c'' d'' e'' f'' g'' h'' i'' = refl
+chosen false false false false true f g h i a' b' c' d' e' f' g' h' i' a'' b'' c'' d'' e'' f'' g'' h'' i'' = refl
+chosen false false false false false true g h i a' b' c' d' e' f' g' h' i' a'' b'' c'' d'' e'' f'' g'' h'' i'' = refl
+chosen false false false false false false true h i a' b' c' d' e' f' g' h' i' a'' b'' c'' d'' e'' f'' g'' h'' i'' = refl
+chosen false false false false false false false true i a' b' c' d' e' f' g' h' i' a'' b'' c'' d'' e'' f'' g'' h'' i'' = refl
+chosen false false false false false false false false true a' b' c' d' e' f' g' h' i' a'' b'' c'' d'' e'' f'' g'' h'' i'' = refl
+chosen false false false false false false false false false a' b' c' d' e' f' g' h' i' a'' b'' c'' d'' e'' f'' g'' h'' i'' = refl
 
 any_rows : (name : Text) (rows : List Row) → is_some (request_of name rows) ≡ is_job name
 any_rows name rows =
     chosen {X = Request} (bytes_eq name (codes "addr")) (bytes_eq name (codes "index")) (bytes_eq name (codes "dump"))
     (bytes_eq name (codes "check")) (bytes_eq name (codes "find")) (bytes_eq name (codes "copy"))
-    (bytes_eq name (codes "sources")) (bytes_eq name (codes "lines")) _ _ _ _ _ _ _ _ _ _ _ _ _ _ _ _
+    (bytes_eq name (codes "sources")) (bytes_eq name (codes "lines")) (bytes_eq name (codes "lint"))
+    _ _ _ _ _ _ _ _ _ _ _ _ _ _ _ _ _ _
 
 -- each of these subcommands asks for a job or is `help`
 abbrev is_known : Shape → Bool

@@ -1,12 +1,14 @@
 -- What the words ask for, as a job.
 use Rattle.std.specs.Prelude.{ℕ, Bool, List, Option, Some, map, option_map}
 use Rattle.dl_cmd.specs.declared.job.Job.{Job}
-use Rattle.dl_cmd.specs.declared.job.Job.TheVariants.{Addr, Dump, Check, Find, Copy, Index, Lines, Sources}
+use Rattle.dl_cmd.specs.declared.job.Job.TheVariants.{Addr, Dump, Check, Find, Copy, Index, Lines, Lint, Sources}
 use Rattle.dl_cmd.specs.declared.job.AddrWords.{AddrWords}
+use Rattle.dl_cmd.specs.declared.job.DumpWords.{DumpWords}
 use Rattle.dl_cmd.specs.declared.job.FilesWords.{FilesWords}
 use Rattle.dl_cmd.specs.declared.job.FollowWords.{FollowWords}
 use Rattle.dl_cmd.specs.declared.job.IndexWords.{IndexWords}
 use Rattle.dl_cmd.specs.declared.job.LinesWords.{LinesWords}
+use Rattle.dl_cmd.specs.declared.job.LintWords.{LintWords}
 use Rattle.dl_cmd.specs.declared.job.SourcesWords.{SourcesWords}
 use Rattle.dl_cmd.specs.declared.job.UnitWords.{UnitWords}
 use Rattle.dl_cmd.specs.declared.job.Words.{Words}
@@ -20,6 +22,34 @@ pub record UnitTexts : Type 0 where
   pub older : Option Text
   pub address_size : Option Text
   pub version_5 : Bool
+
+-- the words of `dump`, by their texts
+pub record DumpTexts : Type 0 where
+  pub file : Option Text
+  pub big : Bool
+  pub units : UnitTexts
+  pub line_str : Option Text
+  pub strings : Option Text
+  pub keep_going : Bool
+  pub header : Bool
+  pub operations : Bool
+  pub paths : Bool
+  pub comp_dir : Option Text
+  pub json : Bool
+  pub unit : Option Text
+  pub range : Option Text
+
+-- the words of `lint`, by their texts
+pub record LintTexts : Type 0 where
+  pub file : Option Text
+  pub rules : List Text
+  pub no_rules : List Text
+  pub json : Bool
+  pub keep_going : Bool
+  pub big : Bool
+  pub units : UnitTexts
+  pub line_str : Option Text
+  pub strings : Option Text
 
 -- the words of `addr`, by their texts
 pub record AddrTexts : Type 0 where
@@ -94,8 +124,7 @@ pub record FilesTexts : Type 0 where
 
 -- a job, by the texts of its words
 pub data Request : Type 0 where
-  dump : (file : Option Text) (big : Bool) (units : UnitTexts) (line_str strings : Option Text)
-      (keep_going header operations paths : Bool) (comp_dir : Option Text) → Request
+  dump : DumpTexts → Request
   check : (file : Option Text) (big : Bool) (units : UnitTexts) (keep_going : Bool) → Request
   find : (file : Option Text) (big : Bool) (units : UnitTexts) (address : Option Text) (op : ℕ)
       (section line_str strings : Option Text) → Request
@@ -104,6 +133,7 @@ pub data Request : Type 0 where
   index : IndexTexts → Request
   sources : SourcesTexts → Request
   lines : LinesTexts → Request
+  lint : LintTexts → Request
 
 -- all that words say, by their texts
 pub record WordTexts : Type 0 where
@@ -113,8 +143,7 @@ pub record WordTexts : Type 0 where
 
 -- the same job over the file at this path
 abbrev pub with_file : Request → (path : Text) → Request
-with_file (dump file big units line_str strings keep_going header operations paths comp_dir) path =
-    dump (Some path) big units line_str strings keep_going header operations paths comp_dir
+with_file (dump w) path = dump (record w { file = Some path })
 with_file (check file big units keep_going) path = check (Some path) big units keep_going
 with_file (find file big units address op section line_str strings) path =
     find (Some path) big units address op section line_str strings
@@ -123,12 +152,43 @@ with_file (addr w) path = addr (record w { file = Some path })
 with_file (index w) path = index (record w { file = Some path })
 with_file (sources w) path = sources (record w { file = Some path })
 with_file (lines w) path = lines (record w { file = Some path })
+with_file (lint w) path = lint (record w { file = Some path })
 
 abbrev pub unit_words_made : UnitWords → UnitTexts
 unit_words_made w = record {
   older = option_map (λ s. s.now) w.older;
   address_size = option_map (λ s. s.now) w.address_size;
   version_5 = w.version_5;
+}
+
+abbrev pub dump_words_made : DumpWords → DumpTexts
+dump_words_made w = record {
+  file = option_map (λ s. s.now) w.file;
+  big = w.big;
+  units = unit_words_made w.units;
+  line_str = option_map (λ s. s.now) w.line_str;
+  strings = option_map (λ s. s.now) w.strings;
+  keep_going = w.keep_going;
+  header = w.header;
+  operations = w.operations;
+  paths = w.paths;
+  comp_dir = option_map (λ s. s.now) w.comp_dir;
+  json = w.json;
+  unit = option_map (λ s. s.now) w.unit;
+  range = option_map (λ s. s.now) w.range;
+}
+
+abbrev pub lint_words_made : LintWords → LintTexts
+lint_words_made w = record {
+  file = option_map (λ s. s.now) w.file;
+  rules = map (λ s. s.now) w.rules.items;
+  no_rules = map (λ s. s.now) w.no_rules.items;
+  json = w.json;
+  keep_going = w.keep_going;
+  big = w.big;
+  units = unit_words_made w.units;
+  line_str = option_map (λ s. s.now) w.line_str;
+  strings = option_map (λ s. s.now) w.strings;
 }
 
 abbrev pub addr_words_made : AddrWords → AddrTexts
@@ -194,9 +254,7 @@ lines_words_made w = record {
 }
 
 abbrev pub request_made : Job → Request
-request_made (Dump file big units line_str strings keep_going header operations paths comp_dir) =
-    dump (option_map (λ s. s.now) file) big (unit_words_made units) (option_map (λ s. s.now) line_str)
-    (option_map (λ s. s.now) strings) keep_going header operations paths (option_map (λ s. s.now) comp_dir)
+request_made (Dump w) = dump (dump_words_made w)
 request_made (Check file big units keep_going) =
     check (option_map (λ s. s.now) file) big (unit_words_made units) keep_going
 request_made (Find file big units address op section line_str strings) =
@@ -208,6 +266,7 @@ request_made (Addr w) = addr (addr_words_made w)
 request_made (Index w) = index (index_words_made w)
 request_made (Sources w) = sources (sources_words_made w)
 request_made (Lines w) = lines (lines_words_made w)
+request_made (Lint w) = lint (lint_words_made w)
 
 abbrev pub follow_words_made : FollowWords → FollowTexts
 follow_words_made w = record {

@@ -4,8 +4,8 @@ use Rattle.clap.specs.Words.{fault_of, subcommand_of}
 use Rattle.clap.specs.declared.error.kind.ErrorKind.TheVariants.{ArgumentConflict, DisplayHelp, MissingRequiredArgument}
 use Rattle.clap.specs.declared.error.kind.ErrorKind.TheVariants.{MissingSubcommand, UnknownArgument}
 use Rattle.dl_options.specs.CommandLine.{command_line}
-use Rattle.dl_cmd.specs.Job.{FilesTexts, FollowTexts, Request, SourcesTexts, Text, UnitTexts, WordTexts, check, copy, dump}
-use Rattle.dl_cmd.specs.Job.{find, sources}
+use Rattle.dl_cmd.specs.Job.{DumpTexts, FilesTexts, FollowTexts, LintTexts, Request, SourcesTexts, Text, UnitTexts, WordTexts, check, copy, dump}
+use Rattle.dl_cmd.specs.Job.{find, lint, sources}
 use Rattle.dl_cmd.specs.Refusals.{has_conflict, lacks_word, says_of_input, word_faults}
 use Rattle.dl_cmd.specs.Words.{requested, said}
 
@@ -41,13 +41,13 @@ IsRefused r = (follow : FollowTexts) (files : FilesTexts)
 -- FILE may not stand beside `--big` or `--older`
 abbrev pub FileExcludesInput : Type 0
 FileExcludesInput = (file : Text) (big : Bool) (units : UnitTexts) → says_of_input big units ≡ true
-    → ((line_str strings : Option Text) (keep_going header operations paths : Bool) (comp_dir : Option Text)
-    → IsRefused (dump (Some file) big units line_str strings keep_going header operations paths comp_dir))
+    → ((w : DumpTexts) → IsRefused (dump (record w { file = Some file; big = big; units = units })))
     × ((keep_going : Bool) → IsRefused (check (Some file) big units keep_going))
     × ((address : Option Text) (op : ℕ) (section line_str strings : Option Text)
     → IsRefused (find (Some file) big units address op section line_str strings))
     × ((to_5 : Bool) (comp_dir : Option Text) → IsRefused (copy (Some file) big units to_5 comp_dir))
     × ((w : SourcesTexts) → IsRefused (sources (record w { file = Some file; big = big; units = units })))
+    × ((w : LintTexts) → IsRefused (lint (record w { file = Some file; big = big; units = units })))
 
 -- the words of a command line, the program's name first
 abbrev pub words_of : List Text → List Text
@@ -81,3 +81,8 @@ WorkedWords =
     × (word_faults (words_of (codes "lines" ∷ codes "a" ∷ [])) ≡ MissingRequiredArgument ∷ [])
     × (word_faults (words_of (codes "lines" ∷ codes "--address-size" ∷ codes "4" ∷ codes "--version-5" ∷ codes "a" ∷ []))
     ≡ ArgumentConflict ∷ [])
+    × (word_faults (words_of (codes "lint" ∷ codes "--rule" ∷ codes "a" ∷ codes "--rule" ∷ codes "b" ∷ codes "c" ∷ [])) ≡ [])
+    × (word_faults (words_of (codes "lint" ∷ codes "--str" ∷ codes "s" ∷ codes "a" ∷ [])) ≡ ArgumentConflict ∷ [])
+    × (word_faults (words_of (codes "dump" ∷ codes "--unit" ∷ codes "0" ∷ codes "--keep-going" ∷ [])) ≡ ArgumentConflict ∷ [])
+    × (word_faults (words_of (codes "dump" ∷ codes "--json" ∷ codes "--header" ∷ [])) ≡ ArgumentConflict ∷ [])
+    × (word_faults (words_of (codes "dump" ∷ codes "--range" ∷ codes "1-2" ∷ codes "--operations" ∷ [])) ≡ [])

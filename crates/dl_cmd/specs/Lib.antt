@@ -5,3 +5,4 @@ pub mod Refusals
 pub mod Laws
 pub mod Address
 pub mod AddressText
+pub mod Range

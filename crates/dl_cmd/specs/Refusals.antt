@@ -5,8 +5,8 @@ use Rattle.clap.specs.Words.{fault_of, subcommand_of}
 use Rattle.clap.specs.Kinds.{Kinds, or_else}
 use Rattle.clap.specs.declared.error.kind.ErrorKind.TheVariants.{ArgumentConflict, MissingRequiredArgument}
 use Rattle.dl_options.specs.CommandLine.{command_line}
-use Rattle.dl_cmd.specs.Job.{FilesTexts, FollowTexts, IndexTexts, Request, Text, UnitTexts, WordTexts, addr, check, copy, dump}
-use Rattle.dl_cmd.specs.Job.{find, index, lines, sources}
+use Rattle.dl_cmd.specs.Job.{DumpTexts, FilesTexts, FollowTexts, IndexTexts, Request, Text, UnitTexts, WordTexts, addr, check}
+use Rattle.dl_cmd.specs.Job.{copy, dump, find, index, lines, lint, sources}
 use Rattle.dl_cmd.specs.Words.{said}
 
 -- `--version-5` beside `--address-size`, which is said of units of other versions
@@ -44,24 +44,44 @@ says_of_made w follow =
     is_some w.output || (w.all || (w.keep_going || (is_some w.section || (says_of_file w.units
     || (is_some w.comp_dir || says_follow follow)))))
 
+-- FILE stands beside what is said of a section on standard input, or of its string sections
+abbrev pub says_file_and_input : (file : Option Text) (big : Bool) → UnitTexts → (line_str strings : Option Text) → Bool
+says_file_and_input file big units line_str strings =
+    is_some file && (says_of_input big units || says_strings line_str strings)
+
+-- `--json` beside what objects tell without it, or beside words of a part
+abbrev pub says_two_forms : DumpTexts → Bool
+says_two_forms w = w.json && (w.header || (w.operations || (w.paths || (is_some w.unit || is_some w.range))))
+
+-- `--unit` beside `--range`, or beside `--keep-going`, which it does by itself
+abbrev pub says_two_parts : DumpTexts → Bool
+says_two_parts w = is_some w.unit && (is_some w.range || w.keep_going)
+
+-- words of `dump` stand together that may not
+abbrev pub dump_conflicts : DumpTexts → Bool
+dump_conflicts w =
+    says_two_versions w.units || (says_file_and_input w.file w.big w.units w.line_str w.strings
+    || (says_two_forms w || says_two_parts w))
+
 -- `check` has a FILE, or a list of them
 abbrev pub has_files : (file : Option Text) → FilesTexts → Bool
 has_files file files = is_some file || is_some files.files_from
 
 -- words of a job stand together that may not
 abbrev pub job_conflicts : Request → FollowTexts → FilesTexts → Bool
-job_conflicts (dump file big units line_str strings keep_going header operations paths comp_dir) follow files =
-    says_two_versions units || (is_some file && (says_of_input big units || says_strings line_str strings))
+job_conflicts (dump w) follow files = dump_conflicts w
 job_conflicts (check file big units keep_going) follow files =
     says_two_versions units || (has_files file files && says_of_input big units)
 job_conflicts (find file big units address op section line_str strings) follow files =
-    says_two_versions units || (is_some file && (says_of_input big units || says_strings line_str strings))
+    says_two_versions units || says_file_and_input file big units line_str strings
 job_conflicts (copy file big units to_5 comp_dir) follow files = is_some file && says_of_input big units
 job_conflicts (addr w) follow files = says_two_versions w.units || (w.json && w.with_addresses)
 job_conflicts (index w) follow files = says_two_versions w.units || (w.list && says_of_made w follow)
 job_conflicts (sources w) follow files =
-    says_two_versions w.units || (is_some w.file && (says_of_input w.big w.units || says_strings w.line_str w.strings))
+    says_two_versions w.units || says_file_and_input w.file w.big w.units w.line_str w.strings
 job_conflicts (lines w) follow files = says_two_versions w.units
+job_conflicts (lint w) follow files =
+    says_two_versions w.units || says_file_and_input w.file w.big w.units w.line_str w.strings
 
 -- words stand together that may not
 abbrev pub has_conflict : WordTexts → Bool
@@ -70,8 +90,8 @@ has_conflict w = says_both_follow w.follow || job_conflicts w.request w.follow w
 -- a word of a job isn't there that has to be beside others: FILE, PATH:LINE, `--paths`, `--files-from`, `--to-5` or
 -- `--output`
 abbrev pub job_lacks : Request → FollowTexts → FilesTexts → Bool
-job_lacks (dump file big units line_str strings keep_going header operations paths comp_dir) follow files =
-    (not (is_some file) && (says_of_file units || says_follow follow)) || (not paths && is_some comp_dir)
+job_lacks (dump w) follow files =
+    (not (is_some w.file) && (says_of_file w.units || says_follow follow)) || (not w.paths && is_some w.comp_dir)
 job_lacks (check file big units keep_going) follow files =
     (not (has_files file files) && (says_of_file units || says_follow follow))
     || (files.null && not (is_some files.files_from))
@@ -84,6 +104,7 @@ job_lacks (addr w) follow files = not (is_some w.file)
 job_lacks (index w) follow files = not w.list && not (is_some w.output)
 job_lacks (sources w) follow files = not (is_some w.file) && (says_of_file w.units || (says_follow follow || w.all))
 job_lacks (lines w) follow files = not (is_some w.file) || not (is_there w.wanted)
+job_lacks (lint w) follow files = not (is_some w.file) && (says_of_file w.units || says_follow follow)
 
 abbrev pub lacks_word : WordTexts → Bool
 lacks_word w = job_lacks w.request w.follow w.files

@@ -7,8 +7,8 @@ use Rattle.clap.specs.Words.{Row, all_of, first_of, one_of}
 use Rattle.clap.specs.Walk.{byte_or_zero}
 use Rattle.clap.specs.declared.error.kind.ErrorKind.{ErrorKind}
 use Rattle.clap.specs.declared.error.kind.ErrorKind.TheVariants.{DisplayHelp, DisplayVersion, OutOfMemory}
-use Rattle.dl_cmd.specs.Job.{AddrTexts, FilesTexts, FollowTexts, IndexTexts, LinesTexts, Request, SourcesTexts, Text, UnitTexts}
-use Rattle.dl_cmd.specs.Job.{WordTexts, addr, check, copy, dump, find, index, lines, sources}
+use Rattle.dl_cmd.specs.Job.{AddrTexts, DumpTexts, FilesTexts, FollowTexts, IndexTexts, LinesTexts, LintTexts, Request, SourcesTexts, Text}
+use Rattle.dl_cmd.specs.Job.{UnitTexts, WordTexts, addr, check, copy, dump, find, index, lines, lint, sources}
 
 -- the value of an argument that is a text, texts, a byte or a flag, in the matches of a subcommand
 abbrev pub text_of : Text → List Row → Option Text
@@ -100,12 +100,35 @@ lines_words_of rows = record {
   strings = text_of (codes "str") rows;
 }
 
-abbrev pub dump_of : List Row → Request
-dump_of rows =
-    dump (text_of (codes "file") rows) (flag_of (codes "big") rows) (unit_words_of rows)
-    (text_of (codes "line-str") rows) (text_of (codes "str") rows) (flag_of (codes "keep-going") rows)
-    (flag_of (codes "header") rows) (flag_of (codes "operations") rows) (flag_of (codes "paths") rows)
-    (text_of (codes "comp-dir") rows)
+abbrev pub dump_words_of : List Row → DumpTexts
+dump_words_of rows = record {
+  file = text_of (codes "file") rows;
+  big = flag_of (codes "big") rows;
+  units = unit_words_of rows;
+  line_str = text_of (codes "line-str") rows;
+  strings = text_of (codes "str") rows;
+  keep_going = flag_of (codes "keep-going") rows;
+  header = flag_of (codes "header") rows;
+  operations = flag_of (codes "operations") rows;
+  paths = flag_of (codes "paths") rows;
+  comp_dir = text_of (codes "comp-dir") rows;
+  json = flag_of (codes "json") rows;
+  unit = text_of (codes "unit") rows;
+  range = text_of (codes "range") rows;
+}
+
+abbrev pub lint_words_of : List Row → LintTexts
+lint_words_of rows = record {
+  file = text_of (codes "file") rows;
+  rules = texts_of (codes "rule") rows;
+  no_rules = texts_of (codes "no-rule") rows;
+  json = flag_of (codes "json") rows;
+  keep_going = flag_of (codes "keep-going") rows;
+  big = flag_of (codes "big") rows;
+  units = unit_words_of rows;
+  line_str = text_of (codes "line-str") rows;
+  strings = text_of (codes "str") rows;
+}
 
 -- what the subcommand of this name asks for, with these matches
 abbrev pub request_of : Text → List Row → Option Request
@@ -115,17 +138,17 @@ request_of name rows =
     let units = unit_words_of rows in
     let line_str = text_of (codes "line-str") rows in
     let strings = text_of (codes "str") rows in
-    let keep_going = flag_of (codes "keep-going") rows in
     if bytes_eq name (codes "addr") then Some (addr (addr_words_of rows)) else
     if bytes_eq name (codes "index") then Some (index (index_words_of rows)) else
-    if bytes_eq name (codes "dump") then Some (dump_of rows) else
-    if bytes_eq name (codes "check") then Some (check file big units keep_going) else
+    if bytes_eq name (codes "dump") then Some (dump (dump_words_of rows)) else
+    if bytes_eq name (codes "check") then Some (check file big units (flag_of (codes "keep-going") rows)) else
     if bytes_eq name (codes "find")
     then Some (find file big units (text_of (codes "address") rows) (byte_of (codes "op") rows)
     (text_of (codes "section") rows) line_str strings) else
     if bytes_eq name (codes "copy") then Some (copy file big units (flag_of (codes "to-5") rows) (text_of (codes "comp-dir") rows)) else
     if bytes_eq name (codes "sources") then Some (sources (sources_words_of rows)) else
-    if bytes_eq name (codes "lines") then Some (lines (lines_words_of rows)) else None
+    if bytes_eq name (codes "lines") then Some (lines (lines_words_of rows)) else
+    if bytes_eq name (codes "lint") then Some (lint (lint_words_of rows)) else None
 
 -- the same of a reading of the words, which may hold no subcommand
 abbrev pub requested : Option (Text × List Row) → Option Request

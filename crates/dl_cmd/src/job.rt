@@ -20,33 +20,15 @@ pub struct UnitWords<'a> {
 /// Where the path of an ELF file is given, its words say neither an order nor the path of a string section.
 #[derive(Debug, Drop, PartialEq, Eq)]
 pub enum Job<'a> {
-    /// Print all units.
-    Dump {
+    /// Print units.
+    Dump(DumpWords<'a>),
+    /// Count units, sequences and rows.
+    Check {
         /// The path of the ELF file; None where the section comes on standard input.
         file: Option<&'a str>,
         /// The section is big-endian.
         big: bool,
         /// Which units of versions 2 to 4 are read.
-        units: UnitWords<'a>,
-        /// The path of the section `.debug_line_str`.
-        line_str: Option<&'a str>,
-        /// The path of the section `.debug_str`.
-        strings: Option<&'a str>,
-        /// After a unit that is damaged the next one is read.
-        keep_going: bool,
-        /// The fields of headers are printed.
-        header: bool,
-        /// Each operation is printed before the row that it makes.
-        operations: bool,
-        /// The path of its file is printed at the end of each row.
-        paths: bool,
-        /// The compilation directory for these.
-        comp_dir: Option<&'a str>,
-    },
-    /// Count units, sequences and rows.
-    Check {
-        file: Option<&'a str>,
-        big: bool,
         units: UnitWords<'a>,
         /// After a unit that is damaged the next one is read.
         keep_going: bool,
@@ -61,7 +43,9 @@ pub enum Job<'a> {
         op: u8,
         /// The name of the section of an object file that is looked into.
         section: Option<&'a str>,
+        /// The path of the section `.debug_line_str`.
         line_str: Option<&'a str>,
+        /// The path of the section `.debug_str`.
         strings: Option<&'a str>,
     },
     /// Write all units anew.
@@ -82,6 +66,8 @@ pub enum Job<'a> {
     Sources(SourcesWords<'a>),
     /// Print the addresses of source lines.
     Lines(LinesWords<'a>),
+    /// Tell what in line tables misleads a debugger.
+    Lint(LintWords<'a>),
 }
 
 impl<'a> Job<'a> {
@@ -91,7 +77,7 @@ impl<'a> Job<'a> {
     {
         let mut job = self;
         match &mut job {
-            Job::Dump { file, .. } => *file = Some(path),
+            Job::Dump(words) => words.file = Some(path),
             Job::Check { file, .. } => *file = Some(path),
             Job::Find { file, .. } => *file = Some(path),
             Job::Copy { file, .. } => *file = Some(path),
@@ -99,6 +85,7 @@ impl<'a> Job<'a> {
             Job::Index(words) => words.file = Some(path),
             Job::Sources(words) => words.file = Some(path),
             Job::Lines(words) => words.file = Some(path),
+            Job::Lint(words) => words.file = Some(path),
         }
         job
     }
@@ -134,6 +121,52 @@ pub struct Words<'a> {
     pub job: Job<'a>,
     pub follow: FollowWords<'a>,
     pub files: FilesWords<'a>,
+}
+
+/// The words of `dump`.
+#[derive(Clone, Copy, Debug, PartialEq, Eq)]
+pub struct DumpWords<'a> {
+    /// The path of the ELF file; None where the section comes on standard input.
+    pub file: Option<&'a str>,
+    pub big: bool,
+    pub units: UnitWords<'a>,
+    pub line_str: Option<&'a str>,
+    pub strings: Option<&'a str>,
+    /// After a unit that is damaged the next one is read.
+    pub keep_going: bool,
+    /// The fields of headers are printed.
+    pub header: bool,
+    /// Each operation is printed before the row that it makes.
+    pub operations: bool,
+    /// The path of its file is printed at the end of each row.
+    pub paths: bool,
+    /// The compilation directory for these.
+    pub comp_dir: Option<&'a str>,
+    /// Each unit and each row is a JSON object.
+    pub json: bool,
+    /// The offset of the unit that is printed alone.
+    pub unit: Option<&'a str>,
+    /// The addresses whose sequences are printed alone, as LOW-HIGH.
+    pub range: Option<&'a str>,
+}
+
+/// The words of `lint`.
+#[derive(Debug, Drop, PartialEq, Eq)]
+pub struct LintWords<'a> {
+    /// The path of the ELF file; None where the section comes on standard input.
+    pub file: Option<&'a str>,
+    /// The names of the rules whose findings are told; where none is said, those of all rules are.
+    pub rules: Vec<&'a str>,
+    /// The names of rules whose findings aren't told.
+    pub no_rules: Vec<&'a str>,
+    /// Each finding is a JSON object.
+    pub json: bool,
+    /// After a unit that is damaged the next one is read.
+    pub keep_going: bool,
+    pub big: bool,
+    pub units: UnitWords<'a>,
+    pub line_str: Option<&'a str>,
+    pub strings: Option<&'a str>,
 }
 
 /// The words of `index`.

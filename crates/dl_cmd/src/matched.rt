@@ -2,12 +2,15 @@
 ghost use Rattle.std.specs.Prelude.{◌≡◌, IfOk, OnErr, codes, drop, map, option_map};
 ghost use Rattle.clap.specs.Words.{found_of, rows_of};
 ghost use Rattle.dl_options.specs.Memory.{LibraryRefused};
-ghost use Rattle.dl_cmd.specs.Job.{addr_words_made, files_words_made, follow_words_made, index_words_made, lines_words_made};
-ghost use Rattle.dl_cmd.specs.Job.{request_made, sources_words_made};
-ghost use Rattle.dl_cmd.specs.Words.{addr_words_of, dump_of, file_and_addresses, files_words_of, follow_said_of};
-ghost use Rattle.dl_cmd.specs.Words.{index_words_of, lines_words_of, request_of, sources_words_of, texts_of};
+ghost use Rattle.dl_cmd.specs.Job.{addr_words_made, dump_words_made, files_words_made, follow_words_made, index_words_made, lines_words_made};
+ghost use Rattle.dl_cmd.specs.Job.{lint_words_made, request_made, sources_words_made};
+ghost use Rattle.dl_cmd.specs.Words.{addr_words_of, dump_words_of, file_and_addresses, files_words_of, follow_said_of};
+ghost use Rattle.dl_cmd.specs.Words.{index_words_of, lines_words_of, lint_words_of, request_of, sources_words_of, texts_of};
 
-use crate::job::{AddrWords, FilesWords, FollowWords, IndexWords, Job, LinesWords, SourcesWords};
+use crate::job::{
+    AddrWords, DumpWords, FilesWords, FollowWords, IndexWords, Job, LinesWords, LintWords,
+    SourcesWords,
+};
 use crate::values::{byte, copied, flag, text, texts, unit_words};
 use clap::ArgMatches;
 use dl_options::refused;
@@ -116,10 +119,10 @@ fn lines_words<'a>(alloc: Global, matches: &ArgMatches<'a>) -> Result<LinesWords
     })
 }
 
-fn dump_job<'a>(matches: &ArgMatches<'a>) -> Job<'a>
-    ensures { request_made result ≡ dump_of (rows_of (found_of matches.now)) }
+fn dump_words<'a>(matches: &ArgMatches<'a>) -> DumpWords<'a>
+    ensures { dump_words_made result ≡ dump_words_of (rows_of (found_of matches.now)) }
 {
-    Job::Dump {
+    DumpWords {
         file: text(matches, "file"),
         big: flag(matches, "big"),
         units: unit_words(matches),
@@ -130,7 +133,27 @@ fn dump_job<'a>(matches: &ArgMatches<'a>) -> Job<'a>
         operations: flag(matches, "operations"),
         paths: flag(matches, "paths"),
         comp_dir: text(matches, "comp-dir"),
+        json: flag(matches, "json"),
+        unit: text(matches, "unit"),
+        range: text(matches, "range"),
     }
+}
+
+fn lint_words<'a>(alloc: Global, matches: &ArgMatches<'a>) -> Result<LintWords<'a>, AllocError>
+    ensures words { IfOk result (λ w. lint_words_made w ≡ lint_words_of (rows_of (found_of matches.now))) }
+    ensures refused { OnErr result LibraryRefused }
+{
+    Ok(LintWords {
+        file: text(matches, "file"),
+        rules: texts(alloc, matches, "rule")?,
+        no_rules: texts(alloc, matches, "no-rule")?,
+        json: flag(matches, "json"),
+        keep_going: flag(matches, "keep-going"),
+        big: flag(matches, "big"),
+        units: unit_words(matches),
+        line_str: text(matches, "line-str"),
+        strings: text(matches, "str"),
+    })
 }
 
 pub fn job_of<'a>(
@@ -145,7 +168,7 @@ pub fn job_of<'a>(
     let job = match name {
         "addr" => Job::Addr(addr_words(alloc, matches)?),
         "index" => Job::Index(index_words(matches)),
-        "dump" => dump_job(matches),
+        "dump" => Job::Dump(dump_words(matches)),
         "check" => Job::Check {
             file: text(matches, "file"),
             big: flag(matches, "big"),
@@ -171,6 +194,7 @@ pub fn job_of<'a>(
         },
         "sources" => Job::Sources(sources_words(matches)),
         "lines" => Job::Lines(lines_words(alloc, matches)?),
+        "lint" => Job::Lint(lint_words(alloc, matches)?),
         _ => return Ok(None),
     };
     Ok(Some(job))

@@ -1,13 +1,15 @@
 //! Which words of a job may not stand together, and which have to be there beside others.
 ghost use Rattle.std.specs.Prelude.{◌≡◌, ◌&&◌, ◌||◌, ◌∷◌, [], is_some, not, option_map};
 ghost use Rattle.std.specs.Option.{option_map_or};
-ghost use Rattle.dl_cmd.specs.Job.{files_words_made, follow_words_made, index_words_made, lines_words_made, request_made};
+ghost use Rattle.dl_cmd.specs.Job.{dump_words_made, files_words_made, follow_words_made, index_words_made, lines_words_made, request_made};
 ghost use Rattle.dl_cmd.specs.Job.{unit_words_made, words_made};
-ghost use Rattle.dl_cmd.specs.Refusals.{has_conflict, has_files, is_there, job_conflicts, job_lacks, lacks_word, refusal_of};
-ghost use Rattle.dl_cmd.specs.Refusals.{says_both_follow, says_follow, says_of_file, says_of_input, says_of_made};
-ghost use Rattle.dl_cmd.specs.Refusals.{says_strings, says_two_versions};
+ghost use Rattle.dl_cmd.specs.Refusals.{dump_conflicts, has_conflict, has_files, is_there, job_conflicts, job_lacks, lacks_word, refusal_of};
+ghost use Rattle.dl_cmd.specs.Refusals.{says_both_follow, says_file_and_input, says_follow, says_of_file, says_of_input, says_of_made};
+ghost use Rattle.dl_cmd.specs.Refusals.{says_strings, says_two_forms, says_two_parts, says_two_versions};
 
-use crate::job::{FilesWords, FollowWords, IndexWords, Job, LinesWords, UnitWords, Words};
+use crate::job::{
+    DumpWords, FilesWords, FollowWords, IndexWords, Job, LinesWords, UnitWords, Words,
+};
 use clap::error::ErrorKind;
 
 /// Why a job isn't done for its words.
@@ -105,8 +107,8 @@ fn beside_file(
     line_str: Option<&str>,
     strings: Option<&str>,
 ) -> Option<&'static str>
-    ensures { is_some result ≡ (is_some file.entry && (says_of_input big (unit_words_made units.now)
-        || says_strings (option_map (λ s. s.now) line_str.entry) (option_map (λ s. s.now) strings.entry))) }
+    ensures { is_some result ≡ says_file_and_input (option_map (λ s. s.now) file.entry) big (unit_words_made units.now)
+        (option_map (λ s. s.now) line_str.entry) (option_map (λ s. s.now) strings.entry) }
 {
     file.and(of_input(big, units).or(of_strings(line_str, strings)))
 }
@@ -173,6 +175,52 @@ fn of_made(words: &IndexWords<'_>, follow: &FollowWords<'_>) -> Option<&'static 
     }
 }
 
+/// What objects tell without it, and words of a part, which may not stand beside `--json`.
+fn two_forms(words: &DumpWords<'_>) -> Option<&'static str>
+    ensures { is_some result ≡ says_two_forms (dump_words_made words.now) }
+{
+    if !words.json {
+        None
+    } else if words.header {
+        Some("the argument '--json' cannot be used with '--header'")
+    } else if words.operations {
+        Some("the argument '--json' cannot be used with '--operations'")
+    } else if words.paths {
+        Some("the argument '--json' cannot be used with '--paths'")
+    } else if words.unit.is_some() {
+        Some("the argument '--json' cannot be used with '--unit <OFFSET>'")
+    } else if words.range.is_some() {
+        Some("the argument '--json' cannot be used with '--range <LOW-HIGH>'")
+    } else {
+        None
+    }
+}
+
+/// What may not stand beside `--unit`.
+fn two_parts(words: &DumpWords<'_>) -> Option<&'static str>
+    ensures { is_some result ≡ says_two_parts (dump_words_made words.now) }
+{
+    if words.unit.is_none() {
+        None
+    } else if words.range.is_some() {
+        Some("the argument '--unit <OFFSET>' cannot be used with '--range <LOW-HIGH>'")
+    } else if words.keep_going {
+        Some("the argument '--unit <OFFSET>' cannot be used with '--keep-going'")
+    } else {
+        None
+    }
+}
+
+/// Two words of `dump` that may not stand together, as the user is told.
+fn dump_conflict(words: &DumpWords<'_>) -> Option<&'static str>
+    ensures { is_some result ≡ dump_conflicts (dump_words_made words.now) }
+{
+    let units = &words.units;
+    two_versions(units)
+        .or(beside_file(words.file, words.big, units, words.line_str, words.strings))
+        .or(two_forms(words).or(two_parts(words)))
+}
+
 /// Two words of a job that may not stand together, as the user is told.
 fn job_conflict(
     job: &Job<'_>,
@@ -183,15 +231,8 @@ fn job_conflict(
         (files_words_made files.now) }
 {
     match job {
-        Job::Dump {
-            file,
-            big,
-            units,
-            line_str,
-            strings,
-            ..
-        }
-        | Job::Find {
+        Job::Dump(words) => dump_conflict(words),
+        Job::Find {
             file,
             big,
             units,
@@ -230,6 +271,13 @@ fn job_conflict(
             words.strings,
         )),
         Job::Lines(words) => two_versions(&words.units),
+        Job::Lint(words) => two_versions(&words.units).or(beside_file(
+            words.file,
+            words.big,
+            &words.units,
+            words.line_str,
+            words.strings,
+        )),
     }
 }
 
@@ -266,15 +314,9 @@ fn job_lack(job: &Job<'_>, follow: &FollowWords<'_>, files: &FilesWords<'_>) -> 
 {
     let follows = says_to_follow(follow);
     match job {
-        Job::Dump {
-            file,
-            units,
-            paths,
-            comp_dir,
-            ..
-        } => {
-            let no_file = file.is_none() && (is_of_file(units) || follows);
-            let no_paths = !*paths && comp_dir.is_some();
+        Job::Dump(words) => {
+            let no_file = words.file.is_none() && (is_of_file(&words.units) || follows);
+            let no_paths = !words.paths && words.comp_dir.is_some();
             no_file.then_some(NO_FILE).or(no_paths.then_some(NO_PATHS))
         }
         Job::Check { file, units, .. } => {
@@ -312,6 +354,10 @@ fn job_lack(job: &Job<'_>, follow: &FollowWords<'_>, files: &FilesWords<'_>) -> 
             (words.file.is_none() && is_said).then_some(NO_FILE)
         }
         Job::Lines(words) => lines_lack(words),
+        Job::Lint(words) => {
+            let is_said = is_of_file(&words.units) || follows;
+            (words.file.is_none() && is_said).then_some(NO_FILE)
+        }
     }
 }
 

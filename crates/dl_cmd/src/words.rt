@@ -88,12 +88,13 @@ fn command_of<'a>(alloc: Global, job: &Job<'_>) -> Result<Command<'a>, AllocErro
     match job {
         Job::Addr(_) => dl_options::addr(alloc),
         Job::Index(_) => dl_options::index(alloc),
-        Job::Dump { .. } => dl_options::dump(alloc),
+        Job::Dump(_) => dl_options::dump(alloc),
         Job::Check { .. } => dl_options::check(alloc),
         Job::Find { .. } => dl_options::find(alloc),
         Job::Copy { .. } => dl_options::copy(alloc),
         Job::Sources(_) => dl_options::sources(alloc),
         Job::Lines(_) => dl_options::lines(alloc),
+        Job::Lint(_) => dl_options::lint(alloc),
     }
 }
 

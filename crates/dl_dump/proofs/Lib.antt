@@ -3,3 +3,8 @@ pub mod UnitLemmas
 pub mod CommandLemmas
 pub mod UnitCommandLemmas
 pub mod PlainLemmas
+pub mod RangeLemmas
+pub mod RangeItemLemmas
+pub mod RangeRowLemmas
+pub mod RangeCommandLemmas
+pub mod RangeLawLemmas

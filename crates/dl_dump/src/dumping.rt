@@ -54,7 +54,7 @@ fn print_line_end<W: Destination>(
 }
 
 /// Prints the lines of a header whose unit begins at `offset` of its section, with its fields where they are shown.
-fn print_header<W: Destination>(
+pub fn print_header<W: Destination>(
     printer: &mut Printer,
     output: &mut W,
     strings: &StringSections<'_>,
@@ -106,7 +106,7 @@ fn print_row_path<W: Destination>(
 
 /// Prints the line of a row, with its path where paths are shown.
 #[inline]
-fn print_row<W: Destination>(
+pub fn print_row<W: Destination>(
     printer: &mut Printer,
     output: &mut W,
     strings: &StringSections<'_>,

@@ -6,7 +6,10 @@ use Rattle.dl_findings.specs.declared.finding.Found.TheVariants as found
 use Rattle.dl_findings.specs.declared.finding.Opcode.{Opcode}
 use Rattle.dl_findings.specs.declared.finding.Opcode.TheVariants as opcode
 use Rattle.dl_findings.specs.declared.finding.RowSeen.{RowSeen}
-use Rattle.dl_findings.specs.FindingText.{address_text, finding_line, rule_of}
+use Rattle.dl_findings.specs.declared.finding.TableEntry.{TableEntry}
+use Rattle.dl_findings.specs.declared.finding.TableEntry.TheVariants as entry
+use Rattle.dl_findings.specs.declared.finding.TextSection.{TextSection}
+use Rattle.dl_findings.specs.FindingText.{address_text, finding_line, rule_of, section_name, two_numbers}
 use Rattle.dl_findings.specs.RuleNames.{rule_name}
 
 -- where it is, and the rule
@@ -47,6 +50,15 @@ abbrev pub opcode_members : Opcode → List ℕ
 opcode_members (opcode.Standard b) = codes ",\"standard_opcode\":" ++ decimal b
 opcode_members (opcode.Extended b) = codes ",\"extended_opcode\":" ++ decimal b
 
+abbrev pub entry_members : TableEntry → List ℕ
+entry_members (entry.Directory n) = codes ",\"directory\":" ++ decimal n
+entry_members (entry.File n) = codes ",\"file\":" ++ decimal n
+
+unfoldable pub missing_members : TableEntry → TextSection → (offset : ℕ) → List ℕ
+missing_members e section offset =
+    entry_members e
+    ++ (codes ",\"section\":\"" ++ (section_name section ++ (codes "\",\"at\":" ++ decimal offset)))
+
 abbrev pub found_members : Found → List ℕ
 found_members (found.FileIndex file files first) = file_members file files first
 found_members (found.DirectoryIndex file directory directories first) = directory_members file directory directories first
@@ -54,6 +66,10 @@ found_members (found.FallingPlace before) =
     both_members (codes ",\"before\":\"") before.address (codes ",\"before_op_index\":") before.op_index
 found_members found.NoEnd = []
 found_members found.EmptySequence = []
+found_members (found.MissingText e section offset) = missing_members e section offset
+found_members (found.DuplicateFile file same_as) =
+    two_numbers (codes ",\"file\":") file (codes ",\"same_as\":") same_as
+found_members (found.UnusedFile files first) = two_numbers (codes ",\"unused\":") files (codes ",\"first\":") first
 found_members (found.LongNumber bytes) = codes ",\"bytes\":" ++ decimal bytes
 found_members (found.Padding bytes) = codes ",\"bytes\":" ++ decimal bytes
 found_members (found.WrappedAddress from size) = both_members (codes ",\"from\":\"") from (codes ",\"size\":") size

@@ -9,6 +9,10 @@ use Rattle.dl_findings.specs.declared.finding.Found.TheVariants as found
 use Rattle.dl_findings.specs.declared.finding.Opcode.{Opcode}
 use Rattle.dl_findings.specs.declared.finding.Opcode.TheVariants as opcode
 use Rattle.dl_findings.specs.declared.finding.RowSeen.{RowSeen}
+use Rattle.dl_findings.specs.declared.finding.TableEntry.{TableEntry}
+use Rattle.dl_findings.specs.declared.finding.TableEntry.TheVariants as entry
+use Rattle.dl_findings.specs.declared.finding.TextSection.{TextSection}
+use Rattle.dl_findings.specs.declared.finding.TextSection.TheVariants as texts
 use Rattle.dl_findings.specs.declared.rule.Rule.{Rule}
 use Rattle.dl_findings.specs.declared.rule.Rule.TheVariants as rule
 use Rattle.dl_findings.specs.RuleNames.{rule_name}
@@ -20,6 +24,9 @@ rule_of (found.DirectoryIndex file directory directories first) = rule.Directory
 rule_of (found.FallingPlace before) = rule.FallingPlace
 rule_of found.NoEnd = rule.NoEnd
 rule_of found.EmptySequence = rule.EmptySequence
+rule_of (found.MissingText e section offset) = rule.MissingText
+rule_of (found.DuplicateFile file same_as) = rule.DuplicateFile
+rule_of (found.UnusedFile files first) = rule.UnusedFile
 rule_of (found.LongNumber bytes) = rule.LongNumber
 rule_of (found.Padding bytes) = rule.Padding
 rule_of (found.WrappedAddress from size) = rule.WrappedAddress
@@ -55,6 +62,24 @@ unfoldable pub directory_index_text : (file directory directories first : ℕ) �
 directory_index_text file directory directories first =
     (codes "file " ++ decimal file) ++ ((codes " names directory " ++ decimal directory) ++ numbered_text directories first)
 
+-- two numbers, each after a name
+unfoldable pub two_numbers : (name : List ℕ) → (number : ℕ) → (other : List ℕ) → (second : ℕ) → List ℕ
+two_numbers name number other second = (name ++ decimal number) ++ (other ++ decimal second)
+
+unfoldable pub section_name : TextSection → List ℕ
+section_name texts.DebugLineStr = codes ".debug_line_str"
+section_name texts.DebugStr = codes ".debug_str"
+
+abbrev pub entry_text : TableEntry → List ℕ
+entry_text (entry.Directory n) = codes "directory " ++ decimal n
+entry_text (entry.File n) = codes "file " ++ decimal n
+
+unfoldable pub missing_text : TableEntry → TextSection → (offset : ℕ) → List ℕ
+missing_text e section offset =
+    entry_text e
+    ++ (codes " has a text at " ++ ((codes "0x" ++ hexadecimal offset)
+    ++ (codes " of " ++ (section_name section ++ codes ", which has none there"))))
+
 unfoldable pub long_text : (bytes : ℕ) → List ℕ
 long_text bytes = codes "a number in LEB128 has " ++ (decimal bytes ++ codes " bytes")
 
@@ -86,6 +111,11 @@ found_text (found.DirectoryIndex file directory directories first) =
 found_text (found.FallingPlace before) = codes "is below the row before it at " ++ place_text before
 found_text found.NoEnd = codes "is the last of its unit and no end row"
 found_text found.EmptySequence = codes "ends a sequence that covers no address"
+found_text (found.MissingText e section offset) = missing_text e section offset
+found_text (found.DuplicateFile file same_as) =
+    two_numbers (codes "file ") file (codes " has all values of file ") same_as
+found_text (found.UnusedFile files first) =
+    two_numbers (codes "no row names ") files (codes " of the files, the first is file ") first
 found_text (found.LongNumber bytes) = long_text bytes
 found_text (found.Padding bytes) = padding_text bytes
 found_text (found.WrappedAddress from size) = wrapped_text from size

@@ -12,6 +12,9 @@ rule_name rule.DirectoryIndex = codes "directory-index"
 rule_name rule.FallingPlace = codes "falling-place"
 rule_name rule.NoEnd = codes "no-end"
 rule_name rule.EmptySequence = codes "empty-sequence"
+rule_name rule.MissingText = codes "missing-text"
+rule_name rule.DuplicateFile = codes "duplicate-file"
+rule_name rule.UnusedFile = codes "unused-file"
 rule_name rule.LongNumber = codes "long-number"
 rule_name rule.Padding = codes "padding"
 rule_name rule.WrappedAddress = codes "wrapped-address"
@@ -23,8 +26,9 @@ rule_name rule.UnknownOpcode = codes "unknown-opcode"
 -- in the order in which the findings of one place are told
 abbrev pub all_rules : List Rule
 all_rules =
-    rule.FileIndex ∷ rule.DirectoryIndex ∷ rule.FallingPlace ∷ rule.NoEnd ∷ rule.EmptySequence ∷ rule.LongNumber ∷ rule.Padding
-    ∷ rule.WrappedAddress ∷ rule.LineWrapped ∷ rule.NoStatement ∷ rule.SplitInstruction ∷ rule.UnknownOpcode ∷ []
+    rule.FileIndex ∷ rule.DirectoryIndex ∷ rule.FallingPlace ∷ rule.NoEnd ∷ rule.EmptySequence ∷ rule.MissingText
+    ∷ rule.DuplicateFile ∷ rule.UnusedFile ∷ rule.LongNumber ∷ rule.Padding ∷ rule.WrappedAddress ∷ rule.LineWrapped
+    ∷ rule.NoStatement ∷ rule.SplitInstruction ∷ rule.UnknownOpcode ∷ []
 
 -- the place of a rule among them, from 0 on
 abbrev pub rule_place : Rule → ℕ
@@ -33,13 +37,16 @@ rule_place rule.DirectoryIndex = 1
 rule_place rule.FallingPlace = 2
 rule_place rule.NoEnd = 3
 rule_place rule.EmptySequence = 4
-rule_place rule.LongNumber = 5
-rule_place rule.Padding = 6
-rule_place rule.WrappedAddress = 7
-rule_place rule.LineWrapped = 8
-rule_place rule.NoStatement = 9
-rule_place rule.SplitInstruction = 10
-rule_place rule.UnknownOpcode = 11
+rule_place rule.MissingText = 5
+rule_place rule.DuplicateFile = 6
+rule_place rule.UnusedFile = 7
+rule_place rule.LongNumber = 8
+rule_place rule.Padding = 9
+rule_place rule.WrappedAddress = 10
+rule_place rule.LineWrapped = 11
+rule_place rule.NoStatement = 12
+rule_place rule.SplitInstruction = 13
+rule_place rule.UnknownOpcode = 14
 
 -- the rule of this name
 abbrev pub named : (name : List ℕ) → Option Rule

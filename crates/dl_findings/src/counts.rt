@@ -1,12 +1,12 @@
 //! How many findings there are of each rule.
 
-use crate::rule::Rule;
+use crate::rule::{COUNT, Rule};
 
 /// How many findings there are of each rule.
 #[derive(Clone, Copy)]
 pub struct FindingCounts {
     /// Those of the rule of each place; 2^64 - 1 stands for every number above it too.
-    of: [u64; 12],
+    of: [u64; COUNT],
 }
 
 impl FindingCounts {
@@ -18,7 +18,7 @@ impl FindingCounts {
     pub fn none() -> FindingCounts
         ensures { Counts result [] }
     {
-        FindingCounts { of: [0; 12] }
+        FindingCounts { of: [0; COUNT] }
     }
 
     /// One finding more.

@@ -16,7 +16,8 @@ pub struct RowSeen {
 #[derive(Clone, Copy)]
 pub struct Finding {
     /// The offset in the section: of the first byte of the operation that it is about, which for a row is the one that appends
-    /// it. Of a unit whose end row is missing it is the end of its program, and of a header that of its unit. 2^64 - 1 stands for every offset above it too.
+    /// it. Of a unit whose end row is missing it is the end of its program, and of a header, or of the rows of a unit together,
+    /// that of its unit. 2^64 - 1 stands for every offset above it too.
     pub offset: u64,
     /// The row that it is about, where it is about one.
     pub row: Option<RowSeen>,
@@ -30,6 +31,40 @@ pub enum Opcode {
     Standard(u8),
     /// An extended one, by its number.
     Extended(u8),
+}
+
+/// An entry of a table of a header, by its number. Section 6.2.4.
+#[derive(Clone, Copy, Debug, PartialEq, Eq)]
+pub enum TableEntry {
+    /// One of the table of directories.
+    Directory(u64),
+    /// One of the table of files.
+    File(u64),
+}
+
+/// A section in which texts of tables stand. Section 7.5.5.
+#[derive(Clone, Copy, Debug, PartialEq, Eq)]
+pub enum TextSection {
+    /// `.debug_line_str`, which DW_FORM_line_strp names.
+    DebugLineStr,
+    /// `.debug_str`, which DW_FORM_strp names.
+    DebugStr,
+}
+
+impl TextSection {
+    ghost use Rattle.std.specs.Prelude.{◌≡◌};
+    ghost use Rattle.dl_findings.specs.FindingText.{section_name};
+
+    /// The name of the section.
+    #[tactic(auto, unfolding(crate::specs::FindingText::section_name))]
+    pub fn name(self) -> &'static [u8]
+        ensures { result.now ≡ section_name self }
+    {
+        match self {
+            TextSection::DebugLineStr => b".debug_line_str",
+            TextSection::DebugStr => b".debug_str",
+        }
+    }
 }
 
 /// What is found, with all numbers that tell it beside the row.
@@ -56,6 +91,23 @@ pub enum Found {
     NoEnd,
     /// The row ends a sequence whose first row has its address.
     EmptySequence,
+    /// A value of this entry is a text at this offset of a section, which has none there: the offset lies outside it, or no
+    /// zero byte follows.
+    MissingText {
+        entry: TableEntry,
+        section: TextSection,
+        offset: u64,
+    },
+    /// The file of this number has the values of the file of the number `same_as`, which is the first that has them.
+    DuplicateFile {
+        file: u64,
+        same_as: u64,
+    },
+    /// No row names so many `files` of the unit, more than none, of those but the numbers 0 and 1. The number of the first is `first`.
+    UnusedFile {
+        files: u64,
+        first: u64,
+    },
     /// A number in LEB128 of the operation has so many bytes, more than ten. Section 7.6.
     LongNumber {
         bytes: u64,
@@ -105,6 +157,9 @@ impl Found {
             Found::FallingPlace { .. } => Rule::FallingPlace,
             Found::NoEnd => Rule::NoEnd,
             Found::EmptySequence => Rule::EmptySequence,
+            Found::MissingText { .. } => Rule::MissingText,
+            Found::DuplicateFile { .. } => Rule::DuplicateFile,
+            Found::UnusedFile { .. } => Rule::UnusedFile,
             Found::LongNumber { .. } => Rule::LongNumber,
             Found::Padding { .. } => Rule::Padding,
             Found::WrappedAddress { .. } => Rule::WrappedAddress,

@@ -3,11 +3,12 @@
 ghost use Rattle.std.specs.Prelude.{◌≡◌, ◌++◌, codes, decimal};
 ghost use Rattle.dl_print.specs.Output.{BlamesWriter, Prints};
 ghost use Rattle.dl_findings.specs.FindingJson.{address_member, both_members, counted_members, directory_members, file_members};
-ghost use Rattle.dl_findings.specs.FindingJson.{finding_object, finding_told, found_members, object_start, opcode_members};
+ghost use Rattle.dl_findings.specs.FindingJson.{entry_members, finding_object, finding_told, found_members, missing_members, object_start, opcode_members};
 ghost use Rattle.dl_findings.specs.FindingJson.{row_members, subject_members};
 
-use crate::finding::{Finding, Found, Opcode, RowSeen};
+use crate::finding::{Finding, Found, Opcode, RowSeen, TableEntry, TextSection};
 use crate::finding_text::print_line;
+use crate::parts::{print_number, print_numbers, print_section};
 use dl_look::Place;
 use dl_output::Destination;
 use dl_print::{Printer, WriteFault};
@@ -130,6 +131,27 @@ fn print_found<W: Destination>(
         ),
         Found::NoEnd => printer.put(output, b""),
         Found::EmptySequence => printer.put(output, b""),
+        Found::MissingText {
+            entry,
+            section,
+            offset,
+        } => print_missing(printer, output, *entry, *section, *offset),
+        Found::DuplicateFile { file, same_as } => print_numbers(
+            printer,
+            output,
+            b",\"file\":",
+            *file,
+            b",\"same_as\":",
+            *same_as,
+        ),
+        Found::UnusedFile { files, first } => print_numbers(
+            printer,
+            output,
+            b",\"unused\":",
+            *files,
+            b",\"first\":",
+            *first,
+        ),
         Found::LongNumber { bytes } => printer.number(output, b",\"bytes\":", *bytes),
         Found::Padding { bytes } => printer.number(output, b",\"bytes\":", *bytes),
         Found::WrappedAddress { from, size } => print_both(
@@ -154,6 +176,43 @@ fn print_found<W: Destination>(
         Found::UnknownContent { content_code } => {
             printer.number(output, b",\"content_code\":", *content_code)
         }
+    }
+}
+
+/// Prints where a section has no text.
+#[tactic(auto, unfolding(crate::specs::FindingJson::missing_members))]
+fn print_missing<W: Destination>(
+    printer: &mut Printer,
+    output: &mut W,
+    entry: TableEntry,
+    section: TextSection,
+    offset: u64,
+) -> Result<(), WriteFault>
+    ensures printed { Prints (W.contents output.old) (W.contents output.new) printer.old printer.new
+        (missing_members entry section offset) result }
+    ensures blames { BlamesWriter W.fails result }
+{
+    print_entry(printer, output, entry)?;
+    printer.put(output, b",\"section\":\"")?;
+    print_section(printer, output, section)?;
+    print_number(printer, output, b"\",\"at\":", offset)
+}
+
+/// Prints which entry of a table it is.
+fn print_entry<W: Destination>(
+    printer: &mut Printer,
+    output: &mut W,
+    entry: TableEntry,
+) -> Result<(), WriteFault>
+    ensures printed { Prints (W.contents output.old) (W.contents output.new) printer.old printer.new
+        (entry_members entry) result }
+    ensures blames { BlamesWriter W.fails result }
+{
+    match entry {
+        TableEntry::Directory(number) => {
+            print_number(printer, output, b",\"directory\":", number)
+        }
+        TableEntry::File(number) => print_number(printer, output, b",\"file\":", number),
     }
 }
 
@@ -280,21 +339,6 @@ fn print_place<W: Destination>(
 {
     print_address(printer, output, name, place.address)?;
     print_code(printer, output, other, place.op_index)
-}
-
-/// Prints a number under this name.
-fn print_number<W: Destination>(
-    printer: &mut Printer,
-    output: &mut W,
-    name: &[u8],
-    number: u64,
-) -> Result<(), WriteFault>
-    ensures printed { Prints (W.contents output.old) (W.contents output.new) printer.old printer.new
-        (name.now ++ decimal number) result }
-    ensures blames { BlamesWriter W.fails result }
-{
-    printer.put(output, name)?;
-    printer.number(output, b"", number)
 }
 
 /// Prints a code of one byte under this name.

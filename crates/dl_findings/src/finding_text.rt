@@ -7,6 +7,8 @@ ghost use Rattle.dl_findings.specs.FindingText.{file_index_text, finding_line, f
 ghost use Rattle.dl_findings.specs.FindingText.{directory_index_text, long_text, opcode_text, passed_text, place_text, row_text, split_text, subject_text, wrapped_text};
 
 use crate::finding::{Finding, Found, Opcode, RowSeen};
+use crate::missing_text::print_missing;
+use crate::parts::print_numbers;
 use dl_look::Place;
 use dl_output::Destination;
 use dl_print::{Printer, WriteFault};
@@ -84,6 +86,27 @@ fn print_found<W: Destination>(
         Found::FallingPlace { before } => print_before(printer, output, *before),
         Found::NoEnd => printer.put(output, b"is the last of its unit and no end row"),
         Found::EmptySequence => printer.put(output, b"ends a sequence that covers no address"),
+        Found::MissingText {
+            entry,
+            section,
+            offset,
+        } => print_missing(printer, output, *entry, *section, *offset),
+        Found::DuplicateFile { file, same_as } => print_numbers(
+            printer,
+            output,
+            b"file ",
+            *file,
+            b" has all values of file ",
+            *same_as,
+        ),
+        Found::UnusedFile { files, first } => print_numbers(
+            printer,
+            output,
+            b"no row names ",
+            *files,
+            b" of the files, the first is file ",
+            *first,
+        ),
         Found::LongNumber { bytes } => print_long(printer, output, *bytes),
         Found::Padding { bytes } => print_padding(printer, output, *bytes),
         Found::WrappedAddress { from, size } => print_wrapped(printer, output, *from, *size),

@@ -5,11 +5,13 @@ mod counts;
 mod finding;
 mod finding_json;
 mod finding_text;
+mod missing_text;
+mod parts;
 mod rule;
 mod rules;
 
 pub use counts::FindingCounts;
-pub use finding::{Finding, Found, Opcode, RowSeen};
+pub use finding::{Finding, Found, Opcode, RowSeen, TableEntry, TextSection};
 pub use finding_json::print_finding;
 pub use rule::{RULES, Rule};
 pub use rules::Rules;

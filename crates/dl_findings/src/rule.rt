@@ -16,6 +16,12 @@ pub enum Rule {
     NoEnd,
     /// A sequence covers no address. Section 6.2.2.
     EmptySequence,
+    /// A value of a table names a text that its string section doesn't have. Sections 6.2.4.1 and 7.5.5.
+    MissingText,
+    /// Two entries of the table of files have the same values. Section 6.2.4.1.
+    DuplicateFile,
+    /// No row names an entry of the table of files. Sections 6.2.2 and 6.2.4.1.
+    UnusedFile,
     /// A number in LEB128 has more than ten bytes. Section 7.6.
     LongNumber,
     /// Bytes stand between the tables of a header and the program. Section 6.2.4.
@@ -32,13 +38,19 @@ pub enum Rule {
     UnknownOpcode,
 }
 
+/// How many rules there are.
+pub(crate) const COUNT: usize = 15;
+
 /// All rules, in the order in which the findings of one place are told.
-pub const RULES: [Rule; 12] = [
+pub const RULES: [Rule; COUNT] = [
     Rule::FileIndex,
     Rule::DirectoryIndex,
     Rule::FallingPlace,
     Rule::NoEnd,
     Rule::EmptySequence,
+    Rule::MissingText,
+    Rule::DuplicateFile,
+    Rule::UnusedFile,
     Rule::LongNumber,
     Rule::Padding,
     Rule::WrappedAddress,
@@ -60,6 +72,9 @@ impl Rule {
             Rule::FallingPlace => b"falling-place",
             Rule::NoEnd => b"no-end",
             Rule::EmptySequence => b"empty-sequence",
+            Rule::MissingText => b"missing-text",
+            Rule::DuplicateFile => b"duplicate-file",
+            Rule::UnusedFile => b"unused-file",
             Rule::LongNumber => b"long-number",
             Rule::Padding => b"padding",
             Rule::WrappedAddress => b"wrapped-address",
@@ -85,7 +100,7 @@ impl Rule {
     /// Its place in `RULES`, from 0 on.
     pub fn place(self) -> usize
         ensures place { result ≡ rule_place self }
-        ensures within { result < 12 }
+        ensures within { result < 15 }
     {
         match self {
             Rule::FileIndex => 0,
@@ -93,13 +108,16 @@ impl Rule {
             Rule::FallingPlace => 2,
             Rule::NoEnd => 3,
             Rule::EmptySequence => 4,
-            Rule::LongNumber => 5,
-            Rule::Padding => 6,
-            Rule::WrappedAddress => 7,
-            Rule::LineWrapped => 8,
-            Rule::NoStatement => 9,
-            Rule::SplitInstruction => 10,
-            Rule::UnknownOpcode => 11,
+            Rule::MissingText => 5,
+            Rule::DuplicateFile => 6,
+            Rule::UnusedFile => 7,
+            Rule::LongNumber => 8,
+            Rule::Padding => 9,
+            Rule::WrappedAddress => 10,
+            Rule::LineWrapped => 11,
+            Rule::NoStatement => 12,
+            Rule::SplitInstruction => 13,
+            Rule::UnknownOpcode => 14,
         }
     }
 }

@@ -1,12 +1,12 @@
 //! Which rules are chosen.
 
-use crate::rule::Rule;
+use crate::rule::{COUNT, Rule};
 
 /// A set of rules.
 #[derive(Clone, Copy)]
 pub struct Rules {
     /// Whether the rule of each place is one of them.
-    has: [bool; 12],
+    has: [bool; COUNT],
 }
 
 impl Rules {
@@ -19,14 +19,16 @@ impl Rules {
     pub fn all() -> Rules
         ensures { (r : Rule) → is_chosen result r ≡ true }
     {
-        Rules { has: [true; 12] }
+        Rules { has: [true; COUNT] }
     }
 
     /// No rule.
     pub fn none() -> Rules
         ensures { (r : Rule) → is_chosen result r ≡ false }
     {
-        Rules { has: [false; 12] }
+        Rules {
+            has: [false; COUNT],
+        }
     }
 
     /// These rules and this one.

@@ -1,7 +1,7 @@
 pub mod KeptLemmas
-pub mod ContentLemmas
 pub mod OperationLemmas
 pub mod AdvanceLemmas
+pub mod FilesLemmas
 pub mod FindingLemmas
 pub mod TellLemmas
 pub mod LintingLemmas

@@ -1,7 +1,24 @@
 -- Findings that are told one after the other.
-use Rattle.std.proofs.Common.{◌≡◌, ◌∙◌, ℕ, List, [], ◌++◌, Option, Result, Ok, Err, Bool, refl, sym, ap, ap₂, subst, append-nil, append_assoc}
-use Rattle.std.specs.Prelude.{⊤}
+use Rattle.std.proofs.Common.{◌≡◌, ◌∙◌, ℕ, ◌+◌, List, [], ◌∷◌, ◌++◌, length, true, false, Option, Some, None, Result, Ok, Err, Bool, refl, sym, ap, ap₂, subst, append-nil, append_assoc}
+use Rattle.std.specs.Prelude.{⊤, cond, flat_map, slice_get}
+use Rattle.std.specs.List.{range_with_len}
 use Rattle.std.proofs.lemmas.List.Elements.{filter-append}
+use Rattle.dl_table.specs.TableData.{TableData}
+use Rattle.dl_table.specs.Value.{Value, line_str, str}
+use Rattle.dl_field.specs.HeaderData.{HeaderData}
+use Rattle.dl_head.specs.Numbers.{first_number}
+use Rattle.dl_print.specs.ValueText.{Strings}
+use Rattle.dl_findings.specs.declared.finding.Found.{Found}
+use Rattle.dl_findings.specs.declared.finding.Found.TheVariants as found
+use Rattle.dl_findings.specs.declared.finding.TableEntry.{TableEntry}
+use Rattle.dl_findings.specs.declared.finding.TableEntry.TheVariants as entry
+use Rattle.dl_findings.specs.declared.finding.TextSection.TheVariants as texts
+use Rattle.dl_findings.specs.declared.rule.Rule.TheVariants as rule
+use Rattle.dl_table_rules.specs.Duplicates.{entries_of, first_same}
+use Rattle.dl_table_rules.specs.Texts.{lacks}
+use Rattle.dl_table_rules.specs.Unused.{unused_in}
+use Rattle.dl_table_rules.specs.TableFindings.{duplicate_at, duplicates_found, in_header, missing_at, missing_entry, missing_found}
+use Rattle.dl_table_rules.specs.TableFindings.{missing_if, missing_in, missing_item, missing_value, numbers_found, same_found, unused_found}
 use Rattle.dl_path.proofs.PrintLemmas.{loses_front, loses_same, loses_then, more_then}
 use Rattle.dl_print.specs.Output.{PrintsMore, HasPrinted}
 use Rattle.dl_print.specs.declared.fault.WriteFault.{WriteFault}
@@ -18,6 +35,78 @@ use Rattle.dl_lint.proofs.FindingLemmas.{text-append}
 
 pub chosen-append : (rules : Rules) (a b : List Finding) → chosen rules (a ++ b) ≡ chosen rules a ++ chosen rules b
 chosen-append rules a b = filter-append (λ (f : Finding). is_chosen rules (rule_of f.found)) a b
+
+-- ---- what isn't chosen
+
+pub none_of_each : {X : Type 0} (rules : Rules) (f : X → List Finding) (xs : List X) → ((x : X) → chosen rules (f x) ≡ [])
+    → chosen rules (flat_map f xs) ≡ []
+none_of_each rules f [] none = refl
+none_of_each rules f (x ∷ xs) none =
+    chosen-append rules (f x) (flat_map f xs) ∙ ap₂ (λ (a b : List Finding). a ++ b) (none x) (none_of_each rules f xs none)
+
+none_of_one : (rules : Rules) (offset : ℕ) (f : Found) → is_chosen rules (rule_of f) ≡ false
+    → chosen rules (in_header offset f ∷ []) ≡ []
+none_of_one rules offset f out = ap (λ (b : Bool). cond b (in_header offset f ∷ []) []) out
+
+module _ (rules : Rules) (offset : ℕ) where
+  pub no_duplicates : (h : HeaderData) → is_chosen rules rule.DuplicateFile ≡ false → chosen rules (duplicates_found offset h) ≡ []
+  no_duplicates h out =
+      none_of_each rules (duplicate_at offset h) (range_with_len 0 (length h.files.entries))
+      (λ place. by place (first_same (entries_of h.files) place)) where
+        by : (place : ℕ) (o : Option ℕ) → chosen rules (same_found offset h place o) ≡ []
+        by place None = refl
+        by place (Some other) =
+            none_of_one rules offset (found.DuplicateFile (first_number h.params + place) (first_number h.params + other)) out
+
+  pub no_unused : (h : HeaderData) (named : List ℕ) → is_chosen rules rule.UnusedFile ≡ false
+      → chosen rules (unused_found offset h named) ≡ []
+  no_unused h named out = by (unused_in h named) where
+    by : (numbers : List ℕ) → chosen rules (numbers_found offset numbers) ≡ []
+    by [] = refl
+    by (n ∷ numbers) = none_of_one rules offset (found.UnusedFile (length (n ∷ numbers)) n) out
+
+  module _ (s : Strings) (out : is_chosen rules rule.MissingText ≡ false) where
+    no_value : (e : TableEntry) (v : Value) → chosen rules (missing_value s offset e v) ≡ []
+    no_value e (line_str n) = by (lacks s.line_strings n) where
+      by : (b : Bool) → chosen rules (missing_if b offset e texts.DebugLineStr n) ≡ []
+      by true = none_of_one rules offset (found.MissingText e texts.DebugLineStr n) out
+      by false = refl
+    no_value e (str n) = by (lacks s.strings n) where
+      by : (b : Bool) → chosen rules (missing_if b offset e texts.DebugStr n) ≡ []
+      by true = none_of_one rules offset (found.MissingText e texts.DebugStr n) out
+      by false = refl
+    no_value e v = refl
+
+    no_table : (which : ℕ → TableEntry) (first : ℕ) (t : TableData) → chosen rules (missing_in s offset which first t) ≡ []
+    no_table which first t =
+        none_of_each rules (missing_at s offset which first t) (range_with_len 0 (length t.entries))
+        (λ place. by (which (first + place)) (slice_get (entries_of t) place)) where
+          by : (e : TableEntry) (o : Option (List (ℕ × Value))) → chosen rules (missing_entry s offset e o) ≡ []
+          by e None = refl
+          by e (Some items) = none_of_each rules (missing_item s offset e) items (λ item. no_value e item.1)
+
+    pub no_missing : (h : HeaderData) → chosen rules (missing_found s offset h) ≡ []
+    no_missing h =
+        chosen-append rules (missing_in s offset entry.Directory (first_number h.params) h.directories)
+        (missing_in s offset entry.File (first_number h.params) h.files)
+        ∙ ap₂ (λ (a b : List Finding). a ++ b) (no_table entry.Directory (first_number h.params) h.directories)
+        (no_table entry.File (first_number h.params) h.files)
+
+-- nothing is told of findings that aren't chosen
+pub told_none : (before : Option (List ℕ)) (old : Report) (findings : List Finding) → chosen old.rules findings ≡ []
+    → Tells {A = ⊤} before before old old findings (Ok tt)
+told_none before old findings none = (
+  λ start text h. subst (λ (l : List ℕ). HasPrinted start before l old.printer.now)
+      (sym (ap (λ (l : List Finding). text ++ findings_text old.json l) none ∙ append-nil text)) h,
+  record {
+    rules = refl;
+    json = refl;
+    counts = λ told counts. subst (Counts old.counts)
+        (sym (ap (λ (l : List Finding). told ++ l) none ∙ append-nil told)) counts;
+  },
+)
+
+-- ---- one after the other
 
 text_both : (report : Report) (a b : List Finding) → told_text report a ++ told_text report b ≡ told_text report (a ++ b)
 text_both report a b =

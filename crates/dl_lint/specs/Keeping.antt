@@ -1,15 +1,23 @@
 -- What is kept of visits. No promise rests on this file.
 use Rattle.std.specs.Prelude.{◌≡◌, ℕ, Bool, true, false, not, ◌==◌, ◌+◌, max, nat_lt, if◌then◌else◌, List, [], ◌∷◌, length, fold}
 use Rattle.std.specs.Prelude.{Option, Some, None, slice_index_or}
+use Rattle.dl_field.specs.HeaderData.{HeaderData}
 use Rattle.std.specs.List.{before_last, list_any}
 use Rattle.dl_rows.specs.declared.row.Row.{Row}
 use Rattle.dl_look.specs.Answer.{first_place, last_place}
+use Rattle.dl_sections.specs.Copying.{offset_after as unit_offset}
 use Rattle.dl_sections.specs.Section.{Visit}
+use Rattle.dl_sections.specs.Visiting.{header_told}
+use Rattle.dl_findings.specs.Chosen.{is_chosen}
+use Rattle.dl_findings.specs.declared.rule.Rule.TheVariants as rule
+use Rattle.dl_findings.specs.declared.rules.Rules.{Rules}
+use Rattle.dl_table_rules.specs.Keeping.{AreNamed}
 use Rattle.dl_findings.specs.Counting.{at_most_64_bits}
 use Rattle.dl_lint.specs.Before.{end_offset, is_operation, of_unit, offset_after, operation_offset, rows_told}
 use Rattle.dl_lint.specs.Before.{sequence_told}
 use Rattle.dl_lint.specs.OperationRules.{is_same}
 use Rattle.dl_lint.specs.Operations.{UnitSeen}
+use Rattle.dl_lint.specs.TableRules.{files_named}
 use Rattle.dl_lint.specs.declared.byte_set.ByteSet.{ByteSet}
 use Rattle.dl_findings.specs.declared.finding.Opcode.{Opcode}
 use Rattle.dl_findings.specs.declared.finding.Opcode.TheVariants as opcode
@@ -19,6 +27,7 @@ use Rattle.dl_lint.specs.declared.operation_read.OperationRead.{OperationRead}
 use Rattle.dl_lint.specs.declared.operations.Operations.{Operations}
 use Rattle.dl_lint.specs.declared.reached.Reached.{Reached}
 use Rattle.dl_lint.specs.declared.reached.Sequence.{Sequence}
+use Rattle.dl_lint.specs.declared.unit_files.UnitFiles.{UnitFiles}
 
 abbrev pub is_some_row : List Row → Bool
 is_some_row [] = false
@@ -103,3 +112,11 @@ pub record Knows (operations : Operations) (s : UnitSeen) : Type 0 where
   pub read : operations.read ≡ operation_read s.bytes
   pub place : operations.place ≡ s.place
   pub passed : (o : Opcode) → has_passed operations o ≡ list_any (is_same o) s.opcodes
+
+-- ---- of files
+
+-- where their rule is chosen, those of the current unit that rows have named
+pub record KnowsFiles (rules : Rules) (files : UnitFiles) (visits : List Visit) : Type 0 where
+  pub unit : files.unit ≡ unit_offset 0 visits
+  pub named : is_chosen rules rule.UnusedFile ≡ true → (h : HeaderData) → header_told None visits ≡ Some h
+      → AreNamed files.named h (files_named visits)

@@ -2,6 +2,7 @@
 pub mod Before
 pub mod RowRules
 pub mod HeaderRules
+pub mod TableRules
 pub mod Operations
 pub mod OperationRules
 pub mod Findings

@@ -11,7 +11,7 @@ use Rattle.dl_look.specs.declared.place.Place.{Place}
 use Rattle.dl_sections.specs.Section.{Visit, of_header, of_item}
 use Rattle.dl_findings.specs.Counting.{at_most_64_bits}
 use Rattle.dl_lint.specs.Before.{next_operation_offset}
-use Rattle.dl_lint.specs.HeaderRules.{contents_found}
+use Rattle.dl_table_rules.specs.HeaderFindings.{contents_found}
 use Rattle.dl_lint.specs.Operations.{longest_number, moved_by, passed_over, seen}
 use Rattle.dl_lint.specs.declared.advance.Moved.{Moved}
 use Rattle.dl_findings.specs.declared.finding.Finding.{Finding}

@@ -12,7 +12,10 @@ mod question;
 mod reached;
 mod report;
 mod row_rules;
+mod unit_files;
 
-pub use dl_findings::{Finding, FindingCounts, Found, Opcode, RULES, RowSeen, Rule, Rules};
+pub use dl_findings::{
+    Finding, FindingCounts, Found, Opcode, RULES, RowSeen, Rule, Rules, TableEntry, TextSection,
+};
 pub use linting::{lint, lint_around};
 pub use question::{LintQuestion, Linted, LintedAround};

@@ -1,9 +1,13 @@
 //! The commands that tell the findings of a section.
 
-ghost use Rattle.std.specs.Prelude.{◌≡◌, ◌≤◌, [], ℕ, List, IfOk, OnOk, None};
+ghost use Rattle.std.specs.Prelude.{◌≡◌, ◌≤◌, [], ℕ, List, IfOk, OnOk, None, true};
 ghost use Rattle.std.specs.Io.KnownBytes.{Consumes};
 ghost use Rattle.dl_input.specs.Failing.{Blames};
 ghost use Rattle.dl_sections.specs.Blaming.{BlamesWriter};
+ghost use Rattle.dl_sections.specs.Commands.{strings_in};
+ghost use Rattle.dl_findings.specs.Chosen.{is_chosen};
+ghost use Rattle.dl_findings.specs.declared.rule.Rule.TheVariants as rule;
+ghost use Rattle.dl_table_rules.specs.Keeping.{AreEnds};
 ghost use Rattle.dl_lint.specs.Commands.{Lints, LintsAround};
 ghost use Rattle.dl_lint.specs.Linting.{told_around};
 
@@ -13,10 +17,11 @@ use crate::question::{LintQuestion, Linted, LintedAround};
 use crate::reached::{BEFORE_UNITS, Reached};
 use crate::report::Report;
 use crate::row_rules::no_end;
-use dl_findings::FindingCounts;
+use crate::unit_files::UnitFiles;
+use dl_findings::{FindingCounts, Rule, Rules};
 use dl_head::{Header, HeaderLengths};
 use dl_input::Source;
-use dl_memory::Memory;
+use dl_memory::{Memory, NoMemory};
 use dl_output::Destination;
 use dl_print::{Printer, WriteFault};
 use dl_rows::{Flow, Operation, Row};
@@ -24,22 +29,29 @@ use dl_sections::{
     AroundDamage, Damage, DamageSink, Options, RunFault, SECTION_LIMIT, Survey, Visitor,
     read_units, read_units_around,
 };
+use dl_table_rules::{EntryOrder, NO_SECTIONS, TextEnds};
 
 /// Tells what is found in units, and tells of damaged ones.
 #[derive(Drop)]
-struct Linter<'d, D> {
+struct Linter<'d, M, D> {
+    memory: &'d M,
+    options: &'d Options<'d>,
+    /// Where string sections end, where `missing-text` is chosen.
+    ends: TextEnds,
     report: Report<'d>,
     /// What is kept of the current unit.
     at: Reached,
     /// What is kept of its operations.
     operations: Operations,
+    /// What is kept of its files.
+    files: &'d mut UnitFiles,
     damages: &'d mut D,
 }
 
-impl<W: Destination, D: DamageSink> Visitor<W> for Linter<'_, D> {
+impl<W: Destination, M: Memory, D: DamageSink> Visitor<W> for Linter<'_, M, D> {
     ghost use Rattle.dl_lint.specs.Linting.{lint_story};
 
-    ghost story = { lint_story D.hears };
+    ghost story = { lint_story M.refuses D.hears };
 
     fn header(
         &mut self,
@@ -48,9 +60,13 @@ impl<W: Destination, D: DamageSink> Visitor<W> for Linter<'_, D> {
         lengths: HeaderLengths,
         header: &Header,
     ) -> Result<(), RunFault> {
-        self.report.tell_header(output, offset, &lengths, header)?;
+        let order = self.order_of(header)?;
+        let files = self.files_of(offset, header)?;
+        self.report
+            .tell_header(output, offset, &lengths, header, &self.ends, &order)?;
         self.at = Reached::at_program(offset, &lengths, header);
         self.operations = Operations::at_start();
+        *self.files = files;
         Ok(())
     }
 
@@ -85,6 +101,7 @@ impl<W: Destination, D: DamageSink> Visitor<W> for Linter<'_, D> {
     fn row(&mut self, output: &mut W, header: &Header, row: &Row) -> Result<(), RunFault> {
         self.report.tell_row(output, &self.at, header, row)?;
         self.at = self.at.with_row(row);
+        self.files.row(row);
         Ok(())
     }
 
@@ -92,7 +109,8 @@ impl<W: Destination, D: DamageSink> Visitor<W> for Linter<'_, D> {
         Ok(self.report.tell(output, &no_end(&self.at))?)
     }
 
-    fn end(&mut self, _output: &mut W, _header: Option<Header>) -> Result<Flow, RunFault> {
+    fn end(&mut self, output: &mut W, header: Option<Header>) -> Result<Flow, RunFault> {
+        self.report.tell_end(output, self.files, header.is_some())?;
         Ok(Flow::On)
     }
 
@@ -101,9 +119,48 @@ impl<W: Destination, D: DamageSink> Visitor<W> for Linter<'_, D> {
     }
 }
 
-impl<W: Destination, D: DamageSink> AroundDamage<W> for Linter<'_, D> {
+impl<W: Destination, M: Memory, D: DamageSink> AroundDamage<W> for Linter<'_, M, D> {
     fn damaged(&mut self, _unit: u64, damage: Damage) {
         self.damages.damaged(damage);
+    }
+}
+
+impl<M: Memory, D> Linter<'_, M, D> {
+    ghost use Rattle.std.specs.Prelude.{◌≡◌, ◌++◌, ◌∷◌, [], List, IfErr, IfOk, true};
+    ghost use Rattle.dl_head.specs.declared.header.HeaderLengths.{HeaderLengths};
+    ghost use Rattle.dl_sections.specs.Section.{Visit, of_header};
+    ghost use Rattle.dl_findings.specs.Chosen.{is_chosen};
+    ghost use Rattle.dl_findings.specs.declared.rule.Rule.TheVariants as rule;
+    ghost use Rattle.dl_table_rules.specs.Duplicates.{entries_of};
+    ghost use Rattle.dl_table_rules.specs.Ordering.{IsOrderOf};
+    ghost use Rattle.dl_lint.specs.Keeping.{KnowsFiles};
+    ghost use Rattle.dl_lint.specs.Linting.{WantsFiles};
+
+    /// The order of the files of a header, where `duplicate-file` is chosen.
+    fn order_of<'h>(&self, header: &'h Header) -> Result<EntryOrder<'h>, RunFault>
+        ensures order { IfOk result (λ order. is_chosen self.now.report.rules rule.DuplicateFile ≡ true
+            → IsOrderOf order (entries_of header.now.files)) }
+        ensures refused { IfErr result (WantsFiles (M.refuses self.now.memory.now) self.now.report.rules header.now) }
+    {
+        if !self.report.rules.contains(Rule::DuplicateFile) {
+            return Ok(EntryOrder::none(self.memory.alloc()));
+        }
+        match EntryOrder::of(self.memory, header.files()) {
+            Ok(order) => Ok(order),
+            Err(NoMemory) => Err(RunFault::NoMemory),
+        }
+    }
+
+    /// What is kept of the files of the unit at this offset that has this header.
+    fn files_of(&self, unit: u64, header: &Header) -> Result<UnitFiles, RunFault>
+        ensures knows { IfOk result (λ files. (visits : List Visit) (lengths : HeaderLengths)
+            → KnowsFiles self.now.report.rules files (visits ++ of_header unit lengths header.now ∷ [])) }
+        ensures refused { IfErr result (WantsFiles (M.refuses self.now.memory.now) self.now.report.rules header.now) }
+    {
+        match UnitFiles::of(self.memory, &self.report.rules, unit, header) {
+            Ok(files) => Ok(files),
+            Err(NoMemory) => Err(RunFault::NoMemory),
+        }
     }
 }
 
@@ -122,8 +179,9 @@ impl DamageSink for NoneTold {
 /// Prints a line for each finding of the chosen rules in the units of the input, in the order in which they are read: words,
 /// or a JSON object.
 ///
-/// What is found before a fault is printed. The faults are those of `RunFault`; each growth of memory is one of
-/// `Reader::feed`, and no memory is held for what is found.
+/// What is found before a fault is printed. The faults are those of `RunFault`. `NoMemory` comes where a growth of `Reader::feed`
+/// is refused, and, where `duplicate-file` or `unused-file` is chosen, where one is refused for the files of a header; then
+/// what is found before that header is printed.
 pub fn lint<M: Memory, R: Source, W: Destination>(
     memory: &M,
     input: &mut R,
@@ -133,13 +191,17 @@ pub fn lint<M: Memory, R: Source, W: Destination>(
 ) -> Result<Linted, RunFault>
     requires { options.now.limit ≤ SECTION_LIMIT }
     ensures ran { (bs : List ℕ) × Consumes (R.remaining input.old) (R.remaining input.new) bs
-        × Lints options.now.dialect question.now options.now.limit bs (R.remaining input.new) (W.contents output.old)
-        (W.contents output.new) result }
+        × Lints (M.refuses memory.now) options.now.dialect (strings_in options.now) question.now options.now.limit bs
+        (R.remaining input.new) (W.contents output.old) (W.contents output.new) result }
     ensures blames { Blames R.follows R.fails input.old input.new (result ≡ Err RunFault.Read) }
     ensures blames_writer { BlamesWriter W.fails result }
     ensures over { OnOk result (R.over input.new) }
 {
+    let mut files = UnitFiles::before_units(memory.alloc());
     let mut linter = Linter {
+        memory,
+        options,
+        ends: ends_of(&question.rules, options),
         report: Report {
             printer: &mut Printer::new(),
             rules: question.rules,
@@ -148,6 +210,7 @@ pub fn lint<M: Memory, R: Source, W: Destination>(
         },
         at: BEFORE_UNITS,
         operations: Operations::at_start(),
+        files: &mut files,
         damages: &mut NoneTold,
     };
     let summary = read_units(memory.alloc(), input, output, options, &mut linter)?;
@@ -172,8 +235,8 @@ pub fn lint_around<M: Memory, R: Source, W: Destination, D: DamageSink>(
 ) -> Result<LintedAround, RunFault>
     requires { options.now.limit ≤ SECTION_LIMIT }
     ensures ran { (bs : List ℕ) × Consumes (R.remaining input.old) (R.remaining input.new) bs
-        × (D.hears damages.old damages.old [] → LintsAround options.now.dialect question.now options.now.limit bs
-        (R.remaining input.new) (W.contents output.old) (W.contents output.new) (D.hears damages.old damages.new) result) }
+        × (D.hears damages.old damages.old [] → LintsAround (M.refuses memory.now) options.now.dialect (strings_in options.now)
+        question.now options.now.limit bs (R.remaining input.new) (W.contents output.old) (W.contents output.new) (D.hears damages.old damages.new) result) }
     ensures blames { Blames R.follows R.fails input.old input.new
         ((D.hears damages.old damages.old []) × (result ≡ Err RunFault.Read)) }
     ensures blames_writer { D.hears damages.old damages.old [] → BlamesWriter W.fails result }
@@ -181,7 +244,11 @@ pub fn lint_around<M: Memory, R: Source, W: Destination, D: DamageSink>(
         → IfOk result (λ linted. linted.survey.damaged ≡ None → R.over input.new) }
 {
     let mut printer = Printer::new();
+    let mut files = UnitFiles::before_units(memory.alloc());
     let mut linter = Linter {
+        memory,
+        options,
+        ends: ends_of(&question.rules, options),
         report: Report {
             printer: &mut printer,
             rules: question.rules,
@@ -190,10 +257,22 @@ pub fn lint_around<M: Memory, R: Source, W: Destination, D: DamageSink>(
         },
         at: BEFORE_UNITS,
         operations: Operations::at_start(),
+        files: &mut files,
         damages,
     };
     let ended = read_units_around(memory.alloc(), input, output, options, &mut linter);
     told_around(ended, linter.report.counts)
+}
+
+/// Where the string sections end, where `missing-text` is chosen.
+fn ends_of(rules: &Rules, options: &Options<'_>) -> TextEnds
+    ensures { is_chosen rules.now rule.MissingText ≡ true
+        → AreEnds result (strings_in options.now).line_strings (strings_in options.now).strings }
+{
+    if !rules.contains(Rule::MissingText) {
+        return NO_SECTIONS;
+    }
+    TextEnds::of(options.debug_line_str, options.debug_str)
 }
 
 /// What is answered where the reading ended so, and so many findings were told.

@@ -1,28 +1,43 @@
 //! Findings of chosen rules, told one after the other.
 
-ghost use Rattle.std.specs.Prelude.{◌≡◌, ◌∷◌, [], List, option_to_list};
+ghost use Rattle.std.specs.Prelude.{◌≡◌, ◌≤◌, ◌∷◌, [], List, Option, None, is_some, option_map, option_to_list, true};
+ghost use Rattle.dl_table.specs.EntryHeld.{entry_items};
+ghost use Rattle.dl_field.specs.HeaderData.{HeaderData};
+ghost use Rattle.dl_print.specs.ValueText.{Strings};
 ghost use Rattle.dl_print.specs.Output.{BlamesWriter};
 ghost use Rattle.dl_rows.specs.Items.{a_row, an_operation};
-ghost use Rattle.dl_sections.specs.Section.{Visit, of_header, of_item};
+ghost use Rattle.dl_sections.specs.Section.{Visit, of_end, of_header, of_item};
+ghost use Rattle.dl_sections.specs.Visiting.{header_told};
+ghost use Rattle.dl_findings.specs.Chosen.{is_chosen};
+ghost use Rattle.dl_findings.specs.declared.rule.Rule.TheVariants as rule;
+ghost use Rattle.dl_table_rules.specs.Duplicates.{entries_of};
+ghost use Rattle.dl_table_rules.specs.Keeping.{AreEnds};
+ghost use Rattle.dl_table_rules.specs.Ordering.{IsOrderOf};
+ghost use Rattle.dl_table_rules.specs.TableFindings.{duplicates_found, missing_entry, missing_found, missing_in};
 ghost use Rattle.dl_lint.specs.Findings.{findings_at};
-ghost use Rattle.dl_lint.specs.HeaderRules.{contents_found, directories_found};
-ghost use Rattle.dl_lint.specs.Keeping.{Knows, reached_by};
+ghost use Rattle.dl_table_rules.specs.HeaderFindings.{contents_found, directories_found};
+ghost use Rattle.dl_lint.specs.Keeping.{Knows, KnowsFiles, reached_by};
 ghost use Rattle.dl_lint.specs.Operations.{moved_by, seen};
-ghost use Rattle.dl_lint.specs.Telling.{Tells};
+ghost use Rattle.dl_lint.specs.Telling.{Tells, entry_numbered};
 
 use crate::advance::Moved;
-use crate::header_rules::{content_count, directory_index, padding, unknown_content};
+use crate::header_rules::padding;
 use crate::operation_rules::{long_number, unknown_opcode, wrapped_address};
 use crate::operations::Operations;
 use crate::reached::Reached;
 use crate::row_rules::{
     empty_sequence, falling_place, file_index, line_wrapped, no_statement, split_instruction,
 };
-use dl_findings::{Finding, FindingCounts, Rules, print_finding};
-use dl_head::{Header, HeaderLengths};
+use crate::unit_files::UnitFiles;
+use dl_findings::{Finding, FindingCounts, Rule, Rules, TableEntry, print_finding};
+use dl_head::{Entry, Header, HeaderLengths, Table};
 use dl_output::Destination;
 use dl_print::{Printer, WriteFault};
 use dl_rows::{Operation, Row};
+use dl_table_rules::{
+    EntryOrder, TextEnds, content_count, directory_index, duplicate_file, missing_text,
+    unknown_content,
+};
 
 /// Prints the findings of chosen rules, and counts them.
 #[derive(Drop)]
@@ -76,9 +91,9 @@ impl<'p> Report<'p> {
         header: &Header,
         row: &Row,
     ) -> Result<(), WriteFault>
-        ensures told { (visits : List Visit) → at.now ≡ reached_by visits
+        ensures told { (s : Strings) (visits : List Visit) → at.now ≡ reached_by visits
             → Tells (W.contents output.old) (W.contents output.new) self.old self.new
-            (findings_at visits (of_item (a_row header.now row.now))) result }
+            (findings_at s visits (of_item (a_row header.now row.now))) result }
         ensures blames { BlamesWriter W.fails result }
     {
         self.tell_any(output, file_index(at, header, row))?;
@@ -100,10 +115,10 @@ impl<'p> Report<'p> {
         operation: Operation,
         moved: Moved,
     ) -> Result<(), WriteFault>
-        ensures told { (visits : List Visit) → at.now ≡ reached_by visits → Knows operations.now (seen visits)
+        ensures told { (s : Strings) (visits : List Visit) → at.now ≡ reached_by visits → Knows operations.now (seen visits)
             → moved ≡ moved_by header.now.params operations.now.place operation
             → Tells (W.contents output.old) (W.contents output.new) self.old self.new
-            (findings_at visits (of_item (an_operation header.now operation))) result }
+            (findings_at s visits (of_item (an_operation header.now operation))) result }
         ensures blames { BlamesWriter W.fails result }
     {
         self.tell_any(output, long_number(at, operations))?;
@@ -114,19 +129,27 @@ impl<'p> Report<'p> {
         self.tell_any(output, unknown_opcode(at, operations, header, operation))
     }
 
-    /// Tells what is found in the header of the unit at this offset.
+    /// Tells what is found in the header of the unit at this offset. The order is that of its table of files, where
+    /// `duplicate-file` is chosen.
     pub fn tell_header<W: Destination>(
         &mut self,
         output: &mut W,
         unit: u64,
         lengths: &HeaderLengths,
         header: &Header,
+        ends: &TextEnds,
+        order: &EntryOrder<'_>,
     ) -> Result<(), WriteFault>
-        ensures told { (visits : List Visit) → Tells (W.contents output.old) (W.contents output.new) self.old self.new
-            (findings_at visits (of_header unit lengths.now header.now)) result }
+        ensures told { (s : Strings) (visits : List Visit)
+            → (is_chosen self.old.rules rule.MissingText ≡ true → AreEnds ends.now s.line_strings s.strings)
+            → (is_chosen self.old.rules rule.DuplicateFile ≡ true → IsOrderOf order.now (entries_of header.now.files))
+            → Tells (W.contents output.old) (W.contents output.new) self.old self.new
+            (findings_at s visits (of_header unit lengths.now header.now)) result }
         ensures blames { BlamesWriter W.fails result }
     {
         self.tell_directories(output, unit, header)?;
+        self.tell_missing(output, unit, header, ends)?;
+        self.tell_duplicates(output, unit, header, order)?;
         self.tell_any(output, padding(unit, lengths))?;
         self.tell_contents(output, unit, header)
     }
@@ -170,5 +193,130 @@ impl<'p> Report<'p> {
             place += 1;
         }
         Ok(())
+    }
+
+    /// Tells which texts of the tables string sections don't have.
+    fn tell_missing<W: Destination>(
+        &mut self,
+        output: &mut W,
+        unit: u64,
+        header: &Header,
+        ends: &TextEnds,
+    ) -> Result<(), WriteFault>
+        ensures told { (s : Strings)
+            → (is_chosen self.old.rules rule.MissingText ≡ true → AreEnds ends.now s.line_strings s.strings)
+            → Tells (W.contents output.old) (W.contents output.new) self.old self.new
+            (missing_found s unit header.now) result }
+        ensures blames { BlamesWriter W.fails result }
+    {
+        if !self.rules.contains(Rule::MissingText) {
+            return Ok(());
+        }
+        let first = header.first_number();
+        self.tell_missing_of(output, unit, header.directories(), first, false, ends)?;
+        self.tell_missing_of(output, unit, header.files(), first, true, ends)
+    }
+
+    /// Tells which texts of a table string sections don't have. Its entries have the numbers from `first` on.
+    fn tell_missing_of<W: Destination>(
+        &mut self,
+        output: &mut W,
+        unit: u64,
+        table: &Table,
+        first: u64,
+        are_files: bool,
+        ends: &TextEnds,
+    ) -> Result<(), WriteFault>
+        requires { first ≤ 1 }
+        ensures told { (s : Strings) → AreEnds ends.now s.line_strings s.strings
+            → Tells (W.contents output.old) (W.contents output.new) self.old self.new
+            (missing_in s unit (entry_numbered are_files) first table.now) result }
+        ensures blames { BlamesWriter W.fails result }
+    {
+        let count = table.len();
+        let mut place = 0;
+        while place < count {
+            let number = entry_numbered(are_files, first + place as u64);
+            self.tell_missing_at(output, unit, number, table.entry(place), ends)?;
+            place += 1;
+        }
+        Ok(())
+    }
+
+    /// Tells which texts of an entry string sections don't have.
+    fn tell_missing_at<W: Destination>(
+        &mut self,
+        output: &mut W,
+        unit: u64,
+        number: TableEntry,
+        entry: Option<Entry<'_>>,
+        ends: &TextEnds,
+    ) -> Result<(), WriteFault>
+        ensures told { (s : Strings) → AreEnds ends.now s.line_strings s.strings
+            → Tells (W.contents output.old) (W.contents output.new) self.old self.new
+            (missing_entry s unit number (option_map entry_items entry.entry)) result }
+        ensures blames { BlamesWriter W.fails result }
+    {
+        let Some(lent) = entry else {
+            return Ok(());
+        };
+        for (_, value) in lent.values() {
+            self.tell_any(output, missing_text(unit, ends, number, value))?;
+        }
+        Ok(())
+    }
+
+    /// Tells which files have the values of others.
+    fn tell_duplicates<W: Destination>(
+        &mut self,
+        output: &mut W,
+        unit: u64,
+        header: &Header,
+        order: &EntryOrder<'_>,
+    ) -> Result<(), WriteFault>
+        ensures told { (is_chosen self.old.rules rule.DuplicateFile ≡ true → IsOrderOf order.now (entries_of header.now.files))
+            → Tells (W.contents output.old) (W.contents output.new) self.old self.new
+            (duplicates_found unit header.now) result }
+        ensures blames { BlamesWriter W.fails result }
+    {
+        if !self.rules.contains(Rule::DuplicateFile) {
+            return Ok(());
+        }
+        let count = header.files().len();
+        let mut place = 0;
+        while place < count {
+            self.tell_any(output, duplicate_file(unit, header, order, place))?;
+            place += 1;
+        }
+        Ok(())
+    }
+
+    /// Tells what is found where a unit is whole.
+    pub fn tell_end<W: Destination>(
+        &mut self,
+        output: &mut W,
+        files: &UnitFiles,
+        has_header: bool,
+    ) -> Result<(), WriteFault>
+        ensures told { (s : Strings) (visits : List Visit) (h : Option HeaderData) → KnowsFiles self.old.rules files.now visits
+            → header_told None visits ≡ h → has_header ≡ is_some h
+            → Tells (W.contents output.old) (W.contents output.new) self.old self.new (findings_at s visits (of_end h)) result }
+        ensures blames { BlamesWriter W.fails result }
+    {
+        if !has_header || !self.rules.contains(Rule::UnusedFile) {
+            return Ok(());
+        }
+        self.tell_any(output, files.unused())
+    }
+}
+
+/// The entry of this number, of the table of files or of that of directories.
+fn entry_numbered(are_files: bool, number: u64) -> TableEntry
+    ensures { result ≡ entry_numbered are_files number }
+{
+    if are_files {
+        TableEntry::File(number)
+    } else {
+        TableEntry::Directory(number)
     }
 }

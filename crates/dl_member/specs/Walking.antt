@@ -41,8 +41,7 @@ use Rattle.dl_member.specs.declared.step.Step.TheVariants.{Done, PassedOver, Unw
 
 -- `dump` or `check` of the file at a path; nothing else is done with members
 abbrev pub over : Request → (path : Text) → Option Request
-over (dump file big units line_str strings keep_going header operations paths comp_dir) path =
-    Some (dump (Some path) false units None None keep_going header operations paths comp_dir)
+over (dump w) path = Some (dump (record w { file = Some path; big = false; line_str = None; strings = None }))
 over (check file big units keep_going) path = Some (check (Some path) false units keep_going)
 over other path = None
 

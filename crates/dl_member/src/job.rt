@@ -3,33 +3,20 @@ ghost use Rattle.std.specs.Prelude.{◌≡◌, option_map};
 ghost use Rattle.dl_cmd.specs.Job.{request_made};
 ghost use Rattle.dl_member.specs.Walking.{over};
 
-use dl_cmd::Job;
+use dl_cmd::{DumpWords, Job};
 
 /// The same job of the file at this path; None where the job isn't `dump` or `check`, of a file.
 pub(crate) fn job_over<'a>(job: &Job<'a>, path: &'a str) -> Option<Job<'a>>
     ensures { option_map request_made result ≡ over (request_made job.now) path.now }
 {
     match job {
-        Job::Dump {
-            units,
-            keep_going,
-            header,
-            operations,
-            paths,
-            comp_dir,
-            ..
-        } => Some(Job::Dump {
+        Job::Dump(words) => Some(Job::Dump(DumpWords {
             file: Some(path),
             big: false,
-            units: *units,
             line_str: None,
             strings: None,
-            keep_going: *keep_going,
-            header: *header,
-            operations: *operations,
-            paths: *paths,
-            comp_dir: *comp_dir,
-        }),
+            ..*words
+        })),
         Job::Check {
             units,
             keep_going,
@@ -45,6 +32,7 @@ pub(crate) fn job_over<'a>(job: &Job<'a>, path: &'a str) -> Option<Job<'a>>
         | Job::Addr(_)
         | Job::Index(_)
         | Job::Lines(_)
-        | Job::Sources(_) => None,
+        | Job::Sources(_)
+        | Job::Lint(_) => None,
     }
 }

@@ -32,14 +32,6 @@ op_rule = record (new_rule (codes "op")) {
   defaults = codes "0" ∷ [];
 }
 
--- `--debug-dir DIR`, any number of them
-abbrev pub debug_dir_rule : Rule
-debug_dir_rule = record (new_rule (codes "debug-dir")) {
-  long = Some (codes "debug-dir");
-  action = Some Append;
-  value_names = 1;
-}
-
 -- `FILE`
 abbrev pub file_rule : Rule
 file_rule = record (new_rule (codes "file")) { value_names = 1 }
@@ -88,6 +80,10 @@ letter_rule id letter = record (switch_rule id) { short = Some letter }
 abbrev pub value_rule : Text → Rule
 value_rule id = record (new_rule id) { long = Some id; value_names = 1 }
 
+-- the same, any number of times
+abbrev pub values_rule : Text → Rule
+values_rule id = record (value_rule id) { action = Some Append }
+
 -- which units of versions 2 to 4 are read of a file
 abbrev pub with_units_of_file : App → App
 with_units_of_file a = with_rule (with_rule a (value_rule (codes "address-size"))) (switch_rule (codes "version-5"))
@@ -112,10 +108,20 @@ with_shown a =
     with_rule (with_rule (with_rule (with_rule a (switch_rule (codes "header"))) (switch_rule (codes "operations")))
     (switch_rule (codes "paths"))) (value_rule (codes "comp-dir"))
 
+-- which units and sequences are printed, and whether as JSON objects
+abbrev pub with_part : App → App
+with_part a =
+    with_rule (with_rule (with_rule a (switch_rule (codes "json"))) (value_rule (codes "unit"))) (value_rule (codes "range"))
+
+-- which findings are told, and whether as JSON objects
+abbrev pub with_rules : App → App
+with_rules a =
+    with_rule (with_rule (with_rule a (values_rule (codes "rule"))) (values_rule (codes "no-rule"))) (switch_rule (codes "json"))
+
 -- which files are read in place of one without a line table
 abbrev pub with_follow : App → App
 with_follow a =
-    with_rule (with_rule (with_rule a debug_dir_rule) (switch_rule (codes "no-follow"))) (switch_rule (codes "verbose"))
+    with_rule (with_rule (with_rule a (values_rule (codes "debug-dir"))) (switch_rule (codes "no-follow"))) (switch_rule (codes "verbose"))
 
 -- where the section comes from, in its order
 abbrev pub with_input : App → App
@@ -169,10 +175,11 @@ index_app =
     with_rule (with_rule (with_rule (with_making (new_app (codes "index"))) (switch_rule (codes "list"))) output_rule)
     index_file_rule
 
--- `dump [--keep-going] [--header] [--operations] [--paths] [--comp-dir DIR] [--older SIZE] [--address-size SIZE]
--- [--version-5] [--debug-dir DIR].. [--no-follow] [--verbose] [--big] [--line-str PATH] [--str PATH] [FILE]`
+-- `dump [--keep-going] [--header] [--operations] [--paths] [--comp-dir DIR] [--json] [--unit OFFSET] [--range LOW-HIGH]
+-- [--older SIZE] [--address-size SIZE] [--version-5] [--debug-dir DIR].. [--no-follow] [--verbose] [--big]
+-- [--line-str PATH] [--str PATH] [FILE]`
 abbrev pub dump_app : App
-dump_app = with_strings (with_follow (with_units (with_shown (with_keep_going (new_app (codes "dump"))))))
+dump_app = with_strings (with_follow (with_units (with_part (with_shown (with_keep_going (new_app (codes "dump")))))))
 
 -- `check [--keep-going] [--older SIZE] [--address-size SIZE] [--version-5] [--debug-dir DIR].. [--no-follow] [--verbose]
 -- [--big] [--files-from PATH] [-0] [--progress] [FILE]..`
@@ -201,6 +208,11 @@ with_listing a =
 abbrev pub sources_app : App
 sources_app = with_strings (with_follow (with_units (with_listing (new_app (codes "sources")))))
 
+-- `lint [--keep-going] [--rule NAME].. [--no-rule NAME].. [--json] [--older SIZE] [--address-size SIZE] [--version-5]
+-- [--debug-dir DIR].. [--no-follow] [--verbose] [--big] [--line-str PATH] [--str PATH] [FILE]`
+abbrev pub lint_app : App
+lint_app = with_strings (with_follow (with_units (with_rules (with_keep_going (new_app (codes "lint"))))))
+
 -- which rows answer for a line, and of which units
 abbrev pub with_search : App → App
 with_search a =
@@ -227,9 +239,9 @@ top_app =
 -- the whole program
 abbrev pub command_line : App
 command_line =
-    with_subcommand (with_subcommand (with_subcommand
+    with_subcommand (with_subcommand (with_subcommand (with_subcommand
     (with_subcommand (with_subcommand (with_subcommand (with_subcommand (with_subcommand top_app addr_app.top)
-    index_app.top) dump_app.top) check_app.top) find_app.top) copy_app.top) sources_app.top) lines_app.top
+    index_app.top) dump_app.top) check_app.top) find_app.top) copy_app.top) sources_app.top) lines_app.top) lint_app.top
 
 -- a command without global arguments, of which a parse reads this
 abbrev pub IsApp : App → Command → Type 0

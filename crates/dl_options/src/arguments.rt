@@ -1,8 +1,8 @@
 //! The arguments of the command line, with their help. Which of them may not stand together is in `refusal`, and so is which
 //! have to be there beside others: of arguments that have no rule on one another clap's contract says each kind of error.
-ghost use Rattle.dl_options.specs.CommandLine.{IsRule, address_rule, addresses_rule, base_rule, big_rule, debug_dir_rule, exe_rule, file_rule, files_rule};
+ghost use Rattle.dl_options.specs.CommandLine.{IsRule, address_rule, addresses_rule, base_rule, big_rule, exe_rule, file_rule, files_rule};
 ghost use Rattle.dl_options.specs.CommandLine.{index_file_rule, letter_rule, line_str_rule, lines_rule, op_rule, output_rule};
-ghost use Rattle.dl_options.specs.CommandLine.{section_rule, str_rule, switch_rule, value_rule};
+ghost use Rattle.dl_options.specs.CommandLine.{section_rule, str_rule, switch_rule, value_rule, values_rule};
 ghost use Rattle.std.specs.Prelude.{codes};
 
 use clap::{Arg, ArgAction};
@@ -246,6 +246,13 @@ fn valued<'a>(alloc: Global, id: &'a str, value_name: &'a str, help: &'a str) ->
         .help(help)
 }
 
+/// The same, any number of times.
+fn several<'a>(alloc: Global, id: &'a str, value_name: &'a str, help: &'a str) -> Arg<'a>
+    ensures { IsRule (values_rule id.entry.now) result }
+{
+    valued(alloc, id, value_name, help).action(ArgAction::Append)
+}
+
 pub fn older<'a>(alloc: Global) -> Arg<'a>
     ensures { IsRule (value_rule (codes "older")) result }
 {
@@ -289,13 +296,63 @@ pub fn comp_dir<'a>(alloc: Global) -> Arg<'a>
 
 /// A folder for separate debug files.
 pub fn debug_dir<'a>(alloc: Global) -> Arg<'a>
-    ensures { IsRule debug_dir_rule result }
+    ensures { IsRule (values_rule (codes "debug-dir")) result }
 {
-    Arg::new(alloc, "debug-dir")
-        .long("debug-dir")
-        .action(ArgAction::Append)
-        .value_name("DIR")
-        .help("Folder for separate debug files, in place of /usr/lib/debug; there may be several")
+    several(
+        alloc,
+        "debug-dir",
+        "DIR",
+        "Folder for separate debug files, in place of /usr/lib/debug; there may be several",
+    )
+}
+
+/// The unit that is printed.
+pub fn unit<'a>(alloc: Global) -> Arg<'a>
+    ensures { IsRule (value_rule (codes "unit")) result }
+{
+    valued(
+        alloc,
+        "unit",
+        "OFFSET",
+        "Print the unit alone that begins at this offset of the section: 0x and hexadecimal digits, or \
+         decimal digits",
+    )
+}
+
+/// The addresses whose sequences are printed.
+pub fn range<'a>(alloc: Global) -> Arg<'a>
+    ensures { IsRule (value_rule (codes "range")) result }
+{
+    valued(
+        alloc,
+        "range",
+        "LOW-HIGH",
+        "Print the sequences alone that cover an address from LOW on and below HIGH, and their units",
+    )
+}
+
+/// A rule whose findings are told.
+pub fn rule<'a>(alloc: Global) -> Arg<'a>
+    ensures { IsRule (values_rule (codes "rule")) result }
+{
+    several(
+        alloc,
+        "rule",
+        "NAME",
+        "Tell the findings of this rule, and of no rule that isn't named; there may be several",
+    )
+}
+
+/// A rule whose findings aren't told.
+pub fn no_rule<'a>(alloc: Global) -> Arg<'a>
+    ensures { IsRule (values_rule (codes "no-rule")) result }
+{
+    several(
+        alloc,
+        "no-rule",
+        "NAME",
+        "Tell no finding of this rule; there may be several",
+    )
 }
 
 /// The file of which an index has to be made. A section on standard input has none.

@@ -2,14 +2,14 @@
 ghost use Rattle.std.specs.Prelude.{IfOk, OnErr, codes};
 ghost use Rattle.clap.specs.Words.{AddsSubcommand, App, with_subcommand};
 ghost use Rattle.dl_options.specs.CommandLine.{IsApp, addr_app, check_app, command_line, copy_app, dump_app, find_app};
-ghost use Rattle.dl_options.specs.CommandLine.{index_app, lines_app, sources_app, top_app};
+ghost use Rattle.dl_options.specs.CommandLine.{index_app, lines_app, lint_app, sources_app, top_app};
 ghost use Rattle.dl_options.specs.Memory.{LibraryRefused};
 
 use crate::arguments::{address, index_file, list, op, output, section};
 use crate::library::refused;
 use crate::parts::{
     add_addresses, add_files, add_follow, add_input, add_keep_going, add_lines, add_listing,
-    add_making, add_shown, add_strings, add_to_5, add_units, with_arg,
+    add_making, add_part, add_rules, add_shown, add_strings, add_to_5, add_units, with_arg,
 };
 use clap::Command;
 use std::alloc::{AllocError, Global};
@@ -64,7 +64,7 @@ pub fn dump<'a>(alloc: Global) -> Result<Command<'a>, AllocError>
             "Examples:\n  dwline dump program\n  dwline dump --line-str debug_line_str < debug_line",
         );
     let command = add_keep_going(alloc, Ok(command));
-    let command = add_shown(alloc, command);
+    let command = add_part(alloc, add_shown(alloc, command));
     let command = add_units(alloc, command);
     add_strings(alloc, add_follow(alloc, command))
 }
@@ -183,6 +183,23 @@ pub fn lines<'a>(alloc: Global) -> Result<Command<'a>, AllocError>
     add_lines(alloc, Ok(command))
 }
 
+/// `lint`, which tells what in line tables misleads a debugger.
+pub fn lint<'a>(alloc: Global) -> Result<Command<'a>, AllocError>
+    ensures app { IfOk result (IsApp lint_app) }
+    ensures refused { OnErr result LibraryRefused }
+{
+    let command = Command::new(alloc, "lint")
+        .before_help(WITHOUT_FILE)
+        .about("Tell what in line tables misleads a debugger although they read well")
+        .after_help(
+            "Examples:\n  dwline lint program\n  dwline lint --no-rule no-statement --json program\n  \
+             dwline lint --rule file-index < debug_line",
+        );
+    let command = add_rules(alloc, add_keep_going(alloc, Ok(command)));
+    let command = add_units(alloc, command);
+    add_strings(alloc, add_follow(alloc, command))
+}
+
 /// The command line without its subcommands, of which one is wanted.
 fn program<'a>(alloc: Global) -> Command<'a>
     ensures { IsApp top_app result }
@@ -213,5 +230,6 @@ pub fn make_command_line<'a>(alloc: Global) -> Result<Command<'a>, AllocError>
     let line = with_command(line, find(alloc))?;
     let line = with_command(line, copy(alloc))?;
     let line = with_command(line, sources(alloc))?;
-    with_command(line, lines(alloc))
+    let line = with_command(line, lines(alloc))?;
+    with_command(line, lint(alloc))
 }

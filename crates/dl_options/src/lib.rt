@@ -6,5 +6,7 @@ mod command_line;
 mod library;
 mod parts;
 
-pub use command_line::{addr, check, copy, dump, find, index, lines, make_command_line, sources};
+pub use command_line::{
+    addr, check, copy, dump, find, index, lines, lint, make_command_line, sources,
+};
 pub use library::refused;

@@ -2,14 +2,14 @@
 ghost use Rattle.std.specs.Prelude.{IfOk, OnErr, codes};
 ghost use Rattle.clap.specs.Words.{AddsArg, App, Rule, with_rule};
 ghost use Rattle.dl_options.specs.CommandLine.{IsApp, IsRule, with_addresses, with_files, with_follow, with_input, with_keep_going};
-ghost use Rattle.dl_options.specs.CommandLine.{with_lines, with_listing, with_making, with_printing, with_search, with_settings};
+ghost use Rattle.dl_options.specs.CommandLine.{with_lines, with_listing, with_making, with_part, with_printing, with_rules, with_search, with_settings};
 ghost use Rattle.dl_options.specs.CommandLine.{with_shown, with_strings, with_to_5, with_units, with_units_of_file};
 ghost use Rattle.dl_options.specs.Memory.{LibraryRefused};
 
 use crate::arguments::{
     addr_file, address_size, addresses, all, base, big, comp_dir, debug_dir, exe, file, files,
-    files_from, json, letter, line_str, lines, made_of, older, section, stop, strings, switch,
-    version_5,
+    files_from, json, letter, line_str, lines, made_of, no_rule, older, range, rule, section, stop,
+    strings, switch, unit, version_5,
 };
 use crate::library::refused;
 use clap::{Arg, Command};
@@ -118,6 +118,41 @@ pub fn add_shown<'a>(
         "Print the path of its file at the end of each row",
     );
     with_arg(with_arg(command, paths), comp_dir(alloc))
+}
+
+/// Which units and sequences `dump` prints, and whether as JSON objects.
+pub fn add_part<'a>(
+    alloc: Global,
+    command: Result<Command<'a>, AllocError>,
+) -> Result<Command<'a>, AllocError>
+    ensures app { (a : App) → IfOk command.entry (IsApp a) → IfOk result (IsApp (with_part a)) }
+    ensures refused { OnErr command.entry LibraryRefused → OnErr result LibraryRefused }
+{
+    let json = switch(
+        alloc,
+        "json",
+        "Print a JSON object for each unit and each row, one a line",
+    );
+    let command = with_arg(command, json);
+    with_arg(with_arg(command, unit(alloc)), range(alloc))
+}
+
+/// Which findings `lint` tells, and whether as JSON objects.
+pub fn add_rules<'a>(
+    alloc: Global,
+    command: Result<Command<'a>, AllocError>,
+) -> Result<Command<'a>, AllocError>
+    ensures app { (a : App) → IfOk command.entry (IsApp a) → IfOk result (IsApp (with_rules a)) }
+    ensures refused { OnErr command.entry LibraryRefused → OnErr result LibraryRefused }
+{
+    let command = with_arg(command, rule(alloc));
+    let command = with_arg(command, no_rule(alloc));
+    let json = switch(
+        alloc,
+        "json",
+        "Print a JSON object for each finding, one a line",
+    );
+    with_arg(command, json)
 }
 
 /// Which files are read in place of one without a line table.

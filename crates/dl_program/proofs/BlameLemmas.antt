@@ -7,6 +7,8 @@ use Rattle.dl_addr.specs.declared.question.WhichFound.TheVariants as found
 use Rattle.dl_sources.specs.declared.question.SourcesAround.{SourcesAround}
 use Rattle.dl_sources.specs.declared.question.Sums.{Sums}
 use Rattle.dl_sources.specs.declared.question.Sums.TheVariants as sums
+use Rattle.dl_dump.specs.declared.unit_dumping.UnitAt.{UnitAt}
+use Rattle.dl_dump.specs.declared.unit_dumping.UnitAt.TheVariants as unit
 use Rattle.dl_elf.specs.declared.name.SectionName.{SectionName}
 use Rattle.dl_file.specs.declared.read_fault.ReadFault.{ReadFault}
 use Rattle.dl_print.specs.declared.summary.Summary.{Summary}
@@ -29,7 +31,7 @@ use Rattle.dl_program.specs.Blaming as stops
 use Rattle.dl_program.specs.Blaming.{BlamesOver, IsBlamedOver, IsNoRead}
 use Rattle.dl_program.specs.Stops.{over_file}
 use Rattle.dl_program.specs.Work.{BlamesInput, stopped}
-use Rattle.dl_program.specs.Answers.{all_whole, answered, answered_around, summed, summed_around, unless_damaged}
+use Rattle.dl_program.specs.Answers.{all_whole, answered, answered_around, summed, summed_around, unit_shown, unless_damaged}
 use Rattle.dl_program.specs.Asked.{SectionWords, file_of, section_of}
 
 -- a failed read that is told is the command's
@@ -46,6 +48,11 @@ pub sums_read : (answer : Result Sums RunFault) → summed answer ≡ Err fault.
 sums_read (Ok sums.Agree) e = absurd cc
 sums_read (Ok sums.Differ) e = absurd cc
 sums_read (Err f) e = same_answer f e
+
+pub unit_read : (answer : Result UnitAt RunFault) → unit_shown answer ≡ Err fault.Read → answer ≡ Err fault.Read
+unit_read (Ok unit.Whole) e = absurd cc
+unit_read (Ok unit.NoUnit) e = absurd cc
+unit_read (Err f) e = same_answer f e
 
 pub sums_around_read : (answer : Result SourcesAround RunFault) → summed_around answer ≡ Err fault.Read
     → answer ≡ Err fault.Read
@@ -98,6 +105,12 @@ sums_writer fails (Ok sums.Agree) blames = tt
 sums_writer fails (Ok sums.Differ) blames = tt
 sums_writer fails (Err f) blames = blames
 
+pub unit_writer : (fails : Type 0) (answer : Result UnitAt RunFault) → BlamesWriter fails answer
+    → BlamesWriter fails (unit_shown answer)
+unit_writer fails (Ok unit.Whole) blames = tt
+unit_writer fails (Ok unit.NoUnit) blames = tt
+unit_writer fails (Err f) blames = blames
+
 pub sums_around_writer : (fails : Type 0) (answer : Result SourcesAround RunFault) → BlamesWriter fails answer
     → BlamesWriter fails (summed_around answer)
 sums_around_writer fails (Err f) blames = blames
@@ -109,9 +122,9 @@ sums_around_writer fails (Ok around) blames = by around.sums around.damaged
     by sums.Agree None = tt
     by sums.Differ None = tt
 
-pub stopped_writer : (fails : Type 0) (answer : Result Survey RunFault) → BlamesWriter fails answer
+pub stopped_writer : {A : Type 0} (fails : Type 0) (answer : Result A RunFault) → BlamesWriter fails answer
     → stops.BlamesWriter fails (stopped answer)
-stopped_writer fails (Ok survey) blames = tt
+stopped_writer fails (Ok answered) blames = tt
 stopped_writer fails (Err f) blames = blames
 
 -- a string section that can't be had is no failed write
@@ -130,8 +143,8 @@ files_writer fails refuses held others line_str str f (inr (section, is, stops))
 pub same_stop : {A : Type 0} (f : RunFault) → ◌≡◌ {A = Result A Stop} (Err (Run f)) (Err (Run fault.Read)) → f ≡ fault.Read
 same_stop f e = cc
 
-pub stopped_read : (answer : Result Survey RunFault) → stopped answer ≡ Err (Run fault.Read) → answer ≡ Err fault.Read
-stopped_read (Ok survey) e = absurd cc
+pub stopped_read : {A : Type 0} (answer : Result A RunFault) → stopped answer ≡ Err (Run fault.Read) → answer ≡ Err fault.Read
+stopped_read (Ok answered) e = absurd cc
 stopped_read (Err f) e = let is = same_stop f e in cc
 
 -- ---- the work for a request
@@ -185,9 +198,9 @@ run_writer : (fails : Type 0) (f : RunFault) → IsBlamedOver fails (at.Run f) �
 run_writer fails fault.Read blames = absurd blames
 run_writer fails other blames = blames
 
-pub over_writer : (fails : Type 0) (answer : Result Survey FileStop) → BlamesOver fails answer
+pub over_writer : {A : Type 0} (fails : Type 0) (answer : Result A FileStop) → BlamesOver fails answer
     → stops.BlamesWriter fails (over_file answer)
-over_writer fails (Ok survey) blames = tt
+over_writer fails (Ok answered) blames = tt
 over_writer fails (Err (at.Run f)) blames = run_writer fails f blames
 over_writer fails (Err (at.File p g)) blames = tt
 over_writer fails (Err (at.NoSection p n)) blames = tt
@@ -196,9 +209,9 @@ pub run_reads : (fails : Type 0) (f : RunFault) → IsBlamedOver fails (at.Run f
 run_reads fails fault.Read blames = blames
 run_reads fails other blames = tt
 
-pub over_reads : (fails : Type 0) (answer : Result Survey FileStop) → BlamesOver fails answer
+pub over_reads : {A : Type 0} (fails : Type 0) (answer : Result A FileStop) → BlamesOver fails answer
     → stops.ReadsNothing (over_file answer)
-over_reads fails (Ok survey) blames = tt
+over_reads fails (Ok answered) blames = tt
 over_reads fails (Err (at.Run f)) blames = run_reads fails f blames
 over_reads fails (Err (at.File p g)) blames = tt
 over_reads fails (Err (at.NoSection p n)) blames = tt

@@ -1,6 +1,7 @@
 -- When a command has read a section to its end.
-use Rattle.std.proofs.Common.{◌≡◌, None, Some, Option, Result, Ok, Err, refl, subst, ap, ◌∙◌}
+use Rattle.std.proofs.Common.{◌≡◌, ℕ, None, Some, Option, Result, Ok, Err, refl, subst, ap, ◌∙◌}
 use Rattle.std.specs.Prelude.{OnOk, IfOk}
+use Rattle.dl_dump.specs.declared.details.Details.{Details}
 use Rattle.dl_look.specs.declared.place.Place.{Place}
 use Rattle.dl_print.specs.declared.summary.Summary.{Summary}
 use Rattle.dl_sections.specs.Ending.{WhereWhole}
@@ -11,7 +12,7 @@ use Rattle.dl_sections.specs.declared.fault.RunFault.TheVariants as fault
 use Rattle.dl_program.specs.Answers.{all_whole, unless_damaged}
 use Rattle.dl_program.specs.Whole.{HasReadAll}
 use Rattle.dl_program.specs.declared.command.Command.{Command}
-use Rattle.dl_program.specs.declared.command.Command.TheVariants.{Addr, AddrAround, Find, Lines, LinesAround, Sources}
+use Rattle.dl_program.specs.declared.command.Command.TheVariants.{Addr, AddrAround, DumpUnit, Find, Lines, LinesAround, Sources}
 use Rattle.dl_program.specs.declared.command.Command.TheVariants.{SourcesAround}
 
 -- an answer of a command, by its name
@@ -49,6 +50,12 @@ find_over P own place answer result is told over read =
     by (Err fault.NotFound) over read = over refl
     by (Err other) over read = absurd read
 
+-- a dump of one unit
+pub unit_over : (P : Type 0) (own : Command) (details : Details) (unit : ℕ) (result : Result Survey RunFault)
+    → own ≡ DumpUnit details unit → HasReadAll own result → P
+unit_over P own details unit result is read =
+    absurd (as_named own (DumpUnit details unit) result result is refl read)
+
 -- the fault that a command answers where it has read all
 abbrev pub lack_of : Command → RunFault
 lack_of (Sources q) = fault.TwoSums
@@ -57,6 +64,7 @@ lack_of other = fault.NotFound
 
 lacks : (command : Command) (f : RunFault) → HasReadAll command (Err f) → f ≡ lack_of command
 lacks (Find place) fault.NotFound read = refl
+lacks (DumpUnit details unit) f read = absurd read
 lacks (Addr q) fault.NotFound read = refl
 lacks (AddrAround q) fault.NotFound read = refl
 lacks (Lines q) fault.NotFound read = refl
@@ -67,6 +75,7 @@ lacks command f read = absurd read
 
 is_whole : (command : Command) (survey : Survey) → HasReadAll command (Ok survey) → survey.damaged ≡ None
 is_whole (Find place) survey read = absurd read
+is_whole (DumpUnit details unit) survey read = absurd read
 is_whole command survey read = read
 
 -- one whose reading doesn't end with that fault. tells: what is told of its answer

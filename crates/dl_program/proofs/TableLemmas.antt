@@ -93,10 +93,10 @@ found_stops refuses units fails path name command f t start now hears stop looks
 
 -- ---- the errors that opening and reading may give
 
-ends_wider : (fails wider : Error → Type 0) (path : Text) (stream : Option Stream) (answer : Result Survey RunFault)
-    (result : Result Survey FileStop) → ((e : Error) → fails e → wider e) → EndsAt fails path stream answer result
+pub ends_wider : {A : Type 0} (fails wider : Error → Type 0) (path : Text) (stream : Option Stream) (answer : Result A RunFault)
+    (result : Result A FileStop) → ((e : Error) → fails e → wider e) → EndsAt fails path stream answer result
     → EndsAt wider path stream answer result
-ends_wider fails wider path stream (Ok survey) result more ends = ends
+ends_wider fails wider path stream (Ok answered) result more ends = ends
 ends_wider fails wider path stream (Err f) result more (stop, is, at) =
     (stop, is, stops_at_wider fails wider path stream f stop more at)
 

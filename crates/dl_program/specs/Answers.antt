@@ -4,10 +4,12 @@ use Rattle.dl_print.specs.declared.summary.Summary.{Summary}
 use Rattle.dl_sections.specs.declared.around.DamagedUnits.{DamagedUnits}
 use Rattle.dl_sections.specs.declared.around.Survey.{Survey}
 use Rattle.dl_sections.specs.declared.fault.RunFault.{RunFault}
-use Rattle.dl_sections.specs.declared.fault.RunFault.TheVariants.{NotFound, TwoSums}
+use Rattle.dl_sections.specs.declared.fault.RunFault.TheVariants as fault
 use Rattle.dl_addr.specs.declared.question.FoundAround.{FoundAround}
 use Rattle.dl_addr.specs.declared.question.WhichFound.{WhichFound}
 use Rattle.dl_addr.specs.declared.question.WhichFound.TheVariants as found
+use Rattle.dl_dump.specs.declared.unit_dumping.UnitAt.{UnitAt}
+use Rattle.dl_dump.specs.declared.unit_dumping.UnitAt.TheVariants as unit
 use Rattle.dl_sources.specs.declared.question.SourcesAround.{SourcesAround}
 use Rattle.dl_sources.specs.declared.question.Sums.{Sums}
 use Rattle.dl_sources.specs.declared.question.Sums.TheVariants.{Agree, Differ}
@@ -16,13 +18,19 @@ use Rattle.dl_program.specs.declared.answers.TheConstants.{NOTHING}
 -- what `addr` or `lines` answered, as the other commands answer
 abbrev pub answered : Result WhichFound RunFault → Result Summary RunFault
 answered (Ok found.All) = Ok NOTHING
-answered (Ok found.NotAll) = Err NotFound
+answered (Ok found.NotAll) = Err fault.NotFound
 answered (Err f) = Err f
+
+-- the same of a dump of one unit
+abbrev pub unit_shown : Result UnitAt RunFault → Result Summary RunFault
+unit_shown (Ok unit.Whole) = Ok NOTHING
+unit_shown (Ok unit.NoUnit) = Err fault.NoUnit
+unit_shown (Err f) = Err f
 
 -- the same of `sources`
 abbrev pub summed : Result Sums RunFault → Result Summary RunFault
 summed (Ok Agree) = Ok NOTHING
-summed (Ok Differ) = Err TwoSums
+summed (Ok Differ) = Err fault.TwoSums
 summed (Err f) = Err f
 
 -- what a command answered that ends at the first damaged unit, as those answer that go on

@@ -1,5 +1,5 @@
 -- What a request asks: which command, of which file, or of which section on the input.
-use Rattle.std.specs.Prelude.{ℕ, Bool, true, false, List, [], Option, Some, None, option_map, option_and_then, Result}
+use Rattle.std.specs.Prelude.{ℕ, ◌-◌, Bool, true, false, List, [], Option, Some, None, option_map, option_and_then, Result}
 use Rattle.std.specs.Prelude.{◌≡◌, codes, if◌then◌else◌}
 use Rattle.std.specs.Io.KnownBytes.{Consumes, Keeps}
 use Rattle.std.specs.Option.{option_copied}
@@ -10,6 +10,7 @@ use Rattle.dl_head.specs.declared.dialect.Dialect.{Dialect}
 use Rattle.dl_head.specs.Dialect.{version_5}
 use Rattle.dl_dirs.specs.declared.compilation.CompilationDirectories.{CompilationDirectories}
 use Rattle.dl_dirs.specs.Compilation.{directory_by}
+use Rattle.dl_look.specs.declared.code_ranges.AddressRange.{AddressRange}
 use Rattle.dl_look.specs.declared.place.Place.{Place}
 use Rattle.dl_sections.specs.declared.options.TheConstants.{SECTION_LIMIT}
 use Rattle.dl_sections.specs.declared.fault.RunFault.{RunFault}
@@ -17,20 +18,25 @@ use Rattle.dl_sections.specs.declared.around.Damage.{Damage}
 use Rattle.dl_sections.specs.declared.around.Survey.{Survey}
 use Rattle.dl_print.specs.declared.summary.Summary.{Summary}
 use Rattle.dl_cmd.specs.Address.{address_in}
+use Rattle.dl_cmd.specs.Range.{range_in}
 use Rattle.dl_sections.specs.Commands.{Checks, Copies, CopiesTo5, Finds}
 use Rattle.dl_sections.specs.AroundCommands.{ChecksAround}
-use Rattle.dl_cmd.specs.Job.{Request, Text, addr, check, copy, dump, find, index, lines, sources}
+use Rattle.dl_cmd.specs.Job.{DumpTexts, Request, Text, addr, check, copy, dump, find, index, lines, lint, sources}
 use Rattle.dl_print.specs.ValueText.{Strings}
 use Rattle.dl_open.specs.declared.named.Sections.{Sections}
 use Rattle.dl_open.specs.declared.named.Sections.TheVariants as looked
 use Rattle.dl_dump.specs.Commands.{DumpsDetails, DumpsDetailsAround}
+use Rattle.dl_dump.specs.RangeCommands.{DumpsRange, DumpsRangeAround}
+use Rattle.dl_dump.specs.UnitCommand.{DumpsUnit}
+use Rattle.dl_dump.specs.declared.unit_dumping.UnitAt.{UnitAt}
+use Rattle.dl_dump_json.specs.Commands.{DumpsJson, DumpsJsonAround}
 use Rattle.dl_program.specs.Shown.{ShownTexts, directories_asked, shown_seen}
 use Rattle.dl_program.specs.Units.{are_sizes, older_by, units_of}
 use Rattle.dl_program.specs.declared.command.Command.{Command}
-use Rattle.dl_program.specs.declared.command.Command.TheVariants.{Addr, Dump, DumpAround, Check, CheckAround, Find, Copy}
-use Rattle.dl_program.specs.declared.command.Command.TheVariants.{AddrAround, CopyTo5, Index, IndexAround, IndexUntil}
-use Rattle.dl_program.specs.declared.command.Command.TheVariants.{IndexUntilAround, Lines, LinesAround, Sources, SourcesAround}
-use Rattle.dl_program.specs.Answers.{all_whole, answered, answered_around, summed, summed_around}
+use Rattle.dl_program.specs.declared.command.Command.TheVariants.{Addr, Dump, DumpAround, DumpUnit, Check, CheckAround, Find, Copy}
+use Rattle.dl_program.specs.declared.command.Command.TheVariants.{AddrAround, CopyTo5, DumpJson, DumpJsonAround, DumpRange, DumpRangeAround, Index}
+use Rattle.dl_program.specs.declared.command.Command.TheVariants.{IndexAround, IndexUntil, IndexUntilAround, Lines, LinesAround, Sources, SourcesAround}
+use Rattle.dl_program.specs.Answers.{all_whole, answered, answered_around, summed, summed_around, unit_shown}
 use Rattle.dl_addr.specs.declared.question.WhichFound.{WhichFound}
 use Rattle.dl_addr.specs.declared.question.FoundAround.{FoundAround}
 use Rattle.dl_addr.specs.declared.question.Question.{Question}
@@ -56,6 +62,11 @@ place_of address op = option_map (λ n. record { address = n; op_index = op }) (
 pub data CommandData : Type 0 where
   dumps : ShownTexts → CommandData
   dumps_around : ShownTexts → CommandData
+  dumps_unit : ShownTexts → (unit : ℕ) → CommandData
+  dumps_range : ShownTexts → AddressRange → CommandData
+  dumps_range_around : ShownTexts → AddressRange → CommandData
+  dumps_json : CommandData
+  dumps_json_around : CommandData
   checks : CommandData
   checks_around : CommandData
   finds : Place → CommandData
@@ -75,6 +86,11 @@ pub data CommandData : Type 0 where
 abbrev pub command_seen : Command → CommandData
 command_seen (Dump details) = dumps (shown_seen details)
 command_seen (DumpAround details) = dumps_around (shown_seen details)
+command_seen (DumpUnit details unit) = dumps_unit (shown_seen details) unit
+command_seen (DumpRange details range) = dumps_range (shown_seen details) range
+command_seen (DumpRangeAround details range) = dumps_range_around (shown_seen details) range
+command_seen DumpJson = dumps_json
+command_seen DumpJsonAround = dumps_json_around
 command_seen Check = checks
 command_seen CheckAround = checks_around
 command_seen (Find place) = finds place
@@ -91,13 +107,43 @@ command_seen (LinesAround question) = tells_lines_around question
 command_seen (Sources question) = tells_sources question
 command_seen (SourcesAround question) = tells_sources_around question
 
--- the command; none where ADDRESS is no address, where a section of an object file is named without FILE, and of `addr`, `lines`,
--- `index` and `sources`, which are asked with what the file tells
+-- the addresses from LOW on and below HIGH that a word says
+abbrev pub address_range : Text → Option AddressRange
+address_range word = option_map (λ r. record { start = r.0; size = r.1 - r.0 }) (range_in word)
+
+-- the sequences of a range, after damaged units too or up to the first one
+abbrev pub range_asked : (keep_going : Bool) → ShownTexts → AddressRange → CommandData
+range_asked true shown range = dumps_range_around shown range
+range_asked false shown range = dumps_range shown range
+
+-- what lines `dump` prints: of the unit at an offset, of the sequences of a range, or of all units
+abbrev pub text_by : (unit range : Option Text) (keep_going : Bool) → ShownTexts → Option CommandData
+text_by (Some unit) range keep_going shown = option_map (dumps_unit shown) (address_in unit)
+text_by None (Some range) keep_going shown = option_map (range_asked keep_going shown) (address_range range)
+text_by None None true shown = Some (dumps_around shown)
+text_by None None false shown = Some (dumps shown)
+
+abbrev pub text_asked : DumpTexts → ShownTexts → Option CommandData
+text_asked w shown = text_by w.unit w.range w.keep_going shown
+
+abbrev pub json_asked : (keep_going : Bool) → CommandData
+json_asked true = dumps_json_around
+json_asked false = dumps_json
+
+-- `dump` with these words
+abbrev pub dump_asked : DumpTexts → Option CommandData
+dump_asked w =
+    if w.json then Some (json_asked w.keep_going) else text_asked w (record {
+      header = w.header;
+      operations = w.operations;
+      paths = w.paths;
+      directories = directories_asked w.comp_dir;
+    })
+
+-- the command; none where ADDRESS, OFFSET or LOW-HIGH says no address, where a section of an object file is named without FILE, of `addr`,
+-- `lines`, `index` and `sources`, which are asked with what the file tells, and of `lint`, which is none
 abbrev pub command_asked : Request → Option CommandData
-command_asked (dump file big units line_str str true header operations paths comp_dir) = Some (dumps_around
-    (record { header = header; operations = operations; paths = paths; directories = directories_asked comp_dir }))
-command_asked (dump file big units line_str str false header operations paths comp_dir) = Some (dumps
-    (record { header = header; operations = operations; paths = paths; directories = directories_asked comp_dir }))
+command_asked (dump words) = dump_asked words
 command_asked (check file big units true) = Some checks_around
 command_asked (check file big units false) = Some checks
 command_asked (find None big units address op (Some section) line_str str) = None
@@ -108,6 +154,7 @@ command_asked (addr words) = None
 command_asked (index words) = None
 command_asked (lines words) = None
 command_asked (sources words) = None
+command_asked (lint words) = None
 
 -- the same; none also where a size is no size
 abbrev pub command_of : Request → Option CommandData
@@ -115,7 +162,7 @@ command_of request = if are_sizes (units_of request) then command_asked request 
 
 -- the path of the ELF file
 abbrev pub file_of : Request → Option Text
-file_of (dump file big units line_str str keep_going header operations paths comp_dir) = file
+file_of (dump words) = words.file
 file_of (check file big units keep_going) = file
 file_of (find file big units address op section line_str str) = file
 file_of (copy file big units to_5 comp_dir) = file
@@ -123,6 +170,7 @@ file_of (addr words) = words.file
 file_of (index words) = words.file
 file_of (lines words) = words.file
 file_of (sources words) = words.file
+file_of (lint words) = words.file
 
 -- `-` is no path of a file
 abbrev pub unless_input : Option Text → Option Text
@@ -139,9 +187,10 @@ looked_into other = None
 
 -- the path of the ELF file in whose place one with its debug information may be read
 abbrev pub followed_path : Request → Option Text
-followed_path (dump file big units line_str str keep_going header operations paths comp_dir) = file
+followed_path (dump words) = words.file
 followed_path (check file big units keep_going) = file
 followed_path (sources words) = words.file
+followed_path (lint words) = words.file
 followed_path other = looked_into other
 
 -- the section of an object file that is looked into
@@ -160,8 +209,8 @@ pub record SectionWords : Type 0 where
   pub strings : Option Text
 
 abbrev pub section_of : Request → SectionWords
-section_of (dump file big units line_str str keep_going header operations paths comp_dir) =
-    record { big = big; older = units.older; line_str = line_str; strings = str }
+section_of (dump words) =
+    record { big = words.big; older = words.units.older; line_str = words.line_str; strings = words.strings }
 section_of (check file big units keep_going) =
     record { big = big; older = units.older; line_str = None; strings = None }
 section_of (find file big units address op section line_str str) =
@@ -174,6 +223,8 @@ section_of (index words) = record { big = false; older = words.units.older; line
 section_of (lines words) =
     record { big = words.big; older = words.units.older; line_str = words.line_str; strings = words.strings }
 section_of (sources words) =
+    record { big = words.big; older = words.units.older; line_str = words.line_str; strings = words.strings }
+section_of (lint words) =
     record { big = words.big; older = words.units.older; line_str = words.line_str; strings = words.strings }
 
 abbrev pub order_of : (big : Bool) → Order
@@ -231,6 +282,15 @@ Does refuses (Dump details) dialect s limit bytes left start now =
     EndsThere (DumpsDetails dialect (record { details = details; strings = s }) limit bytes left start now)
 Does refuses (DumpAround details) dialect s limit bytes left start now =
     DumpsDetailsAround dialect (record { details = details; strings = s }) limit bytes left start now
+Does refuses (DumpUnit details unit) dialect s limit bytes left start now = EndsThere (λ answer.
+    (at : Result UnitAt RunFault) × (answer ≡ unit_shown at)
+    × DumpsUnit dialect (record { details = details; strings = s }) unit limit bytes left start now at)
+Does refuses (DumpRange details range) dialect s limit bytes left start now =
+    EndsThere (DumpsRange refuses dialect (record { details = details; strings = s }) range limit bytes left start now)
+Does refuses (DumpRangeAround details range) dialect s limit bytes left start now =
+    DumpsRangeAround refuses dialect (record { details = details; strings = s }) range limit bytes left start now
+Does refuses DumpJson dialect s limit bytes left start now = EndsThere (DumpsJson dialect s limit bytes left start now)
+Does refuses DumpJsonAround dialect s limit bytes left start now = DumpsJsonAround dialect s limit bytes left start now
 Does refuses Check dialect s limit bytes left start now = EndsThere (Checks dialect limit bytes left start now)
 Does refuses CheckAround dialect s limit bytes left start now = ChecksAround dialect limit bytes left start now
 Does refuses (Find place) dialect s limit bytes left start now = EndsThere (Finds dialect s place limit bytes left start now)

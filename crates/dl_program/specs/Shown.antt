@@ -6,7 +6,7 @@ use Rattle.dl_dirs.specs.declared.compilation.CompilationDirectories.{Compilatio
 use Rattle.dl_dirs.specs.declared.compilation.CompilationDirectories.TheVariants as directories
 use Rattle.dl_dump.specs.declared.details.Details.{Details}
 use Rattle.dl_program.specs.declared.command.Command.{Command}
-use Rattle.dl_program.specs.declared.command.Command.TheVariants.{Dump, DumpAround}
+use Rattle.dl_program.specs.declared.command.Command.TheVariants.{Dump, DumpAround, DumpRange, DumpRangeAround, DumpUnit}
 
 -- what is known of the directories
 pub data KnownDirectories : Type 0 where
@@ -43,13 +43,22 @@ abbrev pub is_unknown : CompilationDirectories → Bool
 is_unknown directories.Unknown = true
 is_unknown other = false
 
+abbrev pub shows_found_paths : Details → Bool
+shows_found_paths d = d.paths && is_unknown d.directories
+
 abbrev pub wants_directories : Command → Bool
-wants_directories (Dump d) = d.paths && is_unknown d.directories
-wants_directories (DumpAround d) = d.paths && is_unknown d.directories
+wants_directories (Dump d) = shows_found_paths d
+wants_directories (DumpAround d) = shows_found_paths d
+wants_directories (DumpUnit d unit) = shows_found_paths d
+wants_directories (DumpRange d range) = shows_found_paths d
+wants_directories (DumpRangeAround d range) = shows_found_paths d
 wants_directories other = false
 
 -- the same command, of units that were compiled in these
 abbrev pub under : Command → CompilationDirectories → Command
 under (Dump d) directories = Dump (record d { directories = directories })
 under (DumpAround d) directories = DumpAround (record d { directories = directories })
+under (DumpUnit d unit) directories = DumpUnit (record d { directories = directories }) unit
+under (DumpRange d range) directories = DumpRange (record d { directories = directories }) range
+under (DumpRangeAround d range) directories = DumpRangeAround (record d { directories = directories }) range
 under other directories = other

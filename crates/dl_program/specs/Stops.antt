@@ -3,7 +3,6 @@ use Rattle.std.specs.Prelude.{⊤, ℕ, ◌==◌, if◌then◌else◌, List, [],
 use Rattle.std.specs.Prelude.{Err}
 use Rattle.dl_sections.specs.RunText.{run_fault_text, status}
 use Rattle.dl_sections.specs.declared.around.DamagedUnits.{DamagedUnits}
-use Rattle.dl_sections.specs.declared.around.Survey.{Survey}
 use Rattle.dl_sections.specs.declared.fault.RunFault.TheVariants as fault
 use Rattle.dl_open.specs.declared.stop.FileStop.{FileStop}
 use Rattle.dl_open.specs.declared.stop.FileStop.TheVariants as at
@@ -13,7 +12,7 @@ use Rattle.dl_open.specs.Shown.{shown_bytes, shown_word}
 use Rattle.dl_open.specs.Stops.{file_fault_status, file_fault_text}
 use Rattle.dl_program.specs.declared.stop.Stop.{Stop}
 use Rattle.dl_program.specs.declared.stop.Stop.TheVariants.{Damaged, NoAddress, NoSection, NotAddress, NotUnderstood, Run}
-use Rattle.dl_program.specs.declared.stop.Stop.TheVariants.{File, Index, NotLine, OtherFile}
+use Rattle.dl_program.specs.declared.stop.Stop.TheVariants.{File, Index, NotLine, NotRule, OtherFile}
 
 -- how many units are damaged beside the first
 abbrev pub others_text : ℕ → List ℕ
@@ -36,6 +35,7 @@ abbrev pub stop_text : Stop → Option (List ℕ)
 stop_text NotUnderstood = Some (codes "words not understood")
 stop_text (NotAddress word) = Some (shown_word word.now ++ codes " is no address")
 stop_text (NotLine word) = Some (shown_word word.now ++ codes " is no PATH:LINE")
+stop_text (NotRule word) = Some (shown_word word.now ++ codes " is no rule")
 stop_text (Run f) = Some (run_fault_text f)
 stop_text (File path f) = option_map (λ text. shown_word path.now ++ codes ": " ++ text) (file_fault_text f)
 stop_text (Index path f) = None
@@ -55,6 +55,7 @@ abbrev pub stop_status : Stop → ℕ
 stop_status NotUnderstood = 2
 stop_status (NotAddress word) = 2
 stop_status (NotLine word) = 2
+stop_status (NotRule word) = 2
 stop_status (Run f) = status f
 stop_status (File path f) = file_fault_status f
 stop_status (Index path f) = index_status f
@@ -72,6 +73,6 @@ stop_of (at.File path f) = File path f
 stop_of (at.NoSection path name) = NoSection path name
 
 -- what a command over a file answered, as the program answers
-abbrev pub over_file : Result Survey FileStop → Result Survey Stop
-over_file (Ok survey) = Ok survey
+abbrev pub over_file : {A : Type 0} → Result A FileStop → Result A Stop
+over_file (Ok answered) = Ok answered
 over_file (Err stop) = Err (stop_of stop)

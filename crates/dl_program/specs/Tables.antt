@@ -27,9 +27,9 @@ use Rattle.dl_program.specs.Whole.{HasReadAll}
 -- ---- the command over the line section. fails: the errors that opening and reading the file may give
 
 -- the program answers what its command answered
-abbrev pub EndsAt : (fails : Error → Type 0) (path : Text) (stream : Option Stream) → Result Survey RunFault
-    → Result Survey FileStop → Type 0
-EndsAt fails path stream answer result = MatchResult answer (λ survey. result ≡ Ok survey)
+abbrev pub EndsAt : {A : Type 0} → (fails : Error → Type 0) (path : Text) (stream : Option Stream) → Result A RunFault
+    → Result A FileStop → Type 0
+EndsAt fails path stream answer result = MatchResult answer (λ answered. result ≡ Ok answered)
     (λ f. (stop : FileStop) × (result ≡ Err stop) × StopsAt fails path stream f stop)
 
 -- the command is done, over the bytes of the line section in the file's order, with the file's string sections. read:

@@ -9,7 +9,7 @@ use Rattle.dl_head.specs.declared.dialect.Older.{Older}
 use Rattle.dl_head.specs.declared.dialect.Older.TheVariants.{Foreign, Read}
 use Rattle.dl_open.specs.declared.dialect.FileUnits.{FileUnits}
 use Rattle.dl_open.specs.declared.dialect.FileUnits.TheVariants.{ByClass, Sized, Version5}
-use Rattle.dl_cmd.specs.Job.{Request, Text, UnitTexts, addr, check, copy, dump, find, index, lines, sources}
+use Rattle.dl_cmd.specs.Job.{Request, Text, UnitTexts, addr, check, copy, dump, find, index, lines, lint, sources}
 
 -- the size in bytes that a word says
 abbrev pub size_in : Text → Option AddressSize
@@ -37,7 +37,7 @@ file_units w = if w.version_5 then Version5 else option_map_or Sized (option_and
 
 -- what a request says of them
 abbrev pub units_of : Request → UnitTexts
-units_of (dump file big units line_str str keep_going header operations paths comp_dir) = units
+units_of (dump words) = words.units
 units_of (check file big units keep_going) = units
 units_of (find file big units address op section line_str str) = units
 units_of (copy file big units to_5 comp_dir) = units
@@ -45,3 +45,4 @@ units_of (addr words) = words.units
 units_of (index words) = words.units
 units_of (lines words) = words.units
 units_of (sources words) = words.units
+units_of (lint words) = words.units

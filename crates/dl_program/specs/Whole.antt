@@ -4,14 +4,15 @@ use Rattle.dl_sections.specs.declared.around.Survey.{Survey}
 use Rattle.dl_sections.specs.declared.fault.RunFault.{RunFault}
 use Rattle.dl_sections.specs.declared.fault.RunFault.TheVariants.{NotFound, TwoSums}
 use Rattle.dl_program.specs.declared.command.Command.{Command}
-use Rattle.dl_program.specs.declared.command.Command.TheVariants.{Addr, AddrAround, Find, Lines, LinesAround, Sources}
+use Rattle.dl_program.specs.declared.command.Command.TheVariants.{Addr, AddrAround, DumpUnit, Find, Lines, LinesAround, Sources}
 use Rattle.dl_program.specs.declared.command.Command.TheVariants.{SourcesAround}
 
 -- by what it answers: success around no damaged unit, that something wasn't found, or that sums differ. `find` ends at what
--- it finds
+-- it finds, and a dump of one unit at its end
 abbrev pub HasReadAll : Command → Result Survey RunFault → Type 0
 HasReadAll (Find place) (Err NotFound) = ⊤
 HasReadAll (Find place) other = ⊥
+HasReadAll (DumpUnit details unit) other = ⊥
 HasReadAll (Addr question) (Err NotFound) = ⊤
 HasReadAll (AddrAround question) (Err NotFound) = ⊤
 HasReadAll (Lines question) (Err NotFound) = ⊤

@@ -38,13 +38,13 @@ abbrev pub StopsBefore : {A : Type 0} → (bytes : List ℕ) (start now : Option
 StopsBefore bytes start now result stop = (result ≡ Err stop) × (bytes ≡ []) × Keeps start now
 
 -- the same, and no damaged unit is told of
-abbrev pub StopsUntold : (bytes : List ℕ) (start now : Option (List ℕ)) (hears : List Damage → Type 0)
-    (result : Result Survey Stop) → Stop → Type 0
+abbrev pub StopsUntold : {A : Type 0} → (bytes : List ℕ) (start now : Option (List ℕ)) (hears : List Damage → Type 0)
+    (result : Result A Stop) → Stop → Type 0
 StopsUntold bytes start now hears result stop = StopsBefore bytes start now result stop × hears []
 
 -- a command's answer, its fault being the reason to stop
-abbrev pub stopped : Result Survey RunFault → Result Survey Stop
-stopped (Ok survey) = Ok survey
+abbrev pub stopped : {A : Type 0} → Result A RunFault → Result A Stop
+stopped (Ok answered) = Ok answered
 stopped (Err f) = Err (Run f)
 
 -- over a section on the input: the command is done with the string sections that are named, unless these stop the

@@ -1,8 +1,9 @@
 //! What commands answer that count nothing, as those answer that count.
 ghost use Rattle.std.specs.Prelude.{◌≡◌};
-ghost use Rattle.dl_program.specs.Answers.{all_whole, answered, answered_around, summed, summed_around, unless_damaged};
+ghost use Rattle.dl_program.specs.Answers.{all_whole, answered, answered_around, summed, summed_around, unit_shown, unless_damaged};
 
 use dl_addr::{FoundAround, WhichFound};
+use dl_dump::UnitAt;
 use dl_sections::{DamagedUnits, RunFault, Summary, Survey};
 use dl_sources::{SourcesAround, Sums};
 
@@ -48,6 +49,17 @@ pub fn answered_around(found: Result<FoundAround, RunFault>) -> Result<Survey, R
 {
     let FoundAround { found, damaged } = found?;
     unless_damaged(damaged, all_whole(answered(Ok(found))))
+}
+
+/// What `dump_unit` answered, as the other commands answer.
+pub fn unit_shown(unit: Result<UnitAt, RunFault>) -> Result<Summary, RunFault>
+    ensures { result ≡ unit_shown unit }
+{
+    match unit {
+        Ok(UnitAt::Whole) => Ok(NOTHING),
+        Ok(UnitAt::NoUnit) => Err(RunFault::NoUnit),
+        Err(fault) => Err(fault),
+    }
 }
 
 /// What `sources` answered, as the other commands answer.

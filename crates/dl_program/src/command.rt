@@ -7,23 +7,25 @@ ghost use Rattle.dl_sections.specs.Blaming.{BlamesWriter};
 ghost use Rattle.dl_sections.specs.Commands.{strings_in};
 ghost use Rattle.dl_cmd.specs.Job.{request_made};
 ghost use Rattle.dl_dirs.specs.Compilation.{directory_by};
-ghost use Rattle.std.specs.Prelude.{if◌then◌else◌};
-ghost use Rattle.dl_program.specs.declared.command.Command.TheVariants.{Dump, DumpAround};
-ghost use Rattle.dl_program.specs.Asked.{Does, WithoutTable, command_asked, command_seen, command_of, is_copy, looks_up, place_of};
+ghost use Rattle.dl_program.specs.Asked.{Does, WithoutTable, command_asked, command_seen, command_of, is_copy, looks_up};
 ghost use Rattle.dl_program.specs.Asked.{sections_of};
-ghost use Rattle.dl_program.specs.Shown.{directories_asked, directories_seen, under, wants_directories};
+ghost use Rattle.dl_program.specs.Shown.{directories_asked, directories_seen, shows_found_paths, under, wants_directories};
 ghost use Rattle.dl_program.specs.Whole.{HasReadAll};
 
-use crate::answers::{all_whole, answered, answered_around, summed, summed_around};
+use crate::answers::{all_whole, answered, answered_around, summed, summed_around, unit_shown};
+use crate::asking::{dump_of, place};
 use crate::unit_words::{are_sizes, units_of};
 use dl_addr::{Question, addr, addr_around};
-use dl_cmd::{Job, read_address};
+use dl_cmd::Job;
 use dl_dirs::CompilationDirectories;
-use dl_dump::{Details, dump_details, dump_details_around};
+use dl_dump::{
+    Details, dump_details, dump_details_around, dump_range, dump_range_around, dump_unit,
+};
+use dl_dump_json::{dump_json, dump_json_around};
 use dl_head::{Dialect, Older};
 use dl_input::Source;
 use dl_lines::{LinesQuestion, lines, lines_around};
-use dl_look::Place;
+use dl_look::{AddressRange, Place};
 use dl_making::{
     Table, write_index, write_index_around, write_index_until, write_index_until_around,
 };
@@ -55,6 +57,16 @@ pub enum Command<'a> {
     Dump(Details<'a>),
     /// Print all units, those that are damaged as far as they are not, and tell of these.
     DumpAround(Details<'a>),
+    /// Print the unit at this offset of the section, with these details.
+    DumpUnit(Details<'a>, u64),
+    /// Print the sequences that cover an address of this range, with these details.
+    DumpRange(Details<'a>, AddressRange),
+    /// Print them, of the units that are damaged those before their faults, and tell of these.
+    DumpRangeAround(Details<'a>, AddressRange),
+    /// Print all units as JSON objects.
+    DumpJson,
+    /// Print them, those that are damaged as far as they are not, and tell of these.
+    DumpJsonAround,
     /// Count units, sequences and rows.
     Check,
     /// Count them, and the units that are damaged, and tell of these.
@@ -87,27 +99,6 @@ pub enum Command<'a> {
     SourcesAround(SourcesQuestion<'a>),
 }
 
-/// The place that the words name; None where ADDRESS is no address.
-fn place(address: Option<&str>, op: u8) -> Option<Place>
-    ensures { result ≡ place_of (option_copied address.entry) op }
-{
-    Some(Place {
-        address: read_address(false, address?)?,
-        op_index: op,
-    })
-}
-
-/// The command that shows these details, after damaged units too or up to the first one.
-fn dump_of(keeps_going: bool, details: Details<'_>) -> Command<'_>
-    ensures { result ≡ (if keeps_going then DumpAround details.entry else Dump details.entry) }
-{
-    if keeps_going {
-        Command::DumpAround(details)
-    } else {
-        Command::Dump(details)
-    }
-}
-
 /// The compilation directory of all units, where it is said.
 pub fn directory_said(directory: Option<&str>) -> CompilationDirectories<'_>
     ensures by { (n : ℕ) → directory_by result n ≡ option_copied directory.entry }
@@ -119,10 +110,27 @@ pub fn directory_said(directory: Option<&str>) -> CompilationDirectories<'_>
     }
 }
 
+/// Whether paths are shown by the directories in which units were compiled, of which none is said.
+fn shows_found_paths(details: Details<'_>) -> bool
+    ensures { result ≡ shows_found_paths details.entry }
+{
+    details.paths && matches!(details.directories, CompilationDirectories::Unknown)
+}
+
+/// The same details, of units that were compiled in these directories.
+fn details_under<'a>(details: Details<'a>, directories: CompilationDirectories<'a>) -> Details<'a>
+    ensures { result ≡ record details.entry { directories = directories.entry } }
+{
+    Details {
+        directories,
+        ..details
+    }
+}
+
 impl<'a> Command<'a> {
-    /// What a job asks; None where its ADDRESS is no address or a size no size, where it names a section of an object
-    /// file without a file, of `addr`, `lines`, `index` and
-    /// `sources`, which are asked with what the file tells.
+    /// What a job asks; None where its ADDRESS, OFFSET or LOW-HIGH says no address or a size no size, where it names a section of an
+    /// object file without a file, and of `addr`, `lines`, `index`, `sources` and `lint`, which aren't commands or are asked
+    /// with what the file tells.
     pub fn of(job: &Job<'a>) -> Option<Command<'a>>
         ensures { option_map command_seen result ≡ command_of (request_made job.now) }
     {
@@ -137,22 +145,7 @@ impl<'a> Command<'a> {
         ensures { option_map command_seen result ≡ command_asked (request_made job.now) }
     {
         match job {
-            Job::Dump {
-                keep_going,
-                header,
-                operations,
-                paths,
-                comp_dir,
-                ..
-            } => {
-                let details = Details {
-                    header: *header,
-                    operations: *operations,
-                    paths: *paths,
-                    directories: directory_said(*comp_dir),
-                };
-                Some(dump_of(*keep_going, details))
-            }
+            Job::Dump(words) => dump_of(words),
             Job::Check {
                 keep_going: true,
                 ..
@@ -170,7 +163,7 @@ impl<'a> Command<'a> {
                 ..
             } => Some(Command::CopyTo5(*comp_dir)),
             Job::Copy { .. } => Some(Command::Copy),
-            Job::Addr(_) | Job::Index(_) | Job::Lines(_) | Job::Sources(_) => None,
+            Job::Addr(_) | Job::Index(_) | Job::Lines(_) | Job::Sources(_) | Job::Lint(_) => None,
         }
     }
 
@@ -179,9 +172,11 @@ impl<'a> Command<'a> {
         ensures { result ≡ wants_directories self.entry }
     {
         match self {
-            Command::Dump(details) | Command::DumpAround(details) => {
-                details.paths && matches!(details.directories, CompilationDirectories::Unknown)
-            }
+            Command::Dump(details)
+            | Command::DumpAround(details)
+            | Command::DumpUnit(details, _)
+            | Command::DumpRange(details, _)
+            | Command::DumpRangeAround(details, _) => shows_found_paths(details),
             _ => false,
         }
     }
@@ -191,14 +186,19 @@ impl<'a> Command<'a> {
         ensures { result ≡ under self.entry directories.entry }
     {
         match self {
-            Command::Dump(details) => Command::Dump(Details {
-                directories,
-                ..details
-            }),
-            Command::DumpAround(details) => Command::DumpAround(Details {
-                directories,
-                ..details
-            }),
+            Command::Dump(details) => Command::Dump(details_under(details, directories)),
+            Command::DumpAround(details) => {
+                Command::DumpAround(details_under(details, directories))
+            }
+            Command::DumpUnit(details, unit) => {
+                Command::DumpUnit(details_under(details, directories), unit)
+            }
+            Command::DumpRange(details, range) => {
+                Command::DumpRange(details_under(details, directories), range)
+            }
+            Command::DumpRangeAround(details, range) => {
+                Command::DumpRangeAround(details_under(details, directories), range)
+            }
             other => other,
         }
     }
@@ -210,6 +210,11 @@ impl<'a> Command<'a> {
         match self {
             Command::Dump(_)
             | Command::DumpAround(_)
+            | Command::DumpUnit(_, _)
+            | Command::DumpRange(_, _)
+            | Command::DumpRangeAround(_, _)
+            | Command::DumpJson
+            | Command::DumpJsonAround
             | Command::Find(_)
             | Command::Addr(_)
             | Command::AddrAround(_)
@@ -294,6 +299,17 @@ impl<'a> Command<'a> {
             Command::Dump(details) => {
                 all_whole(dump_details(alloc, input, output, options, &details))
             }
+            Command::DumpUnit(details, unit) => all_whole(unit_shown(dump_unit(
+                alloc, input, output, options, &details, unit,
+            ))),
+            Command::DumpRange(details, range) => all_whole(dump_range(
+                memory, input, output, options, &details, range,
+            )),
+            Command::DumpRangeAround(details, range) => {
+                dump_range_around(memory, input, output, options, &details, range, damages)
+            }
+            Command::DumpJson => all_whole(dump_json(alloc, input, output, options)),
+            Command::DumpJsonAround => dump_json_around(alloc, input, output, options, damages),
             Command::Check => all_whole(check(alloc, input, output, options)),
             Command::Find(place) => all_whole(find(alloc, input, output, place, options)),
             Command::Copy => all_whole(copy(memory, input, output, options)),

@@ -35,7 +35,7 @@ impl Section<'_> {
 
     /// What is read of the section: units of version 5, in the order that the words say, and those of versions 2 to 4
     /// where they say the size of their addresses.
-    fn dialect(self) -> Dialect
+    pub fn dialect(self) -> Dialect
         ensures { result ≡ dialect_of (section_seen self.entry) }
     {
         Dialect {
@@ -46,11 +46,11 @@ impl Section<'_> {
 }
 
 /// A command's answer, its fault being the reason to stop.
-fn stopped<'a>(answer: Result<Survey, RunFault>) -> Result<Survey, Stop<'a>>
+pub fn stopped<'a, A>(answer: Result<A, RunFault>) -> Result<A, Stop<'a>>
     ensures { result ≡ stopped answer }
 {
     match answer {
-        Ok(survey) => Ok(survey),
+        Ok(answered) => Ok(answered),
         Err(fault) => Err(Stop::Run(fault)),
     }
 }

@@ -9,7 +9,7 @@ use dl_asked::OtherLine;
 use dl_index_file::OpenFault;
 use dl_open::{FileFault, FileStop, Shown, ShownBytes};
 use dl_output::Destination;
-use dl_sections::{Damage, DamagedUnits, RunFault, Survey};
+use dl_sections::{Damage, DamagedUnits, RunFault};
 use std::{fmt, io};
 
 /// Why the program stops before its work is done.
@@ -21,6 +21,8 @@ pub enum Stop<'a> {
     NotAddress { word: &'a str },
     /// This word of `lines` is no line of a path. Nothing here answers it.
     NotLine { word: &'a str },
+    /// This word of `lint` is the name of no rule. Nothing here answers it.
+    NotRule { word: &'a str },
     /// A string section couldn't be read, or the command stopped.
     Run(RunFault),
     /// The ELF file at this path stops it.
@@ -43,7 +45,10 @@ impl<'a> Stop<'a> {
         ensures { result ≡ stop_status self.now }
     {
         match self {
-            Stop::NotUnderstood | Stop::NotAddress { .. } | Stop::NotLine { .. } => 2,
+            Stop::NotUnderstood
+            | Stop::NotAddress { .. }
+            | Stop::NotLine { .. }
+            | Stop::NotRule { .. } => 2,
             Stop::Run(fault) => fault.status(),
             Stop::File { fault, .. } => fault.status(),
             Stop::Index { fault, .. } => index_status(fault),
@@ -114,11 +119,11 @@ impl<'a> From<FileStop<'a>> for Stop<'a> {
 }
 
 /// What a command over a file answered, as the program answers.
-pub fn answer_over_file<'a>(answer: Result<Survey, FileStop<'a>>) -> Result<Survey, Stop<'a>>
+pub fn answer_over_file<'a, A>(answer: Result<A, FileStop<'a>>) -> Result<A, Stop<'a>>
     ensures { result ≡ over_file answer.entry }
 {
     match answer {
-        Ok(survey) => Ok(survey),
+        Ok(answered) => Ok(answered),
         Err(stop) => Err(Stop::from(stop)),
     }
 }
@@ -131,6 +136,7 @@ impl fmt::Display for Stop<'_> {
             Stop::NotUnderstood => write!(f, "words not understood"),
             Stop::NotAddress { word } => write!(f, "{} is no address", Shown(word)),
             Stop::NotLine { word } => write!(f, "{} is no PATH:LINE", Shown(word)),
+            Stop::NotRule { word } => write!(f, "{} is no rule", Shown(word)),
             Stop::Run(fault) => write!(f, "{fault}"),
             Stop::File { path, fault } => write!(f, "{}: {fault}", Shown(path)),
             Stop::Index { path, fault } => write!(f, "{}: {fault}", Shown(path)),

@@ -72,14 +72,13 @@ pub fn units_of<'a>(job: &Job<'a>) -> UnitWords<'a>
     ensures { unit_words_made result ≡ units_of (request_made job.now) }
 {
     match job {
-        Job::Dump { units, .. }
-        | Job::Check { units, .. }
-        | Job::Find { units, .. }
-        | Job::Copy { units, .. } => *units,
+        Job::Dump(words) => words.units,
+        Job::Check { units, .. } | Job::Find { units, .. } | Job::Copy { units, .. } => *units,
         Job::Addr(words) => words.units,
         Job::Index(words) => words.units,
         Job::Lines(words) => words.units,
         Job::Sources(words) => words.units,
+        Job::Lint(words) => words.units,
     }
 }
 

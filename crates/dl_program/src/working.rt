@@ -39,14 +39,13 @@ fn file<'a>(job: &Job<'a>) -> Option<&'a str>
     ensures { option_map (λ s. s.now) result ≡ file_of (request_made job.now) }
 {
     match job {
-        Job::Dump { file, .. }
-        | Job::Check { file, .. }
-        | Job::Find { file, .. }
-        | Job::Copy { file, .. } => *file,
+        Job::Dump(words) => words.file,
+        Job::Check { file, .. } | Job::Find { file, .. } | Job::Copy { file, .. } => *file,
         Job::Addr(words) => words.file,
         Job::Index(words) => words.file,
         Job::Lines(words) => words.file,
         Job::Sources(words) => words.file,
+        Job::Lint(words) => words.file,
     }
 }
 
@@ -59,7 +58,8 @@ fn part_name<'a>(job: &Job<'a>) -> Option<&'a str>
         Job::Addr(words) => words.section,
         Job::Index(words) => words.section,
         Job::Lines(words) => words.section,
-        Job::Dump { .. } | Job::Check { .. } | Job::Copy { .. } | Job::Sources(_) => None,
+        Job::Dump(_) | Job::Check { .. } | Job::Copy { .. } | Job::Sources(_) | Job::Lint(_) =>
+            None,
     }
 }
 
@@ -72,7 +72,8 @@ pub fn looked_into<'a>(job: &Job<'a>) -> Option<&'a str>
         Job::Addr(words) => unless_input(words.file),
         Job::Lines(words) => unless_input(words.file),
         Job::Index(words) => { if words.list { None } else { words.file } }
-        Job::Dump { .. } | Job::Check { .. } | Job::Copy { .. } | Job::Sources(_) => None,
+        Job::Dump(_) | Job::Check { .. } | Job::Copy { .. } | Job::Sources(_) | Job::Lint(_) =>
+            None,
     }
 }
 
@@ -81,26 +82,27 @@ pub fn followed_path<'a>(job: &Job<'a>) -> Option<&'a str>
     ensures { option_map (λ s. s.now) result ≡ followed_path (request_made job.now) }
 {
     match job {
-        Job::Dump { file, .. } | Job::Check { file, .. } => *file,
+        Job::Dump(words) => words.file,
+        Job::Check { file, .. } => *file,
         Job::Sources(words) => words.file,
+        Job::Lint(words) => words.file,
         Job::Find { .. } | Job::Addr(_) | Job::Index(_) | Job::Lines(_) | Job::Copy { .. } =>
             looked_into(job),
     }
 }
 
 /// What a job says of a section on the input.
-fn section<'a>(job: &Job<'a>) -> Section<'a>
+pub fn section<'a>(job: &Job<'a>) -> Section<'a>
     ensures { section_seen result ≡ section_of (request_made job.now) }
 {
     match job {
-        Job::Dump {
-            big,
-            units,
-            line_str,
-            strings,
-            ..
-        }
-        | Job::Find {
+        Job::Dump(words) => Section {
+            big: words.big,
+            older: words.units.older,
+            line_str: words.line_str,
+            strings: words.strings,
+        },
+        Job::Find {
             big,
             units,
             line_str,
@@ -137,6 +139,12 @@ fn section<'a>(job: &Job<'a>) -> Section<'a>
             strings: words.strings,
         },
         Job::Sources(words) => Section {
+            big: words.big,
+            older: words.units.older,
+            line_str: words.line_str,
+            strings: words.strings,
+        },
+        Job::Lint(words) => Section {
             big: words.big,
             older: words.units.older,
             line_str: words.line_str,
@@ -215,7 +223,7 @@ fn on_named<'p, M: MapMemory, F: FileSource, W: Destination, D: DamageSink>(
 /// where that is asked for, and the answer says how many there are.
 ///
 /// `NotUnderstood` where there is no job, ADDRESS is no address, a size is no size, a section of an object file is named without a file,
-/// or the job is `addr`, `lines`, `index` or `sources`, which are asked with what the file tells; then, and at each fault before the command, nothing is
+/// or the job is `addr`, `lines`, `index` or `sources`, which are asked with what the file tells, or `lint`, which is no command; then, and at each fault before the command, nothing is
 /// written. Of the input nothing is read then, nor where a file is named.
 pub fn work<'a, M: MapMemory, F: FileSource, R: Source, W: Destination, D: DamageSink>(
     memory: &M,

@@ -1,6 +1,5 @@
 -- How the reading of a section in memory ends, as a call tells it.
-use Rattle.std.specs.Prelude.{ℕ, Option, Some, None, Result, Ok, Err}
-use Rattle.dl_buffers.specs.declared.record.FaultRecord.{FaultRecord}
+use Rattle.std.specs.Prelude.{Option, Some, None, Result, Ok, Err}
 use Rattle.dl_buffers.specs.Records.{record_of}
 use Rattle.dl_print.specs.declared.summary.Summary.{Summary}
 use Rattle.dl_sections.specs.declared.around.DamagedUnits.{DamagedUnits}

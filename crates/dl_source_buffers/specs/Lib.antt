@@ -1,3 +1,6 @@
 -- What the public contracts say rests on these, in reading order.
 pub mod Ends
 pub mod LineCalls
+pub mod SourceCalls
+-- Of contracts inside the crate, and of proofs; no public contract reaches these.
+pub mod SourceRooms

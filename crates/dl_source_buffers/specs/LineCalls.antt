@@ -1,6 +1,6 @@
 -- What the call answers that finds the places of a line. s: the bytes of a section; keep_going: damaged units are gone around;
 -- refuses: for how many items memory is refused. DWARF 5, section 6.2.2.
-use Rattle.std.specs.Prelude.{◌≡◌, ◌≢◌, ℕ, Bool, true, false, cond, List, [], length, map, Option, Some, Result, Err}
+use Rattle.std.specs.Prelude.{◌≡◌, ◌≢◌, ℕ, Bool, true, false, cond, List, [], length, map, Option, Some, Err}
 use Rattle.std.specs.Io.KnownBytes.{Consumes}
 use Rattle.dl_buffers.specs.declared.record.FaultRecord.{FaultRecord}
 use Rattle.dl_buffers.specs.declared.status.Status.{Status}
@@ -15,7 +15,6 @@ use Rattle.dl_lines.specs.FoundPlaces.{FindsPlaces, FindsPlacesAround}
 use Rattle.dl_print.specs.declared.summary.Summary.{Summary}
 use Rattle.dl_print.specs.ValueText.{Strings}
 use Rattle.dl_sections.specs.declared.around.Survey.{Survey}
-use Rattle.dl_sections.specs.declared.fault.RunFault.{RunFault}
 use Rattle.dl_sections.specs.declared.fault.RunFault.TheVariants as run
 use Rattle.dl_sections.specs.declared.options.TheConstants.{SECTION_LIMIT}
 use Rattle.dl_source_buffers.specs.declared.end.End.{End}

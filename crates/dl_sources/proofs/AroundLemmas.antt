@@ -54,14 +54,14 @@ module _ {M : Type 0} (refuses : M → ℕ → Type 0) (dialect : Dialect) (firs
     )
 
     -- where it ended for another reason, and what it was told then
-    record Reads (ended : Result Survey RunFault) : Type 0 where
-      blocks : List Block
-      rest : Rest
-      ends : EndsAround dialect limit bytes left blocks rest ended
-      stands : Listing refuses first new start mid (visits_around dialect blocks rest)
-      out : Appends start mid []
+    pub record Reads (ended : Result Survey RunFault) : Type 0 where
+      pub blocks : List Block
+      pub rest : Rest
+      pub ends : EndsAround dialect limit bytes left blocks rest ended
+      pub stands : Listing refuses first new start mid (visits_around dialect blocks rest)
+      pub out : Appends start mid []
 
-    reads : (ended : Result Survey RunFault) → is_want ended ≡ false → RanSo ended → Reads ended
+    pub reads : (ended : Result Survey RunFault) → is_want ended ≡ false → RanSo ended → Reads ended
     reads (Ok survey) is (inl (blocks, rest, ends, settled)) =
         record { blocks = blocks; rest = rest; ends = ends; stands = settled.tells; out = settled.out }
     reads (Ok survey) is (inr done) = absurd done.4.tells
@@ -106,6 +106,10 @@ module _ {M : Type 0} (refuses : M → ℕ → Type 0) (dialect : Dialect) (firs
 
     -- ---- the lines
 
+    pub holds : new.is_refused ≡ false → (ended : Result Survey RunFault) → (r : Reads ended)
+        → Holds new.table (mentions_around dialect s q r.blocks)
+    holds e ended r = subst (Holds new.table) (mentions_is r.blocks r.rest) (r.stands.told e).table
+
     module _ (now : Option (List ℕ)) where
       other_is : (ended : Result Survey RunFault) → is_want ended ≡ false → ended ≢ Err fault.NoMemory
       other_is ended is e = true≢false (sym (ap is_want e) ∙ is)
@@ -118,8 +122,7 @@ module _ {M : Type 0} (refuses : M → ℕ → Type 0) (dialect : Dialect) (firs
           let is = second_false new.is_refused (is_want ended) neither in
           let r = reads ended is ran in
           by ended printed is r (prints (mentions_around dialect s q r.blocks)
-          (subst (Holds new.table) (mentions_is r.blocks r.rest)
-          (r.stands.told (first_false new.is_refused (is_want ended) neither)).table)) where
+          (holds (first_false new.is_refused (is_want ended) neither) ended r)) where
             by : (ended : Result Survey RunFault) (printed : Result Sums WriteFault) → is_want ended ≡ false → (r : Reads ended)
                 → PrintsReport mid now q (mentions_around dialect s q r.blocks) printed
                 → ListsAround (refuses memory) dialect s q limit bytes left start now (told_around ended printed)

@@ -172,7 +172,7 @@ module _ {M : Type 0} (refuses : M → ℕ → Type 0) (dialect : Dialect) (firs
 
     -- ---- the lines
 
-    holds : new.is_refused ≡ false → (ended : Result Summary RunFault) → (r : Reads ended)
+    pub holds : new.is_refused ≡ false → (ended : Result Summary RunFault) → (r : Reads ended)
         → Holds new.table (mentions_of dialect s q r.units)
     holds e ended r = subst (Holds new.table) (mentions_is r.units r.b) (r.stands.told e).table
 

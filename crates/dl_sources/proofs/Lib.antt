@@ -8,4 +8,5 @@ pub mod ToldLemmas
 pub mod ReportLemmas
 pub mod CommandLemmas
 pub mod AroundLemmas
+pub mod FoundLemmas
 pub mod OrderLemmas

@@ -12,9 +12,10 @@ use Rattle.dl_sources.specs.declared.question.SourcesQuestion.{SourcesQuestion}
 use Rattle.dl_sources.specs.declared.question.Sums.TheVariants as sums
 use Rattle.dl_sources.specs.declared.table.PathTotals.{PathTotals}
 use Rattle.dl_sources.specs.declared.table.SourceTable.{SourceTable}
-use Rattle.dl_sources.specs.Holding.{Holds, looked, paths_in, totals_seen}
+use Rattle.dl_sources.specs.Holding.{Holds, looked, paths_in}
 use Rattle.dl_sources.specs.Report.{path_lines, report, sums_told}
 use Rattle.dl_sources.specs.Reporting.{entries_text, has_two, sums_in}
+use Rattle.dl_sources.specs.SourceFiles.{totals_seen}
 use Rattle.dl_sources.specs.Sources.{Mention, Totals, sums_of, totals_of}
 use Rattle.dl_sources.proofs.TableLemmas.{found_is, order}
 

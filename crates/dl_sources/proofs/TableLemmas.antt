@@ -25,7 +25,8 @@ use Rattle.dl_sources.specs.declared.counting.Counts.{Counts}
 use Rattle.dl_sources.specs.declared.table.PathTotals.{PathTotals}
 use Rattle.dl_sources.specs.declared.table.SourceTable.{SourceTable}
 use Rattle.dl_sources.specs.Counts.{at_most_64_bits}
-use Rattle.dl_sources.specs.Holding.{Holds, looked, paths_in, same_bytes, told_at, totals_seen, with_told}
+use Rattle.dl_sources.specs.Holding.{Holds, looked, paths_in, same_bytes, told_at, with_told}
+use Rattle.dl_sources.specs.SourceFiles.{totals_seen}
 use Rattle.dl_sources.specs.Sources.{Mention, Totals, in_order, nothing_told, paths_of, sums_of, total, totals_of}
 
 abbrev Entries : Type 0

@@ -11,10 +11,8 @@ use Rattle.dl_sources.specs.declared.counting.Counts.{Counts}
 use Rattle.dl_sources.specs.declared.table.PathTotals.{PathTotals}
 use Rattle.dl_sources.specs.declared.table.SourceTable.{SourceTable}
 use Rattle.dl_sources.specs.Counts.{plus}
+use Rattle.dl_sources.specs.SourceFiles.{totals_seen}
 use Rattle.dl_sources.specs.Sources.{Mention, Totals, nothing_told, paths_of, totals_of}
-
-abbrev pub totals_seen : PathTotals → Totals
-totals_seen t = record { counts = t.counts; sums = t.sums.keys }
 
 -- with what one entry more tells
 abbrev pub with_told : Totals → Counts → Option (List ℕ) → Totals

@@ -7,6 +7,8 @@ pub mod Report
 pub mod Wanting
 pub mod Commands
 pub mod AroundCommands
+pub mod SourceFiles
+pub mod FoundSources
 pub mod OrderLaws
 -- Of contracts inside the crate, and of proofs; no public contract reaches these.
 pub mod Counting

@@ -9,8 +9,8 @@ use Rattle.dl_sources.specs.declared.question.SourcesQuestion.{SourcesQuestion}
 use Rattle.dl_sources.specs.declared.question.Sums.{Sums}
 use Rattle.dl_sources.specs.declared.question.Sums.TheVariants as sums
 use Rattle.dl_sources.specs.declared.table.PathTotals.{PathTotals}
-use Rattle.dl_sources.specs.Holding.{totals_seen}
 use Rattle.dl_sources.specs.Report.{path_lines, report, sums_told}
+use Rattle.dl_sources.specs.SourceFiles.{totals_seen}
 use Rattle.dl_sources.specs.Sources.{Mention}
 
 abbrev pub entries_text : SourcesQuestion → List (Vec ℕ × PathTotals) → List ℕ

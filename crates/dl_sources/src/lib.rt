@@ -3,6 +3,7 @@
 
 mod counting;
 mod entries;
+mod finding;
 pub mod laws;
 mod line;
 mod lister;
@@ -13,7 +14,10 @@ mod printing;
 mod question;
 mod table;
 
+pub use counting::Counts;
 pub use dl_dirs::CompilationDirectories;
+pub use finding::{FoundSources, find_sources, find_sources_around};
 pub use listing::{sources, sources_around};
 pub use map_memory::MapMemory;
-pub use question::{SourcesAround, SourcesQuestion, Sums};
+pub use question::{FilesQuestion, SourcesAround, SourcesQuestion, Sums};
+pub use table::{PathTotals, SourceTable};

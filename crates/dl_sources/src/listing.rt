@@ -84,7 +84,7 @@ pub fn sources_around<M: MapMemory, R: Source, W: Destination>(
 }
 
 /// Whether memory was refused, for what was told or for the reading.
-fn lacks_memory<A>(is_refused: bool, ended: &Result<A, RunFault>) -> bool
+pub(crate) fn lacks_memory<A>(is_refused: bool, ended: &Result<A, RunFault>) -> bool
     ensures { result ≡ (is_refused || is_want ended.now) }
 {
     is_refused || matches!(ended, Err(RunFault::NoMemory))

@@ -6,9 +6,10 @@ ghost use Rattle.std.specs.BTreeMap.{IsOrdered, values};
 ghost use Rattle.std.specs.Cmp.Lexicographic.{slice_cmp};
 ghost use Rattle.std.specs.Ordering.{nat_cmp};
 ghost use Rattle.dl_print.specs.Output.{BlamesWriter as PrintBlames, Prints};
-ghost use Rattle.dl_sources.specs.Holding.{Holds, totals_seen};
+ghost use Rattle.dl_sources.specs.Holding.{Holds};
 ghost use Rattle.dl_sources.specs.Report.{one_line, path_lines};
 ghost use Rattle.dl_sources.specs.Reporting.{PrintsReport, entries_text, sums_in};
+ghost use Rattle.dl_sources.specs.SourceFiles.{totals_seen};
 ghost use Rattle.dl_sources.specs.Sources.{Mention};
 
 use crate::line::print_one;

@@ -19,6 +19,16 @@ pub struct SourcesQuestion<'a> {
     pub directories: CompilationDirectories<'a>,
 }
 
+/// What is asked of the source files of a section that are found and not printed: each is told with its counts and its MD5
+/// sums.
+#[derive(Clone, Copy)]
+pub struct FilesQuestion<'a> {
+    /// Where there is code, as of `SourcesQuestion`.
+    pub code: Option<&'a CodeRanges>,
+    /// Where paths stand that aren't whole.
+    pub directories: CompilationDirectories<'a>,
+}
+
 /// What the MD5 sums of paths are, where they are asked for.
 #[derive(Clone, Copy, Debug, PartialEq, Eq)]
 pub enum Sums {

@@ -8,22 +8,24 @@ use std::collections::{BTreeMap, BTreeSet};
 
 /// What is told of a path.
 #[derive(Drop)]
-pub(crate) struct PathTotals {
-    pub(crate) counts: Counts,
-    /// Its MD5 sums.
-    pub(crate) sums: BTreeSet<[u8; 16]>,
+pub struct PathTotals {
+    /// What the rows come to that name it. Section 6.2.2.
+    pub counts: Counts,
+    /// Its MD5 sums, in the order of their bytes. Section 6.2.4.1.
+    pub sums: BTreeSet<[u8; 16]>,
 }
 
 /// The paths, in the order of their bytes.
 #[derive(Drop)]
-pub(crate) struct SourceTable {
-    pub(crate) paths: BTreeMap<Vec<u8>, PathTotals>,
+pub struct SourceTable {
+    pub paths: BTreeMap<Vec<u8>, PathTotals>,
 }
 
 impl PathTotals {
     ghost use Rattle.std.specs.Prelude.{◌≡◌, ◌+◌, OnOk, OnErr, length};
     ghost use Rattle.dl_memory.specs.Refusals.{IsRefused};
-    ghost use Rattle.dl_sources.specs.Holding.{totals_seen, with_told};
+    ghost use Rattle.dl_sources.specs.Holding.{with_told};
+    ghost use Rattle.dl_sources.specs.SourceFiles.{totals_seen};
     ghost use Rattle.dl_sources.specs.Sources.{nothing_told};
 
     /// Nothing yet.
@@ -61,7 +63,7 @@ impl SourceTable {
     ghost use Rattle.dl_sources.specs.Sources.{Mention};
 
     /// No path.
-    pub fn new(alloc: Global) -> SourceTable
+    pub(crate) fn new(alloc: Global) -> SourceTable
         ensures { Holds result [] }
     {
         SourceTable {
@@ -70,7 +72,7 @@ impl SourceTable {
     }
 
     /// Adds what an entry of a table tells of its path.
-    pub fn add<M: MapMemory>(
+    pub(crate) fn add<M: MapMemory>(
         &mut self,
         memory: &M,
         path: Vec<u8>,

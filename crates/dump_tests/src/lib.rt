@@ -10,4 +10,6 @@ mod operations;
 #[cfg(test)]
 mod paths;
 #[cfg(test)]
+mod range;
+#[cfg(test)]
 mod sections;

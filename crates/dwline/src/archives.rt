@@ -52,7 +52,7 @@ pub fn what_stands<'a>(rt: &HostRuntime, path: &'a str) -> Standing<'a> {
 
 /// Whether a job goes through the members of an archive.
 pub fn is_over_members(job: &Job<'_>) -> bool {
-    matches!(job, Job::Dump { .. } | Job::Check { .. })
+    matches!(job, Job::Dump(_) | Job::Check { .. })
 }
 
 /// Does what a job says, which is `dump` or `check`, of each member of the archive at this path, and answers the worst status.

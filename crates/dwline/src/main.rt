@@ -81,13 +81,14 @@ fn run_member(
 fn file_of<'a>(job: &Job<'a>) -> Option<&'a str> {
     match job {
         Job::Copy { file, .. } => *file,
-        Job::Dump { .. }
+        Job::Dump(_)
         | Job::Check { .. }
         | Job::Find { .. }
         | Job::Addr(_)
         | Job::Index(_)
         | Job::Lines(_)
-        | Job::Sources(_) => followed_path(job),
+        | Job::Sources(_)
+        | Job::Lint(_) => followed_path(job),
     }
 }
 

@@ -3,7 +3,8 @@
 use crate::ending::Ending;
 use crate::indices::{list_index, write_index};
 use dl_addr::WhichFound;
-use dl_cmd::{AddrWords, IndexWords, Job, LinesWords, SourcesWords};
+use dl_cmd::{AddrWords, IndexWords, Job, LinesWords, LintWords, SourcesWords};
+use dl_linting::{FindingCounts, RULES, tell_findings, write_counts};
 use dl_locating::{find_lines, list_sources, locate};
 use dl_memory::System;
 use dl_open::{FileSource, FileUnits, units_not_read};
@@ -34,7 +35,8 @@ pub fn run_job<'a, F: FileSource>(
         Job::Index(words) => run_index(rt, files, words, path, read),
         Job::Lines(words) => run_lines(rt, files, words, path, read),
         Job::Sources(words) => run_sources(rt, files, words),
-        Job::Dump { .. } | Job::Check { .. } | Job::Find { .. } | Job::Copy { .. } => {
+        Job::Lint(words) => run_lint(rt, files, words),
+        Job::Dump(_) | Job::Check { .. } | Job::Find { .. } | Job::Copy { .. } => {
             run_work(rt, files, job, path, read)
         }
     }
@@ -126,6 +128,42 @@ fn run_sources<'a, F: FileSource>(
         Some(units) => Err(Ending::Stop(Stop::Damaged { units })),
         None => Ok(0),
     }
+}
+
+/// Whether there is a finding of some rule.
+fn has_any(counts: &FindingCounts) -> bool {
+    for rule in &RULES {
+        if counts.of(*rule) != 0 {
+            return true;
+        }
+    }
+    false
+}
+
+/// Tells what in a line table misleads a debugger, and how many findings there are. The status is 1 where there is one.
+fn run_lint<'a, F: FileSource>(
+    rt: &HostRuntime,
+    files: &F,
+    words: &LintWords<'a>,
+) -> Result<u8, Ending<'a>> {
+    let mut damages = StopLines::new(rt.stderr());
+    let linted = tell_findings(
+        &System::new(rt.alloc()),
+        words,
+        files,
+        &mut rt.stdin(),
+        &mut rt.stdout(),
+        &mut damages,
+    )?;
+    let has_findings = has_any(&linted.counts);
+    if has_findings {
+        let _ = write_counts(&mut rt.stderr(), &linted.counts);
+    }
+    Ok(if has_findings || linted.survey.damaged.is_some() {
+        1
+    } else {
+        0
+    })
 }
 
 /// Does the work of the other commands.

@@ -14,7 +14,8 @@ fn names_no_section(job: &Job<'_>) -> bool {
         Job::Addr(words) => words.section.is_none(),
         Job::Index(words) => words.section.is_none() && !words.list,
         Job::Lines(words) => words.section.is_none(),
-        Job::Dump { .. } | Job::Check { .. } | Job::Copy { .. } | Job::Sources(_) => false,
+        Job::Dump(_) | Job::Check { .. } | Job::Copy { .. } | Job::Sources(_) | Job::Lint(_) =>
+            false,
     }
 }
 

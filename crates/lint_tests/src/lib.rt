@@ -11,3 +11,5 @@ mod objects;
 mod rules;
 #[cfg(test)]
 mod sections;
+#[cfg(test)]
+mod tables;

@@ -62,6 +62,44 @@ pub const SHORT_ADDRESSES: &str =
     "2b 00 00 00 05 00 04 00 16 00 00 00 01 01 01 fb 0e 0d 00 01 01 01 01 00 00 00 \
         01 00 00 01 00 00 00 00 00 05 02 fc ff ff ff 4a 02 04 00 01 01";
 
+/// Version 5, directories 0 and 1, and the files a.c, a.c, b.c in directory 0, a.c in directory 1, b.c and a.c in directory 0. From
+/// byte 76 on an end row.
+pub const DUPLICATES: &str =
+    "4b 00 00 00 05 00 08 00 40 00 00 00 01 01 01 fb 0e 0d 00 01 01 01 01 00 00 00 \
+        01 00 00 01 01 01 08 02 2f 73 00 2f 74 00 02 01 08 02 0b 06 61 2e 63 00 00 61 \
+        2e 63 00 00 62 2e 63 00 00 61 2e 63 00 01 62 2e 63 00 00 61 2e 63 00 00 00 01 \
+        01";
+
+/// Version 4, one directory, and four files x.c: in directory 1, there with the time 5, there again, and in directory 0. From byte
+/// 60 on an end row.
+pub const OLDER_DUPLICATES: &str =
+    "3b 00 00 00 04 00 32 00 00 00 01 01 01 fb 0e 0d 00 01 01 01 01 00 00 00 01 00 \
+        00 01 64 00 00 78 2e 63 00 01 00 00 78 2e 63 00 01 05 00 78 2e 63 00 01 00 00 \
+        78 2e 63 00 00 00 00 00 00 01 01";
+
+/// Version 5, files 0 to 4. From byte 71 on a row of file 1 at 0x1000, one of file 3 at 0x1004, another one of it, and an end row of
+/// file 4 at 0x1008.
+pub const UNUSED: &str =
+    "60 00 00 00 05 00 08 00 3b 00 00 00 01 01 01 fb 0e 0d 00 01 01 01 01 00 00 00 \
+        01 00 00 01 01 01 08 02 2f 73 00 2f 74 00 02 01 08 02 0b 05 61 2e 63 00 00 61 \
+        2e 63 00 00 62 2e 63 00 00 63 2e 63 00 00 64 2e 63 00 00 00 09 02 00 10 00 00 \
+        00 00 00 00 01 04 03 02 04 01 04 03 03 01 01 04 04 02 04 00 01 01";
+
+/// Version 4, files 1 to 3. From byte 53 on a row of file 3 at 0x1000, one of file 9 at 0x1004, and an end row of file 2 at 0x1008.
+pub const OLDER_UNUSED: &str =
+    "4b 00 00 00 04 00 2b 00 00 00 01 01 01 fb 0e 0d 00 01 01 01 01 00 00 00 01 00 \
+        00 01 64 00 00 78 2e 63 00 01 00 00 79 2e 63 00 01 00 00 7a 2e 63 00 01 00 00 \
+        00 00 09 02 00 10 00 00 00 00 00 00 04 03 01 04 09 02 04 01 04 02 02 04 00 01 \
+        01";
+
+/// Version 5, a directory by DW_FORM_line_strp at 0, and four files with a path by DW_FORM_line_strp and a text of content code 0x2001
+/// by DW_FORM_strp: 3 and 0, 7 and 2, 8 and 9, 3 and 3. From byte 77 on an end row.
+pub const TEXTS: &str =
+    "4c 00 00 00 05 00 08 00 41 00 00 00 01 01 01 fb 0e 0d 00 01 01 01 01 00 00 00 \
+        01 00 00 01 01 01 1f 01 00 00 00 00 02 01 1f 81 40 0e 04 03 00 00 00 00 00 00 \
+        00 07 00 00 00 02 00 00 00 08 00 00 00 09 00 00 00 03 00 00 00 03 00 00 00 00 \
+        01 01";
+
 /// The header of a unit of version 5 without files, with this minimum_instruction_length and so many operations in an
 /// instruction at most, before a program that begins at byte 34.
 pub struct Machine {
@@ -90,13 +128,23 @@ pub const WIDE: Machine = Machine {
 pub fn options() -> Options<'static>
     ensures { result.limit ≤ SECTION_LIMIT }
 {
+    with_strings(None, None)
+}
+
+/// With these string sections.
+pub fn with_strings(
+    debug_line_str: Option<&'static [u8]>,
+    debug_str: Option<&'static [u8]>,
+) -> Options<'static>
+    ensures { result.limit ≤ SECTION_LIMIT }
+{
     Options {
         dialect: Dialect {
             order: Order::Little,
             older: Older::Read(AddressSize::Eight),
         },
-        debug_line_str: None,
-        debug_str: None,
+        debug_line_str,
+        debug_str,
         limit: SECTION_LIMIT,
     }
 }
@@ -133,6 +181,21 @@ pub fn assert_told(
     json: bool,
     wanted: (&str, Result<(Rule, u64), RunFault>),
 ) {
+    assert_over(rt, alloc, section, (rules, json), &options(), wanted);
+}
+
+/// The same with these options.
+pub fn assert_over(
+    rt: &impl Abort,
+    alloc: Global,
+    section: &[u8],
+    asked: (Rules, bool),
+    options: &Options<'_>,
+    wanted: (&str, Result<(Rule, u64), RunFault>),
+)
+    requires { options.now.limit ≤ SECTION_LIMIT }
+{
+    let (rules, json) = asked;
     let (text, answer) = wanted;
     for most in [1, 7, 4096] {
         let mut input = Source::new(section, most);
@@ -143,7 +206,7 @@ pub fn assert_told(
             &mut input,
             &mut output,
             &question,
-            &options(),
+            options,
         );
         assert_answer(rt, answered, answer);
         assert!(rt; output.held.as_slice() == text.as_bytes(), "{text}");

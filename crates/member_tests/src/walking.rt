@@ -2,7 +2,7 @@
 use crate::archives::{BSD, CUT, EMPTY, GNU, ODD, ONE, Pieces, THIN, TWICE, joined};
 use crate::shelf::Shelf;
 use dl_archive::ArchiveFault;
-use dl_cmd::{Job, UnitWords};
+use dl_cmd::{DumpWords, Job, UnitWords};
 use dl_member::{WalkFault, Walked, walk_members};
 use dl_memory::System;
 use dl_program::StopLines;
@@ -27,7 +27,7 @@ const CHECK: Job<'static> = Job::Check {
 };
 
 /// `dump` of a file.
-const DUMP: Job<'static> = Job::Dump {
+const DUMP: Job<'static> = Job::Dump(DumpWords {
     file: Some("out/lib.a"),
     big: false,
     units: UnitWords {
@@ -42,7 +42,10 @@ const DUMP: Job<'static> = Job::Dump {
     operations: false,
     paths: false,
     comp_dir: None,
-};
+    json: false,
+    unit: None,
+    range: None,
+});
 
 /// How a walk ends.
 #[derive(Clone, Copy, PartialEq)]

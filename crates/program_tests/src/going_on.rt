@@ -2,7 +2,7 @@
 use crate::files::UNITS;
 use crate::jobs::NOTHING_OF_UNITS;
 use crate::shelf::Shelf;
-use dl_cmd::{AddrWords, Job};
+use dl_cmd::{AddrWords, DumpWords, Job};
 use dl_locating::locate;
 use dl_memory::System;
 use dl_program::{Stop, StopLines, work};
@@ -94,7 +94,7 @@ fn job_of(checks: bool) -> Job<'static> {
             keep_going: true,
         };
     }
-    Job::Dump {
+    Job::Dump(DumpWords {
         file: None,
         big: false,
         units: NOTHING_OF_UNITS,
@@ -105,7 +105,10 @@ fn job_of(checks: bool) -> Job<'static> {
         operations: false,
         paths: false,
         comp_dir: None,
-    }
+        json: false,
+        unit: None,
+        range: None,
+    })
 }
 
 /// Does such a job; how many bytes of the output's room are left, and how many units are damaged.

@@ -1,7 +1,7 @@
 //! What stops jobs over a file whose reads fail.
 use crate::files::{STRIPPED, TWO_UNITS, UNIT, UNITS, WITH_STRINGS};
 use crate::shelf::Shelf;
-use dl_cmd::{Job, UnitWords};
+use dl_cmd::{DumpWords, Job, UnitWords};
 use dl_memory::System;
 use dl_open::FileFault;
 use dl_program::{Stop, StopLines, work};
@@ -31,7 +31,7 @@ pub const NOTHING_OF_UNITS: UnitWords<'static> = UnitWords {
 fn job_of(command: Command) -> Job<'static> {
     let file = Some("elf");
     match command {
-        Command::Dump | Command::DumpAround => Job::Dump {
+        Command::Dump | Command::DumpAround => Job::Dump(DumpWords {
             file,
             big: false,
             units: NOTHING_OF_UNITS,
@@ -42,7 +42,10 @@ fn job_of(command: Command) -> Job<'static> {
             operations: false,
             paths: false,
             comp_dir: None,
-        },
+            json: false,
+            unit: None,
+            range: None,
+        }),
         Command::Check | Command::CheckAround => Job::Check {
             file,
             big: false,

@@ -6,6 +6,8 @@ mod damage;
 #[cfg(test)]
 mod each_call;
 #[cfg(test)]
+mod found;
+#[cfg(test)]
 mod paths;
 #[cfg(test)]
 mod rows;

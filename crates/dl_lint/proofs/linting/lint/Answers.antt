@@ -19,14 +19,14 @@ returns-in_err-summary g c =
       ran = (
         read.ran.0,
         read.ran.1,
-        lints_some _ _ _ _ _ c.args.question.now _ _ _ _ refl refl _
-            (read.ran.2 (begins tt refl c.at_start.ensures c.none.ensures nothing) (Appends-nil start)),
+        lints_some _ _ _ _ _ _ c.args.question.now _ _ _ _ refl refl _
+            (read.ran.2 (begins tt refl c.at_start.ensures (c.before_units-files.ensures c.args.question.now.rules) c.ends_of.ensures c.none.ensures nothing) (Appends-nil start)),
       );
       blames = blames_where read.blames (λ e. (
-        record { tells = begins tt refl c.at_start.ensures c.none.ensures nothing; out = Appends-nil start; never = λ visits no. no },
+        record { tells = begins tt refl c.at_start.ensures (c.before_units-files.ensures c.args.question.now.rules) c.ends_of.ensures c.none.ensures nothing; out = Appends-nil start; never = λ visits no. (let e = no.0 in absurd cc) },
         same_answer _ e,
       ));
-      blames_writer = read.blames_writer (begins tt refl c.at_start.ensures c.none.ensures nothing) (Appends-nil start);
+      blames_writer = read.blames_writer (begins tt refl c.at_start.ensures (c.before_units-files.ensures c.args.question.now.rules) c.ends_of.ensures c.none.ensures nothing) (Appends-nil start);
       over = tt;
     })
 
@@ -40,10 +40,10 @@ returns g c =
       ran = (
         read.ran.0,
         read.ran.1,
-        lints_all _ _ _ _ _ c.args.question.now _ _ _ _ refl refl _
-            (read.ran.2 (begins tt refl c.at_start.ensures c.none.ensures nothing) (Appends-nil start)),
+        lints_all _ _ _ _ _ _ c.args.question.now _ _ _ _ refl refl _
+            (read.ran.2 (begins tt refl c.at_start.ensures (c.before_units-files.ensures c.args.question.now.rules) c.ends_of.ensures c.none.ensures nothing) (Appends-nil start)),
       );
       blames = blames_where read.blames (λ e. absurd cc);
       blames_writer = tt;
-      over = only_left (λ done. done.1) (read.over (begins tt refl c.at_start.ensures c.none.ensures nothing) (Appends-nil start));
+      over = only_left (λ done. done.1) (read.over (begins tt refl c.at_start.ensures (c.before_units-files.ensures c.args.question.now.rules) c.ends_of.ensures c.none.ensures nothing) (Appends-nil start));
     }

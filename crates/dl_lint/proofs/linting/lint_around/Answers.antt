@@ -15,14 +15,14 @@ returns g c =
     let nothing = HasPrinted-nothing start start c.new-printer.result (Appends-nil start) c.new-printer.ensures.nothing_pending
     c.new-printer.ensures.nothing_out in
     rw c.told_around.ensures (record {
-      ran = read_around _ _ _ _ _ _ _ c.args.question.now _ _ refl refl (λ hears. begins hears refl c.at_start.ensures c.none.ensures nothing) _
+      ran = read_around _ _ _ _ _ _ _ _ c.args.question.now _ _ refl refl (λ hears. begins hears refl c.at_start.ensures (c.before_units-files.ensures c.args.question.now.rules) c.ends_of.ensures c.none.ensures nothing) _
           (search) ended read.ran;
       blames = blames_where read.blames (λ e. (
-        record { tells = begins e.0 refl c.at_start.ensures c.none.ensures nothing; out = Appends-nil start; never = λ visits no. no },
+        record { tells = begins e.0 refl c.at_start.ensures (c.before_units-files.ensures c.args.question.now.rules) c.ends_of.ensures c.none.ensures nothing; out = Appends-nil start; never = λ visits no. (let e = no.0 in absurd cc) },
         same_fault counts ended e.1,
       ));
       blames_writer = λ hears. same_blame counts _ ended
-          (read.blames_writer (begins hears refl c.at_start.ensures c.none.ensures nothing) (Appends-nil start));
+          (read.blames_writer (begins hears refl c.at_start.ensures (c.before_units-files.ensures c.args.question.now.rules) c.ends_of.ensures c.none.ensures nothing) (Appends-nil start));
       over = λ hears. same_end counts _ _ ended (λ done. done.1)
-          (read.over (begins hears refl c.at_start.ensures c.none.ensures nothing) (Appends-nil start));
+          (read.over (begins hears refl c.at_start.ensures (c.before_units-files.ensures c.args.question.now.rules) c.ends_of.ensures c.none.ensures nothing) (Appends-nil start));
     })

@@ -3,9 +3,9 @@ use Rattle.std.specs.Map.Iter.{deref_pair}
 use Rattle.std.proofs.lemmas.Map.Iter.{rest_more}
 use Rattle.std.proofs.lemmas.Result.{err_from_is_err_and}
 use Rattle.dl_path.proofs.PrintLemmas.{front_lost, front_more}
-use Rattle.dl_sources.specs.Holding.{totals_seen}
 use Rattle.dl_sources.specs.Report.{path_lines}
 use Rattle.dl_sources.specs.Reporting.{entries_text}
+use Rattle.dl_sources.specs.SourceFiles.{totals_seen}
 use Rattle.dl_sources.proofs.printing.print_paths.Goals as goal
 
 pub loop-path-preserved : goal.loop-path-preserved

@@ -24,3 +24,6 @@ returns-in-Sources c = rw c.in-Sources.is refl
 
 pub returns-in-Lines : goal.returns-in-Lines
 returns-in-Lines c = rw c.in-Lines.is refl
+
+pub returns-in-Lint : goal.returns-in-Lint
+returns-in-Lint c = rw c.in-Lint.is refl

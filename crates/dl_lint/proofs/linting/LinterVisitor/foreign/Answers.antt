@@ -1,5 +1,6 @@
 use Rattle.std.proofs.Common.{◌∷◌, ◌∙◌, [], refl, sym}
 use Rattle.dl_sections.specs.Section.{of_version}
+use Rattle.dl_lint.proofs.FilesLemmas.{files_quiet}
 use Rattle.dl_lint.proofs.KeptLemmas.{reached_quiet}
 use Rattle.dl_lint.proofs.LintingLemmas.{lints_nothing}
 use Rattle.dl_lint.proofs.OperationLemmas.{knows_on}
@@ -11,3 +12,4 @@ returns-clause-heard g c first start visits linted =
     lints_nothing linted c.args.self.now.at c.args.self.now.operations (v ∷ []) refl refl
     (linted.reached ∙ sym (reached_quiet visits v refl refl refl refl refl))
     (knows_on c.args.self.now.operations visits v linted.knows)
+    (files_quiet first.report.rules visits v refl (λ n. refl) (λ h e. e) c.args.self.now.files.now refl linted.files)

@@ -5,6 +5,8 @@ use Rattle.dl_field.specs.declared.params.Params.{Params}
 use Rattle.dl_sections.specs.Section.{of_item}
 use Rattle.dl_look.specs.declared.place.Place.{Place}
 use Rattle.dl_lint.specs.Operations.{moved_by, reduced, seen}
+use Rattle.dl_lint.specs.Linting.{strings_of}
+use Rattle.dl_lint.proofs.FilesLemmas.{files_quiet}
 use Rattle.dl_lint.proofs.LintingLemmas.{lints, loses}
 use Rattle.dl_lint.proofs.OperationLemmas.{knows_on}
 use Rattle.dl_lint.proofs.linting.LinterVisitor.operation.Goals as goal
@@ -18,7 +20,7 @@ returns-in_err-tell_operation-clause-heard g c first start visits linted =
     c.moved_by-moved.ensures ∙ ap (λ (p : Params). moved_by p c.args.self.now.operations.place o) c.params-params.ensures.value in
     rw (e.1, e.2) (loses linted (record c.args.self.now { report = c.tell_operation.new.self })
     (g.W.Write.contents c.tell_operation.new.output) (of_item (an_operation h o)) _
-    (c.in_err-tell_operation.ensures.told visits linted.reached linted.knows moves))
+    (c.in_err-tell_operation.ensures.told (strings_of first) visits linted.reached linted.knows moves) g.M.Memory.refuses)
 
 pub returns-clause-heard : goal.returns-clause-heard
 returns-clause-heard g c first start visits linted =
@@ -31,6 +33,7 @@ returns-clause-heard g c first start visits linted =
     c.place.ensures ∙ ap (λ (p : Params). reduced p c.moved_by-moved.result) c.params-params.ensures.value
     ∙ ap (reduced h.params) moves ∙ ap (λ (a : Place). reduced h.params (moved_by h.params a o)) linted.knows.place in
     lints linted _ (g.W.Write.contents c.tell_operation.new.output) (of_item (an_operation h o))
-    (c.in_ok-tell_operation.ensures.told visits linted.reached linted.knows moves) refl refl
+    (c.in_ok-tell_operation.ensures.told (strings_of first) visits linted.reached linted.knows moves) refl refl refl refl
     (c.with_operation-self.ensures visits h o linted.reached)
     (knows_on _ visits (of_item (an_operation h o)) (c.with_operation.ensures (seen visits) h linted.knows place))
+    (files_quiet first.report.rules visits (of_item (an_operation h o)) refl (λ n. refl) (λ k e. e) c.args.self.now.files.now refl linted.files)

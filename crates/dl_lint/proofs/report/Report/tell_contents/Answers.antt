@@ -1,8 +1,9 @@
 use Rattle.std.proofs.Common.{◌≡◌, ◌∙◌, ◌+◌, ◌-◌, List, ap, arith, refl, subst}
 use Rattle.std.specs.Prelude.{flat_map, option_to_list}
 use Rattle.std.proofs.lemmas.Result.{err_from_is_err_and}
+use Rattle.std.specs.List.{range_with_len}
 use Rattle.dl_findings.specs.declared.finding.Finding.{Finding}
-use Rattle.dl_lint.specs.HeaderRules.{content_at, content_codes, contents_found, numbers_from}
+use Rattle.dl_table_rules.specs.HeaderFindings.{content_at, content_codes, contents_found}
 use Rattle.dl_lint.proofs.FindingLemmas.{all_numbers, next_numbers, no_numbers}
 use Rattle.dl_lint.proofs.TellLemmas.{Front, all_told, lost, more_told, none_yet}
 use Rattle.dl_lint.proofs.report.Report.tell_contents.Goals as goal
@@ -25,7 +26,7 @@ loop-place-preserved g c =
     let i = c.loop-place.place in
     let here : i ≡ 0 + i = omega arith in (
       omega (arith, c.loop-place-test.true),
-      more_told c.loop-place.invariant.1 (f (0 + i)) (flat_map f (numbers_from (0 + (i + 1)) (count - (i + 1))))
+      more_told c.loop-place.invariant.1 (f (0 + i)) (flat_map f (range_with_len (0 + (i + 1)) (count - (i + 1))))
           (next_numbers f 0 i count c.loop-place-test.true) (g.W.Write.contents c.tell_any.new.output) c.tell_any.new.self
           (option_to_list c.unknown_content.result) (c.unknown_content.ensures ∙ ap f here) c.in_ok-tell_any.ensures.told,
     )
@@ -37,7 +38,7 @@ returns-in_err-tell_any-clause-told g c =
     let count = c.content_count-count.result in
     let i = c.loop-place.place in
     let here : i ≡ 0 + i = omega arith in
-    rw (e.1, e.2) (lost c.loop-place.invariant.1 (f (0 + i)) (flat_map f (numbers_from (0 + (i + 1)) (count - (i + 1))))
+    rw (e.1, e.2) (lost c.loop-place.invariant.1 (f (0 + i)) (flat_map f (range_with_len (0 + (i + 1)) (count - (i + 1))))
     (next_numbers f 0 i count c.loop-place-test.true) (g.W.Write.contents c.tell_any.new.output) c.tell_any.new.self
     (option_to_list c.unknown_content.result) (c.unknown_content.ensures ∙ ap f here) _ c.in_err-tell_any.ensures.told)
 

@@ -1,9 +1,10 @@
 use Rattle.std.proofs.Common.{◌+◌, ◌-◌, ◌∙◌, List, arith, ap, length, subst}
 use Rattle.std.specs.Prelude.{flat_map, option_to_list}
 use Rattle.std.proofs.lemmas.Result.{err_from_is_err_and}
+use Rattle.std.specs.List.{range_with_len}
 use Rattle.dl_table.specs.TableData.{TableData}
 use Rattle.dl_findings.specs.declared.finding.Finding.{Finding}
-use Rattle.dl_lint.specs.HeaderRules.{directories_found, directory_of_file, numbers_from}
+use Rattle.dl_table_rules.specs.HeaderFindings.{directories_found, directory_of_file}
 use Rattle.dl_lint.proofs.FindingLemmas.{all_numbers, next_numbers, no_numbers}
 use Rattle.dl_lint.proofs.TellLemmas.{Front, all_told, lost, more_told, none_yet}
 use Rattle.dl_lint.proofs.report.Report.tell_directories.Goals as goal
@@ -27,7 +28,7 @@ loop-entry-preserved g c =
     let count = c.len-count.result in
     let i = c.loop-entry.entry in (
       omega (arith, c.loop-entry-test.true),
-      more_told c.loop-entry.invariant.1 (f (first + i)) (flat_map f (numbers_from (first + (i + 1)) (count - (i + 1))))
+      more_told c.loop-entry.invariant.1 (f (first + i)) (flat_map f (range_with_len (first + (i + 1)) (count - (i + 1))))
           (next_numbers f first i count c.loop-entry-test.true) (g.W.Write.contents c.tell_any.new.output) c.tell_any.new.self
           (option_to_list c.directory_index.result) c.directory_index.ensures c.in_ok-tell_any.ensures.told,
     )
@@ -40,7 +41,7 @@ returns-in_err-tell_any-clause-told g c =
     let count = c.len-count.result in
     let i = c.loop-entry.entry in
     rw (e.1, e.2) (lost c.loop-entry.invariant.1 (f (first + i))
-    (flat_map f (numbers_from (first + (i + 1)) (count - (i + 1))))
+    (flat_map f (range_with_len (first + (i + 1)) (count - (i + 1))))
     (next_numbers f first i count c.loop-entry-test.true) (g.W.Write.contents c.tell_any.new.output) c.tell_any.new.self
     (option_to_list c.directory_index.result) c.directory_index.ensures _ c.in_err-tell_any.ensures.told)
 

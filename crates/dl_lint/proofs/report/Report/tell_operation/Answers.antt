@@ -9,24 +9,24 @@ use Rattle.dl_lint.proofs.TellLemmas.{lost, more_told, none_yet, told_last}
 use Rattle.dl_lint.proofs.report.Report.tell_operation.Goals as goal
 
 pub returns-in_err-tell_any-clause-told : goal.returns-in_err-tell_any-clause-told
-returns-in_err-tell_any-clause-told g c visits is knows moves =
+returns-in_err-tell_any-clause-told g c s visits is knows moves =
     let e = err_from_is_err_and c.from_residual.result c.from_residual.ensures.1 in
     let h = c.args.header.now in
     let o = c.args.operation in
     let v = of_item (an_operation h o) in
-    let f0 = none_yet (g.W.Write.contents c.args.output.now) c.args.self.now (findings_at visits v) in
+    let f0 = none_yet (g.W.Write.contents c.args.output.now) c.args.self.now (findings_at s visits v) in
     rw (e.1, e.2) (lost f0 (long_number_at visits v)
     (wrapped_address_at visits v ++ (unknown_opcode_at visits v ++ [])) refl (g.W.Write.contents c.tell_any.new.output)
     c.tell_any.new.self (option_to_list c.long_number.result) (c.long_number.ensures visits h o is knows) _
     c.in_err-tell_any.ensures.told)
 
 pub returns-in_err-tell_any-2-clause-told : goal.returns-in_err-tell_any-2-clause-told
-returns-in_err-tell_any-2-clause-told g c visits is knows moves =
+returns-in_err-tell_any-2-clause-told g c s visits is knows moves =
     let e = err_from_is_err_and c.from_residual-in_err-tell_any-2.result c.from_residual-in_err-tell_any-2.ensures.1 in
     let h = c.args.header.now in
     let o = c.args.operation in
     let v = of_item (an_operation h o) in
-    let f0 = none_yet (g.W.Write.contents c.args.output.now) c.args.self.now (findings_at visits v) in
+    let f0 = none_yet (g.W.Write.contents c.args.output.now) c.args.self.now (findings_at s visits v) in
     let f1 = more_told f0 (long_number_at visits v) (wrapped_address_at visits v ++ (unknown_opcode_at visits v ++ [])) refl
     (g.W.Write.contents c.tell_any.new.output) c.tell_any.new.self (option_to_list c.long_number.result)
     (c.long_number.ensures visits h o is knows) c.in_ok-tell_any.ensures.told in
@@ -35,11 +35,11 @@ returns-in_err-tell_any-2-clause-told g c visits is knows moves =
     (c.wrapped_address.ensures visits is knows moves) _ c.in_err-tell_any-2.ensures.told)
 
 pub returns-clause-told : goal.returns-clause-told
-returns-clause-told g c visits is knows moves =
+returns-clause-told g c s visits is knows moves =
     let h = c.args.header.now in
     let o = c.args.operation in
     let v = of_item (an_operation h o) in
-    let f0 = none_yet (g.W.Write.contents c.args.output.now) c.args.self.now (findings_at visits v) in
+    let f0 = none_yet (g.W.Write.contents c.args.output.now) c.args.self.now (findings_at s visits v) in
     let f1 = more_told f0 (long_number_at visits v) (wrapped_address_at visits v ++ (unknown_opcode_at visits v ++ [])) refl
     (g.W.Write.contents c.tell_any.new.output) c.tell_any.new.self (option_to_list c.long_number.result)
     (c.long_number.ensures visits h o is knows) c.in_ok-tell_any.ensures.told in

@@ -27,20 +27,20 @@ abbrev after_files : List Visit → Visit → List Finding
 after_files before v = falling_place_at before v ++ after_falls before v
 
 pub returns-in_err-tell_any-clause-told : goal.returns-in_err-tell_any-clause-told
-returns-in_err-tell_any-clause-told g c visits is =
+returns-in_err-tell_any-clause-told g c s visits is =
     let e = err_from_is_err_and c.from_residual.result c.from_residual.ensures.1 in
     let h = c.args.header.now in
     let v = of_item (a_row h c.args.row.now) in
-    let f0 = none_yet (g.W.Write.contents c.args.output.now) c.args.self.now (findings_at visits v) in
+    let f0 = none_yet (g.W.Write.contents c.args.output.now) c.args.self.now (findings_at s visits v) in
     rw (e.1, e.2) (lost f0 (file_index_at visits v) (after_files visits v) refl (g.W.Write.contents c.tell_any.new.output)
     c.tell_any.new.self (option_to_list c.file_index.result) (c.file_index.ensures visits is) _ c.in_err-tell_any.ensures.told)
 
 pub returns-in_err-tell_any-2-clause-told : goal.returns-in_err-tell_any-2-clause-told
-returns-in_err-tell_any-2-clause-told g c visits is =
+returns-in_err-tell_any-2-clause-told g c s visits is =
     let e = err_from_is_err_and c.from_residual-in_err-tell_any-2.result c.from_residual-in_err-tell_any-2.ensures.1 in
     let h = c.args.header.now in
     let v = of_item (a_row h c.args.row.now) in
-    let f0 = none_yet (g.W.Write.contents c.args.output.now) c.args.self.now (findings_at visits v) in
+    let f0 = none_yet (g.W.Write.contents c.args.output.now) c.args.self.now (findings_at s visits v) in
     let f1 = more_told f0 (file_index_at visits v) (after_files visits v) refl
     (g.W.Write.contents c.tell_any.new.output) c.tell_any.new.self (option_to_list c.file_index.result)
     (c.file_index.ensures visits is) c.in_ok-tell_any.ensures.told in
@@ -48,11 +48,11 @@ returns-in_err-tell_any-2-clause-told g c visits is =
     c.tell_any-2.new.self (option_to_list c.falling_place.result) (c.falling_place.ensures visits h is) _ c.in_err-tell_any-2.ensures.told)
 
 pub returns-in_err-tell_any-3-clause-told : goal.returns-in_err-tell_any-3-clause-told
-returns-in_err-tell_any-3-clause-told g c visits is =
+returns-in_err-tell_any-3-clause-told g c s visits is =
     let e = err_from_is_err_and c.from_residual-in_err-tell_any-3.result c.from_residual-in_err-tell_any-3.ensures.1 in
     let h = c.args.header.now in
     let v = of_item (a_row h c.args.row.now) in
-    let f0 = none_yet (g.W.Write.contents c.args.output.now) c.args.self.now (findings_at visits v) in
+    let f0 = none_yet (g.W.Write.contents c.args.output.now) c.args.self.now (findings_at s visits v) in
     let f1 = more_told f0 (file_index_at visits v) (after_files visits v) refl
     (g.W.Write.contents c.tell_any.new.output) c.tell_any.new.self (option_to_list c.file_index.result)
     (c.file_index.ensures visits is) c.in_ok-tell_any.ensures.told in
@@ -63,11 +63,11 @@ returns-in_err-tell_any-3-clause-told g c visits is =
     c.tell_any-3.new.self (option_to_list c.empty_sequence.result) (c.empty_sequence.ensures visits h is) _ c.in_err-tell_any-3.ensures.told)
 
 pub returns-in_err-tell_any-4-clause-told : goal.returns-in_err-tell_any-4-clause-told
-returns-in_err-tell_any-4-clause-told g c visits is =
+returns-in_err-tell_any-4-clause-told g c s visits is =
     let e = err_from_is_err_and c.from_residual-in_err-tell_any-4.result c.from_residual-in_err-tell_any-4.ensures.1 in
     let h = c.args.header.now in
     let v = of_item (a_row h c.args.row.now) in
-    let f0 = none_yet (g.W.Write.contents c.args.output.now) c.args.self.now (findings_at visits v) in
+    let f0 = none_yet (g.W.Write.contents c.args.output.now) c.args.self.now (findings_at s visits v) in
     let f1 = more_told f0 (file_index_at visits v) (after_files visits v) refl
     (g.W.Write.contents c.tell_any.new.output) c.tell_any.new.self (option_to_list c.file_index.result)
     (c.file_index.ensures visits is) c.in_ok-tell_any.ensures.told in
@@ -81,11 +81,11 @@ returns-in_err-tell_any-4-clause-told g c visits is =
     c.tell_any-4.new.self (option_to_list c.line_wrapped.result) (c.line_wrapped.ensures visits h is) _ c.in_err-tell_any-4.ensures.told)
 
 pub returns-in_err-tell_any-5-clause-told : goal.returns-in_err-tell_any-5-clause-told
-returns-in_err-tell_any-5-clause-told g c visits is =
+returns-in_err-tell_any-5-clause-told g c s visits is =
     let e = err_from_is_err_and c.from_residual-in_err-tell_any-5.result c.from_residual-in_err-tell_any-5.ensures.1 in
     let h = c.args.header.now in
     let v = of_item (a_row h c.args.row.now) in
-    let f0 = none_yet (g.W.Write.contents c.args.output.now) c.args.self.now (findings_at visits v) in
+    let f0 = none_yet (g.W.Write.contents c.args.output.now) c.args.self.now (findings_at s visits v) in
     let f1 = more_told f0 (file_index_at visits v) (after_files visits v) refl
     (g.W.Write.contents c.tell_any.new.output) c.tell_any.new.self (option_to_list c.file_index.result)
     (c.file_index.ensures visits is) c.in_ok-tell_any.ensures.told in
@@ -102,10 +102,10 @@ returns-in_err-tell_any-5-clause-told g c visits is =
     c.tell_any-5.new.self (option_to_list c.no_statement.result) (c.no_statement.ensures visits h is) _ c.in_err-tell_any-5.ensures.told)
 
 pub returns-clause-told : goal.returns-clause-told
-returns-clause-told g c visits is =
+returns-clause-told g c s visits is =
     let h = c.args.header.now in
     let v = of_item (a_row h c.args.row.now) in
-    let f0 = none_yet (g.W.Write.contents c.args.output.now) c.args.self.now (findings_at visits v) in
+    let f0 = none_yet (g.W.Write.contents c.args.output.now) c.args.self.now (findings_at s visits v) in
     let f1 = more_told f0 (file_index_at visits v) (after_files visits v) refl
     (g.W.Write.contents c.tell_any.new.output) c.tell_any.new.self (option_to_list c.file_index.result)
     (c.file_index.ensures visits is) c.in_ok-tell_any.ensures.told in

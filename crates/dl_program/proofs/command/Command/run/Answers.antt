@@ -2,9 +2,9 @@ use Rattle.std.proofs.Common.{◌∙◌, Ok, ap, refl, sym}
 use Rattle.dl_program.specs.Answers.{all_whole, answered, answered_around, summed, summed_around}
 use Rattle.dl_program.specs.declared.command.Command.TheVariants.{Addr, AddrAround, Lines, LinesAround, Sources, SourcesAround}
 use Rattle.dl_sections.proofs.BlameLemmas.{blames_where}
-use Rattle.dl_program.proofs.BlameLemmas.{around_read, around_writer, found_read, found_writer, sums_around_read}
+use Rattle.dl_program.proofs.BlameLemmas.{around_read, around_writer, found_read, found_writer, sums_around_read, unit_read, unit_writer}
 use Rattle.dl_program.proofs.BlameLemmas.{sums_around_writer, sums_read, sums_writer, whole_read, whole_writer}
-use Rattle.dl_program.proofs.EndLemmas.{around_over, find_over, told_around_over, told_over, whole_over}
+use Rattle.dl_program.proofs.EndLemmas.{around_over, find_over, told_around_over, told_over, unit_over, whole_over}
 use Rattle.dl_program.proofs.command.Command.run.Goals as goal
 
 pub returns-in-DumpAround-clause-ran : goal.returns-in-DumpAround-clause-ran
@@ -19,6 +19,64 @@ returns-in-DumpAround-clause-blames g c = c.dump_details_around.ensures.blames
 
 pub returns-in-CheckAround-clause-blames : goal.returns-in-CheckAround-clause-blames
 returns-in-CheckAround-clause-blames g c = c.check_around.ensures.blames
+
+pub returns-in-DumpRangeAround-clause-ran : goal.returns-in-DumpRangeAround-clause-ran
+returns-in-DumpRangeAround-clause-ran g c = rw c.in-DumpRangeAround.is c.dump_range_around.ensures.ran
+
+pub returns-in-DumpRangeAround-clause-blames : goal.returns-in-DumpRangeAround-clause-blames
+returns-in-DumpRangeAround-clause-blames g c = c.dump_range_around.ensures.blames
+
+pub returns-in-DumpRange-clause-blames : goal.returns-in-DumpRange-clause-blames
+returns-in-DumpRange-clause-blames g c =
+    blames_where c.dump_range.ensures.blames (λ e. whole_read c.dump_range.result (sym c.all_whole-in-DumpRange.ensures ∙ e.1))
+
+pub returns-in-DumpRange-clause-blames_writer : goal.returns-in-DumpRange-clause-blames_writer
+returns-in-DumpRange-clause-blames_writer g c none =
+    rw c.all_whole-in-DumpRange.ensures (whole_writer _ c.dump_range.result c.dump_range.ensures.blames_writer)
+
+pub returns-in-DumpRange-clause-over : goal.returns-in-DumpRange-clause-over
+returns-in-DumpRange-clause-over g c none =
+    whole_over (g.R.Source.over c.dump_range.new.input) c.args.self _ c.dump_range.result c.all_whole-in-DumpRange.result c.in-DumpRange.is c.all_whole-in-DumpRange.ensures (λ f no. no) c.dump_range.ensures.over
+
+pub returns-in-DumpRangeAround-clause-over : goal.returns-in-DumpRangeAround-clause-over
+returns-in-DumpRangeAround-clause-over g c none =
+    around_over (g.R.Source.over c.dump_range_around.new.input) c.args.self _ c.dump_range_around.result c.in-DumpRangeAround.is (λ f no. no) (λ survey whole. whole) (c.dump_range_around.ensures.over none)
+
+pub returns-in-DumpJsonAround-clause-ran : goal.returns-in-DumpJsonAround-clause-ran
+returns-in-DumpJsonAround-clause-ran g c = rw c.in-DumpJsonAround.is c.dump_json_around.ensures.ran
+
+pub returns-in-DumpJsonAround-clause-blames : goal.returns-in-DumpJsonAround-clause-blames
+returns-in-DumpJsonAround-clause-blames g c = c.dump_json_around.ensures.blames
+
+pub returns-in-DumpJson-clause-blames : goal.returns-in-DumpJson-clause-blames
+returns-in-DumpJson-clause-blames g c =
+    blames_where c.dump_json.ensures.blames (λ e. whole_read c.dump_json.result (sym c.all_whole-in-DumpJson.ensures ∙ e.1))
+
+pub returns-in-DumpUnit-clause-blames : goal.returns-in-DumpUnit-clause-blames
+returns-in-DumpUnit-clause-blames g c =
+    blames_where c.dump_unit.ensures.blames (λ e. unit_read c.dump_unit.result
+    (sym c.unit_shown.ensures ∙ whole_read c.unit_shown.result (sym c.all_whole-in-DumpUnit.ensures ∙ e.1)))
+
+pub returns-in-DumpJson-clause-blames_writer : goal.returns-in-DumpJson-clause-blames_writer
+returns-in-DumpJson-clause-blames_writer g c none =
+    rw c.all_whole-in-DumpJson.ensures (whole_writer _ c.dump_json.result c.dump_json.ensures.blames_writer)
+
+pub returns-in-DumpUnit-clause-blames_writer : goal.returns-in-DumpUnit-clause-blames_writer
+returns-in-DumpUnit-clause-blames_writer g c none =
+    rw c.all_whole-in-DumpUnit.ensures (whole_writer _ c.unit_shown.result
+    (rw c.unit_shown.ensures (unit_writer _ c.dump_unit.result c.dump_unit.ensures.blames_writer)))
+
+pub returns-in-DumpJson-clause-over : goal.returns-in-DumpJson-clause-over
+returns-in-DumpJson-clause-over g c none =
+    whole_over (g.R.Source.over c.dump_json.new.input) c.args.self _ c.dump_json.result c.all_whole-in-DumpJson.result c.in-DumpJson.is c.all_whole-in-DumpJson.ensures (λ f no. no) c.dump_json.ensures.over
+
+pub returns-in-DumpJsonAround-clause-over : goal.returns-in-DumpJsonAround-clause-over
+returns-in-DumpJsonAround-clause-over g c none =
+    around_over (g.R.Source.over c.dump_json_around.new.input) c.args.self _ c.dump_json_around.result c.in-DumpJsonAround.is (λ f no. no) (λ survey whole. whole) (c.dump_json_around.ensures.over none)
+
+pub returns-in-DumpUnit-clause-over : goal.returns-in-DumpUnit-clause-over
+returns-in-DumpUnit-clause-over g c none =
+    unit_over (g.R.Source.over c.dump_unit.new.input) c.args.self _ _ c.all_whole-in-DumpUnit.result c.in-DumpUnit.is
 
 pub returns-in-Dump-clause-blames : goal.returns-in-Dump-clause-blames
 returns-in-Dump-clause-blames g c =

@@ -1,0 +1,4 @@
+pub mod ArrayLemmas
+pub mod ValueLemmas
+pub mod FlagLemmas
+pub mod DumpingLemmas

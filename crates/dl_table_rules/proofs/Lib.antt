@@ -1,0 +1,5 @@
+pub mod FirstLemmas
+pub mod OrderLemmas
+pub mod NamedLemmas
+pub mod TextLemmas
+pub mod ContentLemmas
