@@ -29,7 +29,7 @@ _dwline() {
         check) options="--keep-going --older --address-size --version-5 --debug-dir --no-follow --verbose --big --files-from -0 --null --progress -h --help" ;;
         copy) options="--to-5 --older --address-size --comp-dir --big -h --help" ;;
         find) options="--op -j --section --older --address-size --version-5 --debug-dir --no-follow --verbose --big --line-str --str -h --help" ;;
-        sources) options="--rows --md5 --json --all --keep-going --comp-dir --older --address-size --version-5 --debug-dir --no-follow --verbose --big --line-str --str -h --help" ;;
+        sources) options="--rows --md5 --json --unit --all --keep-going --comp-dir --older --address-size --version-5 --debug-dir --no-follow --verbose --big --line-str --str -h --help" ;;
         lines) options="--exact --all --stop -j --section --older --address-size --version-5 --comp-dir --debug-dir --no-follow --verbose --big --line-str --str -h --help" ;;
         lint) options="--keep-going --rule --no-rule --json --older --address-size --version-5 --debug-dir --no-follow --verbose --big --line-str --str -h --help" ;;
         help)

@@ -40,6 +40,7 @@ complete -c dwline -n "__fish_seen_subcommand_from addr" -l for -r -F -d "ELF fi
 complete -c dwline -n "__fish_seen_subcommand_from sources" -l rows -d "Print how many rows name each path, and how many bytes of code they have"
 complete -c dwline -n "__fish_seen_subcommand_from sources" -l md5 -d "Print the MD5 sums of each path"
 complete -c dwline -n "__fish_seen_subcommand_from sources" -l json -d "Print a JSON object for each path, one a line"
+complete -c dwline -n "__fish_seen_subcommand_from sources" -l unit -x -d "Print the paths of the unit alone that begins at this offset"
 complete -c dwline -n "__fish_seen_subcommand_from lines" -l exact -d "Look for each line alone, and for none above it"
 complete -c dwline -n "__fish_seen_subcommand_from copy" -l to-5 -d "Copy units of versions 2 to 4 too, as units of version 5"
 complete -c dwline -n "__fish_seen_subcommand_from addr dump check find copy sources lines lint" -l big -d "Read the section on standard input as big-endian"

@@ -186,6 +186,11 @@ wants 0 "/boxantrel/packed.c
 " "" operations/debug_line sources "${lines[@]}" "${others[@]}"
 wants 0 '{"path":"/boxantrel/packed.c"}
 ' "" operations/debug_line sources --json "${lines[@]}" "${others[@]}"
+wants 0 '{"path":"/boxantrel/packed.c"}
+' "" / sources --json --unit 0x0 operations/program
+wants 1 "" $'dwline: no unit at this offset\n' / sources --unit 1 operations/program
+wants 1 "" $'dwline: no unit at this offset\n' operations/debug_line sources --unit 0xffffffffffffffff
+wants 2 "" "$not_understood" / sources --unit 0xg operations/program
 
 # The unit at an offset, the sequences of a range, and findings, of files.
 "$dwline" dump operations/program > "$work/operations"
@@ -665,6 +670,9 @@ refuses addr -a $file 1 --json
 for command in dump check "find 1" addr "index -o $work/none" sources lines; do
     refuses $command --no-follow --debug-dir a $file
 done
+for command in dump sources; do
+    refuses $command --unit 0 --keep-going $file
+done
 refuses index --list --no-follow $file
 refuses index --list --debug-dir a $file
 refuses check --files-from a --big
@@ -729,6 +737,7 @@ refuses dump --operations --operations
 refuses dump --paths --paths
 refuses addr --stop --stop -
 refuses sources --rows --rows
+refuses sources --unit 0 --unit 0
 refuses lines --exact --exact - a:1
 conflict="requires a subcommand"
 refuses

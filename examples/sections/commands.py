@@ -166,6 +166,36 @@ PARTS = [
      damage(52, ENDS_INSIDE)),
 ]
 
+# A section, words of `sources`, the paths of the unit at an offset, with the rows and bytes of code that they have, or their sums,
+# and what is told: none of a unit that is damaged. Where no unit is, the first one that is damaged is told, if there is one.
+OF_UNIT = "/s/a.c\n"
+SUM = "000102030405060708090a0b0c0d0e0f"
+UNIT_SOURCES = [
+    (WITH_FILE, ("--unit", "0"), OF_UNIT, b""),
+    (WITH_FILE, ("--unit", "0", "--rows"), "1 4 " + OF_UNIT, b""),
+    (WITH_FILE, ("--unit", "0", "--md5"), f"{SUM} {OF_UNIT}", b""),
+    (WITH_FILE, ("--unit", "0", "--json"), '{"path":"/s/a.c"}\n', b""),
+    (THREE_ROWS + WITH_FILE, ("--unit", "52"), OF_UNIT, b""),
+    (THREE_ROWS + WITH_FILE, ("--unit", "0x34", "--rows"), "1 4 " + OF_UNIT, b""),
+    (WITH_FILE + WITH_FILE, ("--unit", str(len(WITH_FILE)), "--rows"), "1 4 " + OF_UNIT, b""),
+    (WITH_FILE + THREE_ROWS, ("--unit", str(len(WITH_FILE))), "", b""),
+    (DWARF64_WITH_MD5, ("--unit", "0", "--rows"), "0 0 " + OF_UNIT, b""),
+    (BIG_DWARF64_WITH_MD5, ("--big", "--unit", "0", "--md5"), f"{SUM} {OF_UNIT}", b""),
+    (FOREIGN + WITH_FILE, ("--unit", "0"), "", b""),
+    (FOREIGN + WITH_FILE, ("--unit", str(len(FOREIGN))), OF_UNIT, b""),
+    (WITH_FILE, ("--unit", "1"), "", NO_UNIT),
+    (WITH_FILE, ("--unit", str(len(WITH_FILE))), "", NO_UNIT),
+    (WITH_FILE, ("--unit", "18446744073709551615"), "", NO_UNIT),
+    (b"", ("--unit", "0"), "", NO_UNIT),
+    (WITH_FILE + b"\5", ("--unit", "0"), OF_UNIT, b""),
+    (WITH_FILE[:-1], ("--unit", "0"), "", damage(len(WITH_FILE) - 1, TRUNCATED)),
+    (THREE_ROWS_AND_A_BYTE + WITH_FILE, ("--unit", "53"), OF_UNIT, b""),
+    (THREE_ROWS_AND_A_BYTE + WITH_FILE, ("--unit", "0"), "", damage(52, ENDS_INSIDE)),
+    (THREE_ROWS_AND_A_BYTE + WITH_FILE, ("--unit", "52"), "", damage(52, ENDS_INSIDE)),
+    (WITH_FILE + THREE_ROWS_AND_A_BYTE, ("--unit", "0"), OF_UNIT, b""),
+    (WITH_FILE + bytes.fromhex("f0 ff ff ff"), ("--unit", "200"), "", damage(len(WITH_FILE), "reserved initial length")),
+]
+
 NO_FILE = "file-index: row {} at 0x{:016x} names file 1 of 0, numbered from 0\n"
 TWO_NAMES = "0x2d " + NO_FILE.format(1, 0x401000) + "0x2e " + NO_FILE.format(2, 0x401004)
 THREE_BYTES = "0x0 padding: 3 bytes stand between the tables and the program\n"
@@ -189,6 +219,8 @@ FINDINGS = [
 # Words that say no offset, no range and no rule.
 REFUSED_WORDS = [
     (("dump", "--unit", "1x"), NOT_UNDERSTOOD),
+    (("sources", "--unit", "1x"), NOT_UNDERSTOOD),
+    (("sources", "--unit", "18446744073709551616"), NOT_UNDERSTOOD),
     (("dump", "--range", "5"), NOT_UNDERSTOOD),
     (("dump", "--range", "5-"), NOT_UNDERSTOOD),
     (("lint", "--rule", "no-such"), error("no-such is no rule")),
@@ -218,6 +250,8 @@ def runs_of_headers():
 def runs_of_parts():
     for section, words, dump, fault in PARTS:
         yield Run(f"dump {' '.join(words)}", ("dump", *words), section, 1 if fault else 0, text(dump), (fault,))
+    for section, words, paths, fault in UNIT_SOURCES:
+        yield Run(f"sources {' '.join(words)}", ("sources", *words), section, 1 if fault else 0, text(paths), (fault,))
     for section, words, lines, told in FINDINGS:
         yield Run(f"lint {' '.join(words)}", ("lint", *words), section, 1 if told else 0, text(lines), (told,))
     for words, fault in REFUSED_WORDS:

@@ -10,6 +10,7 @@ const INPUT: SourcesWords<'static> = SourcesWords {
     rows: false,
     md5: false,
     json: false,
+    unit: None,
     all: false,
     keep_going: false,
     big: false,
@@ -51,6 +52,21 @@ const ROWS: &[(&[&str], SourcesWords<'static>)] = &[
         SourcesWords {
             json: true,
             ..PROGRAM
+        },
+    ),
+    (
+        &["dwline", "sources", "--unit", "0x40", "program"],
+        SourcesWords {
+            unit: Some("0x40"),
+            ..PROGRAM
+        },
+    ),
+    (
+        &["dwline", "sources", "--json", "--unit=12"],
+        SourcesWords {
+            json: true,
+            unit: Some("12"),
+            ..INPUT
         },
     ),
     (
@@ -153,6 +169,14 @@ const REFUSED: &[(&[&str], ErrorKind)] = &[
     ),
     (
         &["dwline", "sources", "--no-follow", "--debug-dir", "d", "a"],
+        ErrorKind::ArgumentConflict,
+    ),
+    (
+        &["dwline", "sources", "--unit", "0", "--keep-going"],
+        ErrorKind::ArgumentConflict,
+    ),
+    (
+        &["dwline", "sources", "--unit", "0", "--unit", "0"],
         ErrorKind::ArgumentConflict,
     ),
     (

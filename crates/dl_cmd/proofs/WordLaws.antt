@@ -93,4 +93,6 @@ worked_words = (
   refl,
   refl,
   refl,
+  refl,
+  refl,
 )

@@ -87,6 +87,7 @@ pub record SourcesTexts : Type 0 where
   pub rows : Bool
   pub md5 : Bool
   pub json : Bool
+  pub unit : Option Text
   pub all : Bool
   pub keep_going : Bool
   pub big : Bool
@@ -229,6 +230,7 @@ sources_words_made w = record {
   rows = w.rows;
   md5 = w.md5;
   json = w.json;
+  unit = option_map (λ s. s.now) w.unit;
   all = w.all;
   keep_going = w.keep_going;
   big = w.big;

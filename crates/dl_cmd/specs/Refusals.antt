@@ -5,8 +5,8 @@ use Rattle.clap.specs.Words.{fault_of, subcommand_of}
 use Rattle.clap.specs.Kinds.{Kinds, or_else}
 use Rattle.clap.specs.declared.error.kind.ErrorKind.TheVariants.{ArgumentConflict, MissingRequiredArgument}
 use Rattle.dl_options.specs.CommandLine.{command_line}
-use Rattle.dl_cmd.specs.Job.{DumpTexts, FilesTexts, FollowTexts, IndexTexts, Request, Text, UnitTexts, WordTexts, addr, check}
-use Rattle.dl_cmd.specs.Job.{copy, dump, find, index, lines, lint, sources}
+use Rattle.dl_cmd.specs.Job.{DumpTexts, FilesTexts, FollowTexts, IndexTexts, Request, SourcesTexts, Text, UnitTexts, WordTexts}
+use Rattle.dl_cmd.specs.Job.{addr, check, copy, dump, find, index, lines, lint, sources}
 use Rattle.dl_cmd.specs.Words.{said}
 
 -- `--version-5` beside `--address-size`, which is said of units of other versions
@@ -63,6 +63,12 @@ dump_conflicts w =
     says_two_versions w.units || (says_file_and_input w.file w.big w.units w.line_str w.strings
     || (says_two_forms w || says_two_parts w))
 
+-- words of `sources` stand together that may not: `--unit` beside `--keep-going` too, which it does by itself
+abbrev pub sources_conflicts : SourcesTexts → Bool
+sources_conflicts w =
+    says_two_versions w.units || (says_file_and_input w.file w.big w.units w.line_str w.strings
+    || (is_some w.unit && w.keep_going))
+
 -- `check` has a FILE, or a list of them
 abbrev pub has_files : (file : Option Text) → FilesTexts → Bool
 has_files file files = is_some file || is_some files.files_from
@@ -77,8 +83,7 @@ job_conflicts (find file big units address op section line_str strings) follow f
 job_conflicts (copy file big units to_5 comp_dir) follow files = is_some file && says_of_input big units
 job_conflicts (addr w) follow files = says_two_versions w.units || (w.json && w.with_addresses)
 job_conflicts (index w) follow files = says_two_versions w.units || (w.list && says_of_made w follow)
-job_conflicts (sources w) follow files =
-    says_two_versions w.units || says_file_and_input w.file w.big w.units w.line_str w.strings
+job_conflicts (sources w) follow files = sources_conflicts w
 job_conflicts (lines w) follow files = says_two_versions w.units
 job_conflicts (lint w) follow files =
     says_two_versions w.units || says_file_and_input w.file w.big w.units w.line_str w.strings

@@ -76,6 +76,7 @@ sources_words_of rows = record {
   rows = flag_of (codes "rows") rows;
   md5 = flag_of (codes "md5") rows;
   json = flag_of (codes "json") rows;
+  unit = text_of (codes "unit") rows;
   all = flag_of (codes "all") rows;
   keep_going = flag_of (codes "keep-going") rows;
   big = flag_of (codes "big") rows;

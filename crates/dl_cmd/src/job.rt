@@ -232,6 +232,8 @@ pub struct SourcesWords<'a> {
     pub md5: bool,
     /// Each line is a JSON object.
     pub json: bool,
+    /// The offset of the unit whose paths are printed alone.
+    pub unit: Option<&'a str>,
     /// Sequences that begin outside executable sections count too.
     pub all: bool,
     /// After a unit that is damaged the next one is read.

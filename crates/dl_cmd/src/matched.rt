@@ -85,11 +85,13 @@ fn index_words<'a>(matches: &ArgMatches<'a>) -> IndexWords<'a>
 fn sources_words<'a>(matches: &ArgMatches<'a>) -> SourcesWords<'a>
     ensures { sources_words_made result ≡ sources_words_of (rows_of (found_of matches.now)) }
 {
+    let unit = text(matches, "unit");
     SourcesWords {
         file: text(matches, "file"),
         rows: flag(matches, "rows"),
         md5: flag(matches, "md5"),
         json: flag(matches, "json"),
+        unit,
         all: flag(matches, "all"),
         keep_going: flag(matches, "keep-going"),
         big: flag(matches, "big"),

@@ -2,13 +2,13 @@
 ghost use Rattle.std.specs.Prelude.{◌≡◌, ◌&&◌, ◌||◌, ◌∷◌, [], is_some, not, option_map};
 ghost use Rattle.std.specs.Option.{option_map_or};
 ghost use Rattle.dl_cmd.specs.Job.{dump_words_made, files_words_made, follow_words_made, index_words_made, lines_words_made, request_made};
-ghost use Rattle.dl_cmd.specs.Job.{unit_words_made, words_made};
+ghost use Rattle.dl_cmd.specs.Job.{sources_words_made, unit_words_made, words_made};
 ghost use Rattle.dl_cmd.specs.Refusals.{dump_conflicts, has_conflict, has_files, is_there, job_conflicts, job_lacks, lacks_word, refusal_of};
 ghost use Rattle.dl_cmd.specs.Refusals.{says_both_follow, says_file_and_input, says_follow, says_of_file, says_of_input, says_of_made};
-ghost use Rattle.dl_cmd.specs.Refusals.{says_strings, says_two_forms, says_two_parts, says_two_versions};
+ghost use Rattle.dl_cmd.specs.Refusals.{says_strings, says_two_forms, says_two_parts, says_two_versions, sources_conflicts};
 
 use crate::job::{
-    DumpWords, FilesWords, FollowWords, IndexWords, Job, LinesWords, UnitWords, Words,
+    DumpWords, FilesWords, FollowWords, IndexWords, Job, LinesWords, SourcesWords, UnitWords, Words,
 };
 use clap::error::ErrorKind;
 
@@ -221,6 +221,19 @@ fn dump_conflict(words: &DumpWords<'_>) -> Option<&'static str>
         .or(two_forms(words).or(two_parts(words)))
 }
 
+/// Two words of `sources` that may not stand together, as the user is told.
+fn sources_conflict(words: &SourcesWords<'_>) -> Option<&'static str>
+    ensures { is_some result ≡ sources_conflicts (sources_words_made words.now) }
+{
+    let units = &words.units;
+    let goes_past_unit = words.unit.is_some() && words.keep_going;
+    let beside_unit = goes_past_unit.then_some(
+        "the argument '--unit <OFFSET>' cannot be used with '--keep-going'",
+    );
+    let of_both = beside_file(words.file, words.big, units, words.line_str, words.strings);
+    two_versions(units).or(of_both.or(beside_unit))
+}
+
 /// Two words of a job that may not stand together, as the user is told.
 fn job_conflict(
     job: &Job<'_>,
@@ -263,13 +276,7 @@ fn job_conflict(
             let listed = words.list.then_some(());
             two_versions(&words.units).or(listed.and(of_made(words, follow)))
         }
-        Job::Sources(words) => two_versions(&words.units).or(beside_file(
-            words.file,
-            words.big,
-            &words.units,
-            words.line_str,
-            words.strings,
-        )),
+        Job::Sources(words) => sources_conflict(words),
         Job::Lines(words) => two_versions(&words.units),
         Job::Lint(words) => two_versions(&words.units).or(beside_file(
             words.file,

@@ -1,10 +1,13 @@
 -- What the text of one unit comes to.
-use Rattle.std.proofs.Common.{◌≡◌, ◌∙◌, ◌||◌, ℕ, List, [], Bool, true, false, Option, Ok, Err, inl, inr, refl, sym, ap, ap₂, subst}
-use Rattle.std.specs.Prelude.{None, Some}
+use Rattle.std.proofs.Common.{◌≡◌, ◌∙◌, ◌||◌, ◌&&◌, ◌∷◌, ℕ, List, [], Bool, true, false, Option, Ok, Err, inl, inr, refl, sym, ap, ap₂, subst}
+use Rattle.std.proofs.Common.{true≢false}
+use Rattle.std.specs.Prelude.{◌⊎◌, None, Some}
 use Rattle.std.specs.Option.{option_or}
 use Rattle.dl_head.specs.declared.dialect.Dialect.{Dialect}
-use Rattle.dl_sections.specs.Around.{RanAround, begun, visits_around}
+use Rattle.dl_sections.specs.Around.{RanAround, begun, damaged_units, faults_of, visits_around}
+use Rattle.dl_sections.specs.Ending.{WantsNoMore}
 use Rattle.dl_sections.specs.declared.around.Damage.{Damage}
+use Rattle.dl_sections.specs.declared.around.DamagedUnits.{DamagedUnits}
 use Rattle.dl_sections.specs.declared.around.Survey.{Survey}
 use Rattle.dl_sections.specs.declared.fault.RunFault.{RunFault}
 use Rattle.dl_sections.specs.declared.fault.RunFault.TheVariants as fault
@@ -17,7 +20,8 @@ use Rattle.dl_dump.specs.DetailText.{DetailStyle, reached_after, shown_after}
 use Rattle.dl_dump.specs.Dumping.{style_of}
 use Rattle.dl_dump.specs.Reached.{before_units}
 use Rattle.dl_dump.specs.declared.reached.Reached.{Reached}
-use Rattle.dl_dump.specs.UnitCommand.{DumpsUnit, TellsUnit, answer_of, begins_at, first_damage, is_over, told_by, unit_text, unit_told, visits_of}
+use Rattle.dl_dump.specs.UnitCommand.{DumpsUnit, TellsUnit, answer_of, begins_at, ends_unit, first_damage, is_of, is_over, told_by, unit_text, unit_told, visits_of}
+use Rattle.dl_dump.specs.declared.unit_dumping.UnitAt.TheVariants.{NoUnit}
 use Rattle.dl_dump.specs.UnitDumping.{HasShownUnit, ends_in, told_since, unit_story}
 use Rattle.dl_dump.proofs.ShowingLemmas.{shown-append}
 use Rattle.dl_dump.proofs.UnitLemmas.{of-append}
@@ -60,38 +64,43 @@ module _ (dialect : Dialect) (limit : ℕ) (bytes : List ℕ) (left : Option (Li
   begins : (visits : List Visit) → HasShownUnit first new start now visits → new.has_begun ≡ begins_at first.unit visits
   begins visits shown = shown.begun ∙ ap (λ (b : Bool). b || begins_at first.unit visits) is.begun
 
-  answers : (visits : List Visit) → HasShownUnit first new start now visits
-      → told_by new.has_begun new.damage ≡ answer_of first.unit visits
-  answers visits shown =
-      ap₂ told_by (begins visits shown)
+  answers : (visits : List Visit) (damaged others : Option DamagedUnits) → damaged ≡ others
+      → HasShownUnit first new start now visits → told_by new.has_begun new.damage damaged ≡ answer_of first.unit visits others
+  answers visits damaged others same shown =
+      ap (told_by new.has_begun new.damage) same
+      ∙ ap₂ (λ (b : Bool) (d : Option Damage). told_by b d others) (begins visits shown)
       (shown.damage ∙ ap₂ (λ (d : Option Damage) (l : List Visit). option_or d (first_damage l)) is.damage (told visits))
 
-  dumps_told : (b : Bool) (d : Option Damage)
-      → TellsUnit dialect (style_of first.dumper) first.unit limit bytes left start now (told_by b d)
-      → DumpsUnit dialect (style_of first.dumper) first.unit limit bytes left start now (told_by b d)
-  dumps_told b (Some damage) tells = tells
-  dumps_told true None tells = tells
-  dumps_told false None tells = tells
+  dumps_told : (b : Bool) (d : Option Damage) (damaged : Option DamagedUnits)
+      → TellsUnit dialect (style_of first.dumper) first.unit limit bytes left start now (told_by b d damaged)
+      → DumpsUnit dialect (style_of first.dumper) first.unit limit bytes left start now (told_by b d damaged)
+  dumps_told b (Some damage) damaged tells = tells
+  dumps_told true None damaged tells = tells
+  dumps_told false None (Some units) tells = tells
+  dumps_told false None None tells = tells
 
   -- all that is told of the unit was read
   pub dumps : (survey : Survey) → RanAround unit_story dialect limit bytes left first new start now (Ok survey)
-      → DumpsUnit dialect (style_of first.dumper) first.unit limit bytes left start now (told_by new.has_begun new.damage)
+      → DumpsUnit dialect (style_of first.dumper) first.unit limit bytes left start now
+      (told_by new.has_begun new.damage survey.damaged)
   dumps survey (inl (blocks, rest, ends, settled)) =
       let visits = visits_around dialect blocks rest in
-      dumps_told new.has_begun new.damage (
+      dumps_told new.has_begun new.damage survey.damaged (
         blocks,
         rest,
         inl (survey, ends, over visits ∙ settled.tells.going),
-        answers visits settled.tells.told,
+        answers visits survey.damaged (damaged_units (faults_of blocks rest)) (ap (λ (v : Survey). v.damaged) ends.2)
+            settled.tells.told,
         rw (← whole_text _) settled.out,
       )
   dumps survey (inr (blocks, others, cut, is_survey, settled)) =
       let visits = visits_around dialect blocks (begun []) in
-      dumps_told new.has_begun new.damage (
+      dumps_told new.has_begun new.damage survey.damaged (
         blocks,
         begun [],
         inr (others, refl, cut, over visits ∙ settled.tells.over),
-        answers visits settled.tells.told,
+        answers visits survey.damaged (damaged_units (faults_of blocks (begun []))) (ap (λ (v : Survey). v.damaged) is_survey)
+            settled.tells.told,
         rw (← whole_text _) settled.out,
       )
 
@@ -111,7 +120,35 @@ module _ (dialect : Dialect) (limit : ℕ) (bytes : List ℕ) (left : Option (Li
       subst (λ (s : DetailStyle). DumpsUnit dialect s first.unit limit bytes left start now (Err f)) same (dumps_not f ran)
 
 -- no read is blamed for what a unit is
-pub never_read : (begins : Bool) (damage : Option Damage) → told_by begins damage ≡ Err fault.Read → ⊥
-never_read begins (Some damage) e = absurd cc
-never_read true None e = absurd cc
-never_read false None e = absurd cc
+pub never_read : (begins : Bool) (damage : Option Damage) (damaged : Option DamagedUnits)
+    → told_by begins damage damaged ≡ Err fault.Read → ⊥
+never_read begins (Some damage) damaged e = absurd cc
+never_read true None damaged e = absurd cc
+never_read false None (Some units) e = absurd cc
+never_read false None None e = absurd cc
+
+-- ---- when the bytes are over: no unit begins there, and none is damaged
+
+pub none_begins : (begins : Bool) (damage : Option Damage) (damaged : Option DamagedUnits)
+    → told_by begins damage damaged ≡ Ok NoUnit → (begins ≡ false) × (damaged ≡ None)
+none_begins begins (Some damage) damaged e = absurd cc
+none_begins true None damaged e = absurd cc
+none_begins false None (Some units) e = absurd cc
+none_begins false None None e = (refl, refl)
+
+over_begun : (unit : ℕ) (has : Bool) (visits : List Visit) → is_over unit has visits ≡ true
+    → (has || begins_at unit visits) ≡ true
+over_begun unit has [] over = absurd (true≢false (sym over))
+over_begun unit true (v ∷ visits) over = refl
+over_begun unit false (v ∷ visits) over = over_begun unit (is_of unit false v) visits (by (ends_unit v) over) where
+  by : (ends : Bool) → ((ends && false) || is_over unit (is_of unit false v) visits) ≡ true
+      → is_over unit (is_of unit false v) visits ≡ true
+  by true over = over
+  by false over = over
+
+-- a dumper that wants nothing more was told of the unit
+pub only_over : (first new : UnitDumper) (start now : Option (List ℕ)) (Over : Type 0) → new.has_begun ≡ false
+    → Over ⊎ WantsNoMore unit_story first new start now → Over
+only_over first new start now Over none (inl over) = over
+only_over first new start now Over none (inr (visits, ends)) =
+    absurd (true≢false (sym (over_begun first.unit first.has_begun visits ends.over) ∙ sym ends.told.begun ∙ none))

@@ -7,10 +7,11 @@ use Rattle.std.specs.Option.{option_or}
 use Rattle.std.specs.Io.KnownBytes.{Appends}
 use Rattle.dl_head.specs.declared.dialect.Dialect.{Dialect}
 use Rattle.dl_sections.specs.declared.around.Damage.{Damage}
+use Rattle.dl_sections.specs.declared.around.DamagedUnits.{DamagedUnits}
 use Rattle.dl_sections.specs.declared.around.Survey.{Survey}
 use Rattle.dl_sections.specs.declared.fault.RunFault.{RunFault}
 use Rattle.dl_sections.specs.declared.fault.RunFault.TheVariants as fault
-use Rattle.dl_sections.specs.Around.{Block, EndsAround, IsCutTo, Rest, begun, visits_around}
+use Rattle.dl_sections.specs.Around.{Block, EndsAround, IsCutTo, Rest, begun, damaged_units, faults_of, visits_around}
 use Rattle.dl_sections.specs.RunOutput.{TellsOut}
 use Rattle.dl_sections.specs.Section.{Visit, of_damage, of_end, of_header, of_version}
 use Rattle.dl_dump.specs.declared.unit_dumping.UnitAt.{UnitAt}
@@ -61,14 +62,16 @@ abbrev pub first_damage : List Visit → Option Damage
 first_damage [] = None
 first_damage (visit ∷ visits) = option_or (damage_of visit) (first_damage visits)
 
--- of a unit that begins there or doesn't, and may be damaged
-abbrev pub told_by : (begins : Bool) → Option Damage → Result UnitAt RunFault
-told_by begins (Some damage) = Err (fault.Damage damage.offset damage.kind)
-told_by true None = Ok Whole
-told_by false None = Ok NoUnit
+-- of a unit that begins there or doesn't, and may be damaged; where it doesn't and units are damaged, of the first of these, by
+-- which it isn't known where units begin
+abbrev pub told_by : (begins : Bool) → Option Damage → Option DamagedUnits → Result UnitAt RunFault
+told_by begins (Some damage) damaged = Err (fault.Damage damage.offset damage.kind)
+told_by true None damaged = Ok Whole
+told_by false None (Some units) = Err (fault.Damage units.first.offset units.first.kind)
+told_by false None None = Ok NoUnit
 
-abbrev pub answer_of : (unit : ℕ) → List Visit → Result UnitAt RunFault
-answer_of unit visits = told_by (begins_at unit visits) (first_damage (unit_told unit visits))
+abbrev pub answer_of : (unit : ℕ) → List Visit → Option DamagedUnits → Result UnitAt RunFault
+answer_of unit visits damaged = told_by (begins_at unit visits) (first_damage (unit_told unit visits)) damaged
 
 -- ---- `dump_unit`
 
@@ -88,7 +91,7 @@ abbrev pub TellsUnit : Dialect → DetailStyle → (unit limit : ℕ) (bytes : L
     → Result UnitAt RunFault → Type 0
 TellsUnit dialect style unit limit bytes left start now result =
     (blocks : List Block) × (rest : Rest) × IsReadTo dialect unit limit bytes left blocks rest
-    × (result ≡ answer_of unit (visits_around dialect blocks rest))
+    × (result ≡ answer_of unit (visits_around dialect blocks rest) (damaged_units (faults_of blocks rest)))
     × Appends start now (unit_text style unit (visits_around dialect blocks rest))
 
 abbrev pub DumpsUnit : Dialect → DetailStyle → (unit limit : ℕ) (bytes : List ℕ) (left start now : Option (List ℕ))

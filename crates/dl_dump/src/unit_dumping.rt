@@ -1,6 +1,6 @@
 //! The command that prints one unit of a section. Sections 3.1.1 and 6.2.4.
 
-ghost use Rattle.std.specs.Prelude.{◌≡◌, ◌≤◌, ◌==◌, [], ℕ, List, if◌then◌else◌};
+ghost use Rattle.std.specs.Prelude.{◌≡◌, ◌≤◌, ◌==◌, [], ℕ, List, Ok, if◌then◌else◌};
 ghost use Rattle.std.specs.Io.KnownBytes.{Consumes};
 ghost use Rattle.dl_input.specs.Failing.{Blames};
 ghost use Rattle.dl_sections.specs.Blaming.{BlamesWriter};
@@ -16,7 +16,8 @@ use dl_output::Destination;
 use dl_print::{Printer, StringSections, WriteFault};
 use dl_rows::{Flow, Operation, Row};
 use dl_sections::{
-    AroundDamage, Damage, Options, RunFault, SECTION_LIMIT, Visitor, read_units_around,
+    AroundDamage, Damage, DamagedUnits, Options, RunFault, SECTION_LIMIT, Visitor,
+    read_units_around,
 };
 use std::alloc::Global;
 
@@ -58,11 +59,18 @@ impl UnitDumper<'_, '_> {
     }
 }
 
-/// What is answered of a unit, of which something was told or nothing, and which may be damaged.
-fn unit_at(has_begun: bool, damage: Option<Damage>) -> Result<UnitAt, RunFault>
-    ensures { result ≡ told_by has_begun damage }
+/// What is answered of a unit, of which something was told or nothing, and which may be damaged, of a section with these damaged
+/// units: where some are and it isn't there, it isn't known where units begin.
+fn unit_at(
+    has_begun: bool,
+    damage: Option<Damage>,
+    damaged: Option<DamagedUnits>,
+) -> Result<UnitAt, RunFault>
+    ensures { result ≡ told_by has_begun damage damaged }
 {
-    match damage {
+    let first = damaged.map(|units| units.first);
+    let fault = damage.or(if has_begun { None } else { first });
+    match fault {
         Some(Damage { offset, kind }) => Err(RunFault::Damage { offset, kind }),
         None if has_begun => Ok(UnitAt::Whole),
         None => Ok(UnitAt::NoUnit),
@@ -156,8 +164,8 @@ impl<W: Destination> AroundDamage<W> for UnitDumper<'_, '_> {
 /// Prints the lines of the unit at this offset of the section, as a DIE's DW_AT_stmt_list names it, with these details. Units
 /// before it may be damaged, as long as their initial lengths are good; nothing is read after it.
 ///
-/// The fault is that of the unit itself, where it is damaged, and what comes before is printed. Else the faults are those of
-/// `read_units_around`, and failed writes.
+/// The fault is that of the unit itself, where it is damaged, and what comes before is printed; where no unit is known to begin
+/// there, it is that of the first damaged unit, if there is one. Else the faults are those of `read_units_around`, and failed writes.
 pub fn dump_unit<R: Source, W: Destination>(
     alloc: Global,
     input: &mut R,
@@ -172,6 +180,7 @@ pub fn dump_unit<R: Source, W: Destination>(
         (R.remaining input.new) (W.contents output.old) (W.contents output.new) result }
     ensures blames { Blames R.follows R.fails input.old input.new (result ≡ Err RunFault.Read) }
     ensures blames_writer { BlamesWriter W.fails result }
+    ensures over { result ≡ Ok UnitAt.NoUnit → R.over input.new }
 {
     let strings = StringSections::new(options.debug_line_str, options.debug_str);
     let mut dumper = UnitDumper {
@@ -187,6 +196,6 @@ pub fn dump_unit<R: Source, W: Destination>(
         has_begun: false,
         damage: None,
     };
-    read_units_around(alloc, input, output, options, &mut dumper)?;
-    unit_at(dumper.has_begun, dumper.damage)
+    let survey = read_units_around(alloc, input, output, options, &mut dumper)?;
+    unit_at(dumper.has_begun, dumper.damage, survey.damaged)
 }

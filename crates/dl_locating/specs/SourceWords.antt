@@ -1,9 +1,10 @@
 -- What the words of `lines` and of `sources` ask for. bytes: what was read of the input, which has `left` left. start, now:
 -- what the output held at first, and holds now. held: what the file of a path holds, where that is known; fails: the errors
 -- that opening and reading it may give. refuses: for how many items memory is refused.
-use Rattle.std.specs.Prelude.{⊤, ◌≡◌, ◌≢◌, ◌⊎◌, ◌<◌, ◌^◌, ◌++◌, ◌∷◌, ℕ, List, [], length, Option, None, Result, is_none, false}
+use Rattle.std.specs.Prelude.{⊤, ◌≡◌, ◌≢◌, ◌⊎◌, ◌<◌, ◌^◌, ◌++◌, ◌∷◌, ℕ, List, [], length, MatchOption, Option, None, Some, Result, is_none, false, option_map}
 use Rattle.std.specs.Borrow.{Bor}
 use Rattle.std.specs.declared.io.Error.{Error}
+use Rattle.dl_cmd.specs.Address.{address_in}
 use Rattle.dl_cmd.specs.Job.{LinesTexts, SourcesTexts, Text}
 use Rattle.dl_memory.specs.Refusals.{IsRefused}
 use Rattle.dl_lines.specs.Words.{AsksFor}
@@ -34,8 +35,20 @@ sources_table w = record {
   strings = w.strings;
 }
 
-abbrev pub sources_wish : SourcesTexts → Wish
-sources_wish w = Sources w.rows w.md5 w.json w.keep_going
+-- the offset that a word says, or that there is no word; None where it says no offset
+abbrev pub unit_asked : Option Text → Option (Option ℕ)
+unit_asked None = Some None
+unit_asked (Some word) = option_map (λ unit. Some unit) (address_in word)
+
+-- None where what they say to be the offset of a unit is none
+abbrev pub sources_wish : SourcesTexts → Option Wish
+sources_wish w = option_map (λ unit. Sources w.rows w.md5 w.json unit w.keep_going) (unit_asked w.unit)
+
+abbrev pub SourcesRead : (refuses : ℕ → Type 0) → (held : Text → Option (List ℕ)) (fails : Text → Error → Type 0) → SourcesTexts
+    → (bytes : List ℕ) (left start now : Option (List ℕ)) → Result Survey Stop → Type 0
+SourcesRead refuses held fails w bytes left start now result =
+    MatchOption (sources_wish w) (StopsBefore bytes start now result NotUnderstood)
+    (λ wish. TableRead refuses held fails (sources_table w) wish bytes left start now result)
 
 -- ---- `lines`: a path `-` stands for the section on the input
 

@@ -2,7 +2,7 @@
 -- input, which has `left` left. start, now: what the output held at first, and holds now. held: what the file of a path
 -- holds, where that is known; fails: the errors that opening and reading it may give. refuses: for how many items memory is
 -- refused.
-use Rattle.std.specs.Prelude.{◌≡◌, ◌⊎◌, ℕ, Bool, true, false, not, ◌&&◌, List, [], Option, None, is_none}
+use Rattle.std.specs.Prelude.{◌≡◌, ◌⊎◌, ℕ, Bool, true, false, not, ◌&&◌, List, [], Option, None, Some, is_none}
 use Rattle.std.specs.Prelude.{MatchOption, Result, Ok, Err, option_map}
 use Rattle.std.specs.Borrow.{Bor}
 use Rattle.std.specs.Option.{option_copied}
@@ -67,9 +67,11 @@ command_for (Lines wanted exact true) code directories =
     command.Lines (record { wanted = wanted; exact = exact; code = code; directories = directories })
 command_for (Lines wanted exact false) code directories =
     command.LinesAround (record { wanted = wanted; exact = exact; code = code; directories = directories })
-command_for (Sources rows md5 json true) code directories =
+command_for (Sources rows md5 json (Some unit) keep_going) code directories =
+    command.SourcesUnit (record { rows = rows; md5 = md5; json = json; code = code; directories = directories }) unit
+command_for (Sources rows md5 json None true) code directories =
     command.SourcesAround (record { rows = rows; md5 = md5; json = json; code = code; directories = directories })
-command_for (Sources rows md5 json false) code directories =
+command_for (Sources rows md5 json None false) code directories =
     command.Sources (record { rows = rows; md5 = md5; json = json; code = code; directories = directories })
 
 -- ---- a section on the input, of which nothing is said that is so of a file alone

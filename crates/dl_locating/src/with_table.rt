@@ -54,6 +54,8 @@ pub enum Wish<'q> {
         rows: bool,
         md5: bool,
         json: bool,
+        /// The offset of the unit whose source files are told alone.
+        unit: Option<u64>,
         /// After a damaged unit the next one is read.
         keep_going: bool,
     },
@@ -93,6 +95,7 @@ impl<'q> Wish<'q> {
                 rows,
                 md5,
                 json,
+                unit,
                 keep_going,
             } => {
                 let question = SourcesQuestion {
@@ -102,7 +105,9 @@ impl<'q> Wish<'q> {
                     code,
                     directories,
                 };
-                if keep_going {
+                if let Some(unit) = unit {
+                    Command::SourcesUnit(question, unit)
+                } else if keep_going {
                     Command::SourcesAround(question)
                 } else {
                     Command::Sources(question)

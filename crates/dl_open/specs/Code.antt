@@ -21,6 +21,10 @@ use Rattle.dl_open.specs.declared.fault.FileFault.TheVariants.{Open, Elf, NoMemo
 abbrev pub address_range : ExecutableRange → AddressRange
 address_range r = record { start = r.start; size = r.size }
 
+-- the ranges of the code of a linked file, in the order of its sections; none of another one
+abbrev pub linked_ranges : Code → List AddressRange
+linked_ranges code = if code.is_linked then map address_range code.ranges.items else []
+
 -- where there is code: in a linked file that has executable sections in these; in others, or where all are asked for,
 -- everywhere
 abbrev pub live_by : (all : Bool) → Code → ℕ → Bool

@@ -3,18 +3,27 @@ ghost use Rattle.std.specs.Prelude.{◌≡◌, ◌≢◌, [], ℕ, IfErr, IfOk, 
 ghost use Rattle.std.specs.List.{list_any};
 ghost use Rattle.dl_file.specs.Code.{IsCode};
 ghost use Rattle.dl_elf.specs.Source.{ForBytes};
-ghost use Rattle.dl_file.specs.declared.code.Code as file_code;
+ghost use Rattle.dl_file.specs.declared.code.Code as code_data;
 ghost use Rattle.dl_memory.specs.Refusals.{IsRefused};
 ghost use Rattle.dl_look.specs.CodeRanges.{has_code};
 ghost use Rattle.dl_look.specs.Ranges.{is_in};
 ghost use Rattle.dl_open.specs.declared.fault.FileFault.TheVariants.{NoMemory};
-ghost use Rattle.dl_open.specs.Code.{AreLive, RefusesCode, address_range};
+ghost use Rattle.dl_open.specs.Code.{AreLive, RefusesCode, address_range, linked_ranges};
 
 use crate::fault::FileFault;
 use dl_elf::ReadAt;
 use dl_file::{Code, CodeFault, ExecutableRange, find_code};
 use dl_look::{AddressRange, CodeRanges};
 use dl_memory::Memory;
+
+/// Where a file has code.
+#[derive(Drop)]
+pub struct FileCode {
+    /// The ranges of its code, in the order of its sections; none where it isn't linked.
+    pub ranges: Vec<AddressRange>,
+    /// In which of them sequences are live; None where sequences are live everywhere.
+    pub live: Option<CodeRanges>,
+}
 
 /// The ranges as the look-up takes them.
 fn address_ranges<M: Memory>(
@@ -61,10 +70,48 @@ fn live_ranges<M: Memory>(memory: &M, code: &Code) -> Result<Option<CodeRanges>,
     Ok(Some(ranges_of(memory, code.ranges.as_slice())?))
 }
 
+/// The ranges of the code, where the file is linked.
+fn linked_ranges<M: Memory>(memory: &M, code: &Code) -> Result<Vec<AddressRange>, FileFault>
+    ensures ranges { IfOk result (λ ranges. ranges.items ≡ linked_ranges code.now) }
+    ensures memory { IfErr result (λ fault. (fault ≡ NoMemory) × (code.now.ranges.items ≢ [])
+        × IsRefused (M.refuses memory.now) (length code.now.ranges.items)) }
+{
+    if code.is_linked && !code.ranges.is_empty() {
+        return address_ranges(memory, code.ranges.as_slice());
+    }
+    Ok(Vec::new(memory.alloc()))
+}
+
+/// The ranges of the code, where the file is linked, and in which of them sequences are live.
+fn with_ranges<M: Memory>(memory: &M, code: &Code) -> Result<FileCode, FileFault>
+    ensures ranges { IfOk result (λ found. found.ranges.items ≡ linked_ranges code.now) }
+    ensures live { IfOk result (λ found. AreLive found.live code.now) }
+    ensures memory { IfErr result (λ fault. (fault ≡ NoMemory) × (code.now.ranges.items ≢ [])
+        × IsRefused (M.refuses memory.now) (length code.now.ranges.items)) }
+{
+    let ranges = linked_ranges(memory, code)?;
+    let live = live_ranges(memory, code)?;
+    Ok(FileCode { ranges, live })
+}
+
+/// The ranges of the code of an open file, and in which of them sequences are live.
+pub fn file_code<M: Memory, S: ReadAt>(memory: &M, file: &S) -> Result<FileCode, FileFault>
+    ensures { ForBytes (S.all_bytes file.now) (λ f. MatchResult result
+        (λ found. (code : code_data.Code) × IsCode f (Ok code) × (found.ranges.items ≡ linked_ranges code)
+        × AreLive found.live code)
+        (RefusesCode (M.refuses memory.now) (S.fails_with file.now) f)) }
+{
+    match find_code(memory, file) {
+        Ok(code) => with_ranges(memory, &code),
+        Err(CodeFault::Elf(fault)) => Err(FileFault::Elf(fault)),
+        Err(CodeFault::NoMemory) => Err(FileFault::NoMemory),
+    }
+}
+
 /// Where an open file has code, if it is linked and has any.
 pub fn code_of<M: Memory, S: ReadAt>(memory: &M, file: &S) -> Result<Option<CodeRanges>, FileFault>
     ensures { ForBytes (S.all_bytes file.now) (λ f. MatchResult result
-        (λ ranges. (code : file_code.Code) × IsCode f (Ok code) × AreLive ranges code)
+        (λ ranges. (code : code_data.Code) × IsCode f (Ok code) × AreLive ranges code)
         (RefusesCode (M.refuses memory.now) (S.fails_with file.now) f)) }
 {
     match find_code(memory, file) {

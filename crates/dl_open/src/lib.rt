@@ -21,7 +21,7 @@ mod stop;
 mod strings;
 
 pub use build_id::build_id_of;
-pub use code::code_of;
+pub use code::{FileCode, code_of, file_code};
 pub use dialect::{FileUnits, file_dialect};
 pub use directories::directories_of;
 pub use fault::FileFault;

@@ -200,11 +200,13 @@ copy_app = with_input (with_to_5 (new_app (codes "copy")))
 -- what is told of each source file, of which sequences and units, and where paths stand
 abbrev pub with_listing : App → App
 with_listing a =
-    with_rule (with_keep_going (with_rule (with_rule (with_rule (with_rule a (switch_rule (codes "rows")))
-    (switch_rule (codes "md5"))) (switch_rule (codes "json"))) (switch_rule (codes "all")))) (value_rule (codes "comp-dir"))
+    with_rule (with_keep_going (with_rule (with_rule (with_rule (with_rule (with_rule a (switch_rule (codes "rows")))
+    (switch_rule (codes "md5"))) (switch_rule (codes "json"))) (value_rule (codes "unit"))) (switch_rule (codes "all"))))
+    (value_rule (codes "comp-dir"))
 
--- `sources [--rows] [--md5] [--json] [--all] [--keep-going] [--comp-dir DIR] [--older SIZE] [--address-size SIZE]
--- [--version-5] [--debug-dir DIR].. [--no-follow] [--verbose] [--big] [--line-str PATH] [--str PATH] [FILE]`
+-- `sources [--rows] [--md5] [--json] [--unit OFFSET] [--all] [--keep-going] [--comp-dir DIR] [--older SIZE]
+-- [--address-size SIZE] [--version-5] [--debug-dir DIR].. [--no-follow] [--verbose] [--big] [--line-str PATH] [--str PATH]
+-- [FILE]`
 abbrev pub sources_app : App
 sources_app = with_strings (with_follow (with_units (with_listing (new_app (codes "sources")))))
 

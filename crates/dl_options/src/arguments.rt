@@ -319,6 +319,19 @@ pub fn unit<'a>(alloc: Global) -> Arg<'a>
     )
 }
 
+/// The unit whose source files are printed.
+pub fn listed_unit<'a>(alloc: Global) -> Arg<'a>
+    ensures { IsRule (value_rule (codes "unit")) result }
+{
+    valued(
+        alloc,
+        "unit",
+        "OFFSET",
+        "Print the paths of the unit alone that begins at this offset of the section: 0x and \
+         hexadecimal digits, or decimal digits",
+    )
+}
+
 /// The addresses whose sequences are printed.
 pub fn range<'a>(alloc: Global) -> Arg<'a>
     ensures { IsRule (value_rule (codes "range")) result }

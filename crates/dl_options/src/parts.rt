@@ -8,8 +8,8 @@ ghost use Rattle.dl_options.specs.Memory.{LibraryRefused};
 
 use crate::arguments::{
     addr_file, address_size, addresses, all, base, big, comp_dir, debug_dir, exe, file, files,
-    files_from, json, letter, line_str, lines, made_of, no_rule, older, range, rule, section, stop,
-    strings, switch, unit, version_5,
+    files_from, json, letter, line_str, lines, listed_unit, made_of, no_rule, older, range, rule,
+    section, stop, strings, switch, unit, version_5,
 };
 use crate::library::refused;
 use clap::{Arg, Command};
@@ -316,8 +316,9 @@ pub fn add_listing<'a>(
         "json",
         "Print a JSON object for each path, one a line",
     );
-    let command = with_arg(with_arg(command, json), all(alloc));
-    with_arg(add_keep_going(alloc, command), comp_dir(alloc))
+    let command = with_arg(with_arg(command, json), listed_unit(alloc));
+    let command = add_keep_going(alloc, with_arg(command, all(alloc)));
+    with_arg(command, comp_dir(alloc))
 }
 
 /// Which rows answer for a line, and of which units.

@@ -2,6 +2,8 @@
 use Rattle.std.proofs.Common.{◌≡◌, ℕ, None, Some, Option, Result, Ok, Err, refl, subst, ap, ◌∙◌}
 use Rattle.std.specs.Prelude.{OnOk, IfOk}
 use Rattle.dl_dump.specs.declared.details.Details.{Details}
+use Rattle.dl_dump.specs.declared.unit_dumping.UnitAt.{UnitAt}
+use Rattle.dl_dump.specs.declared.unit_dumping.UnitAt.TheVariants.{NoUnit, Whole}
 use Rattle.dl_look.specs.declared.place.Place.{Place}
 use Rattle.dl_print.specs.declared.summary.Summary.{Summary}
 use Rattle.dl_sections.specs.Ending.{WhereWhole}
@@ -9,11 +11,14 @@ use Rattle.dl_sections.specs.declared.around.DamagedUnits.{DamagedUnits}
 use Rattle.dl_sections.specs.declared.around.Survey.{Survey}
 use Rattle.dl_sections.specs.declared.fault.RunFault.{RunFault}
 use Rattle.dl_sections.specs.declared.fault.RunFault.TheVariants as fault
-use Rattle.dl_program.specs.Answers.{all_whole, unless_damaged}
+use Rattle.dl_sources.specs.declared.question.SourcesQuestion.{SourcesQuestion}
+use Rattle.dl_sources.specs.declared.question.Sums.{Sums}
+use Rattle.dl_sources.specs.declared.question.Sums.TheVariants.{Agree, Differ}
+use Rattle.dl_program.specs.Answers.{all_whole, summed, unit_shown, unless_damaged}
 use Rattle.dl_program.specs.Whole.{HasReadAll}
 use Rattle.dl_program.specs.declared.command.Command.{Command}
 use Rattle.dl_program.specs.declared.command.Command.TheVariants.{Addr, AddrAround, DumpUnit, Find, Lines, LinesAround, Sources}
-use Rattle.dl_program.specs.declared.command.Command.TheVariants.{SourcesAround}
+use Rattle.dl_program.specs.declared.command.Command.TheVariants.{SourcesAround, SourcesUnit}
 
 -- an answer of a command, by its name
 as_named : (own command : Command) (result answer : Result Survey RunFault) → own ≡ command → result ≡ answer
@@ -51,31 +56,57 @@ find_over P own place answer result is told over read =
     by (Err other) over read = absurd read
 
 -- a dump of one unit
-pub unit_over : (P : Type 0) (own : Command) (details : Details) (unit : ℕ) (result : Result Survey RunFault)
-    → own ≡ DumpUnit details unit → HasReadAll own result → P
-unit_over P own details unit result is read =
-    absurd (as_named own (DumpUnit details unit) result result is refl read)
+pub unit_over : (P : Type 0) (own : Command) (details : Details) (unit : ℕ) (answer : Result UnitAt RunFault)
+    (result : Result Survey RunFault) → own ≡ DumpUnit details unit → result ≡ all_whole (unit_shown answer)
+    → ¬ (answer ≡ Err fault.NoUnit) → (answer ≡ Ok NoUnit → P) → HasReadAll own result → P
+unit_over P own details unit answer result is told never over read =
+    by answer never over (as_named own (DumpUnit details unit) result (all_whole (unit_shown answer)) is told read)
+  where
+    by : (answer : Result UnitAt RunFault) → ¬ (answer ≡ Err fault.NoUnit) → (answer ≡ Ok NoUnit → P)
+        → HasReadAll (DumpUnit details unit) (all_whole (unit_shown answer)) → P
+    by (Ok Whole) never over read = absurd read
+    by (Ok NoUnit) never over read = over refl
+    by (Err fault.NoUnit) never over read = absurd (never refl)
+    by (Err other) never over read = absurd read
+
+-- the source files of one unit
+pub unit_sources_over : (P : Type 0) (own : Command) (q : SourcesQuestion) (unit : ℕ) (answer : Result Sums RunFault)
+    (result : Result Survey RunFault) → own ≡ SourcesUnit q unit → result ≡ all_whole (summed answer)
+    → (answer ≡ Err fault.NoUnit → P) → HasReadAll own result → P
+unit_sources_over P own q unit answer result is told over read =
+    by answer over (as_named own (SourcesUnit q unit) result (all_whole (summed answer)) is told read)
+  where
+    by : (answer : Result Sums RunFault) → (answer ≡ Err fault.NoUnit → P)
+        → HasReadAll (SourcesUnit q unit) (all_whole (summed answer)) → P
+    by (Ok Agree) over read = absurd read
+    by (Ok Differ) over read = absurd read
+    by (Err fault.NoUnit) over read = over refl
+    by (Err other) over read = absurd read
 
 -- the fault that a command answers where it has read all
 abbrev pub lack_of : Command → RunFault
 lack_of (Sources q) = fault.TwoSums
 lack_of (SourcesAround q) = fault.TwoSums
+lack_of (SourcesUnit q unit) = fault.NoUnit
+lack_of (DumpUnit details unit) = fault.NoUnit
 lack_of other = fault.NotFound
 
 lacks : (command : Command) (f : RunFault) → HasReadAll command (Err f) → f ≡ lack_of command
 lacks (Find place) fault.NotFound read = refl
-lacks (DumpUnit details unit) f read = absurd read
+lacks (DumpUnit details unit) fault.NoUnit read = refl
 lacks (Addr q) fault.NotFound read = refl
 lacks (AddrAround q) fault.NotFound read = refl
 lacks (Lines q) fault.NotFound read = refl
 lacks (LinesAround q) fault.NotFound read = refl
 lacks (Sources q) fault.TwoSums read = refl
 lacks (SourcesAround q) fault.TwoSums read = refl
+lacks (SourcesUnit q unit) fault.NoUnit read = refl
 lacks command f read = absurd read
 
 is_whole : (command : Command) (survey : Survey) → HasReadAll command (Ok survey) → survey.damaged ≡ None
 is_whole (Find place) survey read = absurd read
 is_whole (DumpUnit details unit) survey read = absurd read
+is_whole (SourcesUnit q unit) survey read = absurd read
 is_whole command survey read = read
 
 -- one whose reading doesn't end with that fault. tells: what is told of its answer

@@ -36,6 +36,7 @@ use Rattle.dl_program.specs.declared.command.Command.{Command}
 use Rattle.dl_program.specs.declared.command.Command.TheVariants.{Addr, Dump, DumpAround, DumpUnit, Check, CheckAround, Find, Copy}
 use Rattle.dl_program.specs.declared.command.Command.TheVariants.{AddrAround, CopyTo5, DumpJson, DumpJsonAround, DumpRange, DumpRangeAround, Index}
 use Rattle.dl_program.specs.declared.command.Command.TheVariants.{IndexAround, IndexUntil, IndexUntilAround, Lines, LinesAround, Sources, SourcesAround}
+use Rattle.dl_program.specs.declared.command.Command.TheVariants.{SourcesUnit}
 use Rattle.dl_program.specs.Answers.{all_whole, answered, answered_around, summed, summed_around, unit_shown}
 use Rattle.dl_addr.specs.declared.question.WhichFound.{WhichFound}
 use Rattle.dl_addr.specs.declared.question.FoundAround.{FoundAround}
@@ -53,6 +54,7 @@ use Rattle.dl_sources.specs.declared.question.SourcesQuestion.{SourcesQuestion}
 use Rattle.dl_sources.specs.declared.question.Sums.{Sums}
 use Rattle.dl_sources.specs.AroundCommands.{ListsAround}
 use Rattle.dl_sources.specs.Commands.{Lists}
+use Rattle.dl_sources.specs.UnitCommand.{ListsUnit}
 
 -- the place of `find`; none where ADDRESS is no address
 abbrev pub place_of : (address : Option Text) (op : ℕ) → Option Place
@@ -82,6 +84,7 @@ pub data CommandData : Type 0 where
   tells_lines_around : LinesQuestion → CommandData
   tells_sources : SourcesQuestion → CommandData
   tells_sources_around : SourcesQuestion → CommandData
+  tells_sources_of_unit : SourcesQuestion → (unit : ℕ) → CommandData
 
 abbrev pub command_seen : Command → CommandData
 command_seen (Dump details) = dumps (shown_seen details)
@@ -106,6 +109,7 @@ command_seen (Lines question) = tells_lines question
 command_seen (LinesAround question) = tells_lines_around question
 command_seen (Sources question) = tells_sources question
 command_seen (SourcesAround question) = tells_sources_around question
+command_seen (SourcesUnit question unit) = tells_sources_of_unit question unit
 
 -- the addresses from LOW on and below HIGH that a word says
 abbrev pub address_range : Text → Option AddressRange
@@ -326,6 +330,9 @@ Does refuses (Sources question) dialect s limit bytes left start now = EndsThere
 Does refuses (SourcesAround question) dialect s limit bytes left start now = GoesOn (λ answer.
     (around : Result listed.SourcesAround RunFault) × (answer ≡ summed_around around)
     × ListsAround refuses dialect s question limit bytes left start now around)
+Does refuses (SourcesUnit question unit) dialect s limit bytes left start now = EndsThere (λ answer.
+    (sums : Result Sums RunFault) × (answer ≡ summed sums)
+    × ListsUnit refuses dialect s question unit limit bytes left start now sums)
 
 -- what `addr` writes of a section without bytes, so that each address has no answer
 abbrev pub Unfound : (refuses : ℕ → Type 0) → Question → (start now : Option (List ℕ)) → Type 0

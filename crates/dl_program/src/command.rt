@@ -37,7 +37,7 @@ use dl_sections::{
     DamageSink, Options, RunFault, SECTION_LIMIT, Survey, check, check_around, copy, copy_to_5,
     find,
 };
-use dl_sources::{MapMemory, SourcesQuestion, sources, sources_around};
+use dl_sources::{MapMemory, SourcesQuestion, sources, sources_around, sources_of_unit};
 
 /// The options of a section without string sections.
 const NO_STRINGS: Options<'static> = Options {
@@ -97,6 +97,8 @@ pub enum Command<'a> {
     Sources(SourcesQuestion<'a>),
     /// Print those of all units that are whole.
     SourcesAround(SourcesQuestion<'a>),
+    /// Print those of the unit at this offset of the section.
+    SourcesUnit(SourcesQuestion<'a>, u64),
 }
 
 /// The compilation directory of all units, where it is said.
@@ -225,7 +227,8 @@ impl<'a> Command<'a> {
             | Command::Lines(_)
             | Command::LinesAround(_)
             | Command::Sources(_)
-            | Command::SourcesAround(_) => Sections::LinesAndTexts,
+            | Command::SourcesAround(_)
+            | Command::SourcesUnit(_, _) => Sections::LinesAndTexts,
             Command::Check | Command::CheckAround | Command::Copy | Command::CopyTo5(_) => {
                 Sections::Lines
             }
@@ -347,6 +350,9 @@ impl<'a> Command<'a> {
             Command::SourcesAround(question) => {
                 summed_around(sources_around(memory, input, output, &question, options))
             }
+            Command::SourcesUnit(question, unit) => all_whole(summed(sources_of_unit(
+                memory, input, output, &question, options, unit,
+            ))),
         }
     }
 }

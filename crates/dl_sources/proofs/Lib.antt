@@ -9,4 +9,8 @@ pub mod ReportLemmas
 pub mod CommandLemmas
 pub mod AroundLemmas
 pub mod FoundLemmas
+pub mod UnitVisits
+pub mod UnitListingLemmas
+pub mod UnitBlocks
+pub mod UnitCommandLemmas
 pub mod OrderLemmas

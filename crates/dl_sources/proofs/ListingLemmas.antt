@@ -2,7 +2,10 @@
 use Rattle.std.proofs.Common.{◌≡◌, ℕ, ◌+◌, ◌<◌, ◌≤◌, ◌^◌, arith, min, ◌-◌, Bool, true, false, List, [], ◌∷◌, ◌++◌, length, Option, Some, None}
 use Rattle.std.proofs.Common.{refl, sym, ap, ◌∙◌, subst, append-nil, append_assoc, length-append, true≢false}
 use Rattle.std.specs.Io.KnownBytes.{Appends}
+use Rattle.std.specs.Option.{option_copied}
+use Rattle.dl_addr.specs.Code.{is_code}
 use Rattle.dl_field.specs.HeaderData.{HeaderData}
+use Rattle.dl_head.specs.declared.header.HeaderLengths.{HeaderLengths}
 use Rattle.dl_memory.specs.Refusals.{IsRefused}
 use Rattle.dl_rows.specs.declared.row.Row.{Row}
 use Rattle.dl_rows.specs.Items.{a_byte, a_row, an_operation}
@@ -27,6 +30,7 @@ use Rattle.dl_making.proofs.FewLemmas.{beside_few}
 use Rattle.dl_making.proofs.VisitCounts.{few_front}
 use Rattle.dl_sources.specs.declared.lister.Lister.{Lister}
 use Rattle.dl_sources.specs.declared.question.SourcesQuestion.{SourcesQuestion}
+use Rattle.dl_sources.specs.declared.table.SourceTable.{SourceTable}
 use Rattle.dl_sources.specs.Counting.{Counting}
 use Rattle.dl_sources.specs.Counts.{counts_of}
 use Rattle.dl_sources.specs.Holding.{Holds}
@@ -167,6 +171,53 @@ module _ {M : Type 0} {refuses : M → ℕ → Type 0} (first old new : Lister M
     ),
   )
 
+-- ---- the beginning of a unit, and its rows
+
+-- what a row changes of a lister that counts it
+abbrev pub Counted : {M : Type 0} → (old new : Lister M) (r : Row) → Type 0
+Counted old new r =
+    (new ≡ record old { counts = new.counts })
+    × ((live : ℕ → Bool) (count : ℕ) (rows : List Row)
+    → ((address : ℕ) → live address ≡ is_code (option_copied old.question.code) address)
+    → Counting live count old.counts rows → Counting live count new.counts (rows ++ r ∷ []))
+
+module _ {M : Type 0} {refuses : M → ℕ → Type 0} (first old new : Lister M) (start held : Option (List ℕ)) (visits : List Visit)
+    (s : Listing refuses first old start held visits) where
+  same_but : (unit : ℕ) → new ≡ record old { unit = unit; counts = new.counts } → IsSame old new
+  same_but unit is = record {
+    memory = ap (λ (l : Lister M). l.memory.now) is;
+    strings = ap (λ (l : Lister M). l.strings.now) is;
+    question = ap (λ (l : Lister M). l.question) is;
+  }
+
+  same_table : (unit : ℕ) → new ≡ record old { unit = unit; counts = new.counts } → Listed first old visits
+      → Holds new.table (told_by first visits)
+  same_table unit is listed =
+      subst (λ (t : SourceTable). Holds t (told_by first visits)) (sym (ap (λ (l : Lister M). l.table) is)) listed.table
+
+  -- a row is counted
+  pub row_counted : (h : HeaderData) (r : Row) → Counted old new r
+      → Listing refuses first new start held (visits ++ of_item (a_row h r) ∷ [])
+  row_counted h r (is, counted) =
+      let v = of_item (a_row h r) in
+      goes_on first old new start held visits v s (same_but old.unit is) (ap (λ (l : Lister M). l.unit) is)
+      (ap (λ (l : Lister M). l.is_refused) is)
+      (λ listed. listed_same first visits v new refl
+      (counted (is_live first.question) (file_count (header_told None visits)) (rows_since [] visits)
+      (λ address. ap (λ (q : SourcesQuestion). is_code (option_copied q.code) address) (sym s.same.question)) listed.counts)
+      (same_table old.unit is listed) (omega (arith, listed.few)))
+
+  -- a unit has a header
+  pub header_begun : (n : ℕ) (lengths : HeaderLengths) (h : HeaderData) → new ≡ record old { unit = n; counts = new.counts }
+      → ((live : ℕ → Bool) → Counting live (file_count (Some h)) new.counts [])
+      → Listing refuses first new start held (visits ++ of_header n lengths h ∷ [])
+  header_begun n lengths h is counts =
+      let v = of_header n lengths h in
+      goes_on first old new start held visits v s (same_but n is) (ap (λ (l : Lister M). l.unit) is)
+      (ap (λ (l : Lister M). l.is_refused) is)
+      (λ listed. listed_same first visits v new refl (counts (is_live first.question)) (same_table n is listed)
+      (omega (arith, listed.few)))
+
 -- ---- the end of a unit
 
 few_unit : (s : Strings) (q : SourcesQuestion) (offset : ℕ) (h : Option HeaderData) (rows : List Row)
@@ -262,27 +313,22 @@ module _ {M : Type 0} {refuses : M → ℕ → Type 0} (first old : Lister M) (s
 -- memory was refused for the counts of the files of a header
 module _ {M : Type 0} {refuses : M → ℕ → Type 0} (first old : Lister M) (start held : Option (List ℕ)) (visits : List Visit)
     (v : Visit) (s : Listing refuses first old start held visits) where
+  pub header_wants : (cells count : ℕ) → cells_told (v ∷ []) ≡ cells → count ≤ cells + 1
+      → IsRefused (refuses old.memory.now) count → RefusesAfter refuses first (visits ++ v ∷ [])
+  header_wants cells count is few (n, le, refused) = (
+    n,
+    subst (λ memory. refuses memory n) s.same.memory refused,
+    λ directory bytes d within. omega (arith, le, few, is, within.cells, cells_told-append visits (v ∷ [])),
+  )
+
   pub header_stops : (cells count : ℕ) → cells_told (v ∷ []) ≡ cells → count ≤ cells + 1
       → IsRefused (refuses old.memory.now) count
       → StopsIn (listing_story refuses) first old start held visits (v ∷ []) fault.NoMemory
-  header_stops cells count is few (n, le, refused) = (
+  header_stops cells count is few refused = (
     v ∷ [],
     [],
     refl,
-    (
-      visits,
-      v,
-      refl,
-      s,
-      record {
-        is = refl;
-        refused = (
-          n,
-          subst (λ memory. refuses memory n) s.same.memory refused,
-          λ directory bytes d within. omega (arith, le, few, is, within.cells, cells_told-append visits (v ∷ [])),
-        );
-      },
-    ),
+    (visits, v, refl, s, record { is = refl; refused = header_wants cells count is few refused }),
   )
 
 -- ---- the beginning, and what is printed

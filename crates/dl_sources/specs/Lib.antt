@@ -7,6 +7,7 @@ pub mod Report
 pub mod Wanting
 pub mod Commands
 pub mod AroundCommands
+pub mod UnitCommand
 pub mod SourceFiles
 pub mod FoundSources
 pub mod OrderLaws
@@ -17,3 +18,4 @@ pub mod UnitEntries
 pub mod Listing
 pub mod Reporting
 pub mod Ended
+pub mod UnitListing

@@ -13,6 +13,7 @@ mod path_text;
 mod printing;
 mod question;
 mod table;
+mod unit_listing;
 
 pub use counting::Counts;
 pub use dl_dirs::CompilationDirectories;
@@ -21,3 +22,4 @@ pub use listing::{sources, sources_around};
 pub use map_memory::MapMemory;
 pub use question::{FilesQuestion, SourcesAround, SourcesQuestion, Sums};
 pub use table::{PathTotals, SourceTable};
+pub use unit_listing::sources_of_unit;

@@ -43,12 +43,8 @@ impl<W: Destination, M: MapMemory> Visitor<W> for Lister<'_, '_, '_, M> {
         _lengths: HeaderLengths,
         header: &Header,
     ) -> Result<(), RunFault> {
-        match UnitCounts::of_files(self.memory, files_end(Some(header))) {
-            Ok(counts) => {
-                self.unit = offset;
-                self.counts = counts;
-                Ok(())
-            }
+        match self.begin_unit(offset, header) {
+            Ok(()) => Ok(()),
             Err(NoMemory) => Err(RunFault::NoMemory),
         }
     }
@@ -74,8 +70,7 @@ impl<W: Destination, M: MapMemory> Visitor<W> for Lister<'_, '_, '_, M> {
 
     #[inline(always)]
     fn row(&mut self, _output: &mut W, _header: &Header, row: &Row) -> Result<(), RunFault> {
-        let is_live = self.begins_live(row.address);
-        self.counts.row(row, is_live);
+        self.count_row(row);
         Ok(())
     }
 
@@ -105,8 +100,9 @@ impl<W: Destination, M: MapMemory> AroundDamage<W> for Lister<'_, '_, '_, M> {
 }
 
 impl<'s, 'o, 'q, M: MapMemory> Lister<'s, 'o, 'q, M> {
-    ghost use Rattle.std.specs.Prelude.{◌≡◌, ◌≤◌, ◌+◌, ◌++◌, ℕ, Bool, false, List, [], length, Some, OnOk, OnErr};
+    ghost use Rattle.std.specs.Prelude.{◌≡◌, ◌≤◌, ◌+◌, ◌++◌, ◌∷◌, ℕ, Bool, false, List, [], length, Some, OnOk, OnErr};
     ghost use Rattle.std.specs.Option.{option_copied};
+    ghost use Rattle.dl_field.specs.HeaderData.{header_cells};
     ghost use Rattle.dl_memory.specs.Refusals.{IsRefused};
     ghost use Rattle.dl_rows.specs.declared.row.Row.{Row};
     ghost use Rattle.dl_look.specs.FinderRows.{unended};
@@ -114,7 +110,7 @@ impl<'s, 'o, 'q, M: MapMemory> Lister<'s, 'o, 'q, M> {
     ghost use Rattle.dl_sources.specs.Counting.{Counting};
     ghost use Rattle.dl_sources.specs.Holding.{Holds};
     ghost use Rattle.dl_sources.specs.Sources.{Mention};
-    ghost use Rattle.dl_sources.specs.Listing.{IsSame, cells_of, end_room, end_told, entry_count};
+    ghost use Rattle.dl_sources.specs.Listing.{IsSame, cells_of, end_room, end_told, entry_count, file_count};
 
     /// A lister that was told of no unit.
     pub(crate) fn new(
@@ -140,6 +136,30 @@ impl<'s, 'o, 'q, M: MapMemory> Lister<'s, 'o, 'q, M> {
         }
     }
 
+    /// Begins the unit at this offset, which has this header: no row was given.
+    pub(crate) fn begin_unit(&mut self, offset: u64, header: &Header) -> Result<(), NoMemory>
+        ensures begun { OnOk result (self.new ≡ record self.old { unit = offset; counts = self.new.counts }) }
+        ensures counts { OnOk result ((live : ℕ → Bool) → Counting live (file_count (Some header.now)) self.new.counts []) }
+        ensures refused { OnErr result ((self.new ≡ self.old) × (count : ℕ) × (count ≤ header_cells header.now + 1)
+            × IsRefused (M.refuses self.old.memory.now) count) }
+    {
+        self.counts = UnitCounts::of_files(self.memory, files_end(Some(header)))?;
+        self.unit = offset;
+        Ok(())
+    }
+
+    /// Takes the next row of the current unit.
+    #[inline(always)]
+    pub(crate) fn count_row(&mut self, row: &Row)
+        ensures same { self.new ≡ record self.old { counts = self.new.counts } }
+        ensures counted { (live : ℕ → Bool) (count : ℕ) (rows : List Row)
+            → ((address : ℕ) → live address ≡ is_code (option_copied self.old.question.code) address)
+            → Counting live count self.old.counts rows → Counting live count self.new.counts (rows ++ row.now ∷ []) }
+    {
+        let is_live = self.begins_live(row.address);
+        self.counts.row(row, is_live);
+    }
+
     /// Whether a sequence that begins at this address is live. Only where one begins it is looked up.
     #[inline(always)]
     fn begins_live(&self, address: u64) -> bool
@@ -154,7 +174,7 @@ impl<'s, 'o, 'q, M: MapMemory> Lister<'s, 'o, 'q, M> {
     }
 
     /// Adds what the table of files of the current unit tells, which is whole.
-    fn end_unit(&mut self, header: Option<&Header>) -> Result<(), NoMemory>
+    pub(crate) fn end_unit(&mut self, header: Option<&Header>) -> Result<(), NoMemory>
         ensures same { IsSame self.old self.new }
         ensures unit { self.new.unit ≡ self.old.unit }
         ensures refused { self.new.is_refused ≡ self.old.is_refused }

@@ -141,6 +141,7 @@ const WORDS: SourcesWords<'static> = SourcesWords {
     rows: false,
     md5: false,
     json: false,
+    unit: None,
     all: false,
     keep_going: false,
     big: false,
@@ -174,6 +175,40 @@ const SOURCES: &[SourcesCase] = &[
         b"{\"path\":\"cd/yz\"}\n",
         0,
         "",
+    ),
+    (
+        WITH_STRINGS,
+        (0, 0),
+        SourcesWords {
+            rows: true,
+            unit: Some("0x0"),
+            ..WORDS
+        },
+        b"1 4 cd/yz\n",
+        0,
+        "",
+    ),
+    (
+        WITH_STRINGS,
+        (0, 0),
+        SourcesWords {
+            unit: Some("1"),
+            ..WORDS
+        },
+        b"",
+        1,
+        "dwline: no unit at this offset\n",
+    ),
+    (
+        WITH_STRINGS,
+        (0, 0),
+        SourcesWords {
+            unit: Some("0x"),
+            ..WORDS
+        },
+        b"",
+        2,
+        "dwline: words not understood\n",
     ),
     (TWO_UNITS, (0, 0), WORDS, b"", 0, ""),
     (

@@ -8,6 +8,8 @@ mod each_call;
 #[cfg(test)]
 mod found;
 #[cfg(test)]
+mod one_unit;
+#[cfg(test)]
 mod paths;
 #[cfg(test)]
 mod rows;

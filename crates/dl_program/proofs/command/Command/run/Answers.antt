@@ -4,7 +4,7 @@ use Rattle.dl_program.specs.declared.command.Command.TheVariants.{Addr, AddrArou
 use Rattle.dl_sections.proofs.BlameLemmas.{blames_where}
 use Rattle.dl_program.proofs.BlameLemmas.{around_read, around_writer, found_read, found_writer, sums_around_read, unit_read, unit_writer}
 use Rattle.dl_program.proofs.BlameLemmas.{sums_around_writer, sums_read, sums_writer, whole_read, whole_writer}
-use Rattle.dl_program.proofs.EndLemmas.{around_over, find_over, told_around_over, told_over, unit_over, whole_over}
+use Rattle.dl_program.proofs.EndLemmas.{around_over, find_over, told_around_over, told_over, unit_over, unit_sources_over, whole_over}
 use Rattle.dl_program.proofs.command.Command.run.Goals as goal
 
 pub returns-in-DumpAround-clause-ran : goal.returns-in-DumpAround-clause-ran
@@ -76,7 +76,9 @@ returns-in-DumpJsonAround-clause-over g c none =
 
 pub returns-in-DumpUnit-clause-over : goal.returns-in-DumpUnit-clause-over
 returns-in-DumpUnit-clause-over g c none =
-    unit_over (g.R.Source.over c.dump_unit.new.input) c.args.self _ _ c.all_whole-in-DumpUnit.result c.in-DumpUnit.is
+    unit_over (g.R.Source.over c.dump_unit.new.input) c.args.self _ _ c.dump_unit.result c.all_whole-in-DumpUnit.result
+    c.in-DumpUnit.is (c.all_whole-in-DumpUnit.ensures ∙ ap all_whole c.unit_shown.ensures)
+    (λ e. (let none = rw e at c.dump_unit.ensures.ran.2 in none.2)) c.dump_unit.ensures.over
 
 pub returns-in-Dump-clause-blames : goal.returns-in-Dump-clause-blames
 returns-in-Dump-clause-blames g c =
@@ -135,6 +137,11 @@ pub returns-in-SourcesAround-clause-blames : goal.returns-in-SourcesAround-claus
 returns-in-SourcesAround-clause-blames g c =
     blames_where c.sources_around.ensures.blames (λ e. sums_around_read c.sources_around.result
     (sym c.summed_around.ensures ∙ e.1))
+
+pub returns-in-SourcesUnit-clause-blames : goal.returns-in-SourcesUnit-clause-blames
+returns-in-SourcesUnit-clause-blames g c =
+    blames_where c.sources_of_unit.ensures.blames (λ e. sums_read c.sources_of_unit.result
+    (sym c.summed-in-SourcesUnit.ensures ∙ whole_read c.summed-in-SourcesUnit.result (sym c.all_whole-in-SourcesUnit.ensures ∙ e.1)))
 
 pub returns-in-IndexAround-clause-blames : goal.returns-in-IndexAround-clause-blames
 returns-in-IndexAround-clause-blames g c = blames_where c.write_index_around.ensures.blames (λ e. e.1)
@@ -196,6 +203,17 @@ returns-in-Sources-clause-blames_writer g c none =
 pub returns-in-SourcesAround-clause-blames_writer : goal.returns-in-SourcesAround-clause-blames_writer
 returns-in-SourcesAround-clause-blames_writer g c none =
     rw c.summed_around.ensures (sums_around_writer _ c.sources_around.result c.sources_around.ensures.blames_writer)
+
+pub returns-in-SourcesUnit-clause-blames_writer : goal.returns-in-SourcesUnit-clause-blames_writer
+returns-in-SourcesUnit-clause-blames_writer g c none =
+    rw c.all_whole-in-SourcesUnit.ensures (whole_writer _ c.summed-in-SourcesUnit.result
+    (rw c.summed-in-SourcesUnit.ensures (sums_writer _ c.sources_of_unit.result c.sources_of_unit.ensures.blames_writer)))
+
+pub returns-in-SourcesUnit-clause-over : goal.returns-in-SourcesUnit-clause-over
+returns-in-SourcesUnit-clause-over g c none =
+    unit_sources_over (g.R.Source.over c.sources_of_unit.new.input) c.args.self _ _ c.sources_of_unit.result
+    c.all_whole-in-SourcesUnit.result c.in-SourcesUnit.is
+    (c.all_whole-in-SourcesUnit.ensures ∙ ap all_whole c.summed-in-SourcesUnit.ensures) c.sources_of_unit.ensures.over
 
 pub returns-in-Dump-clause-over : goal.returns-in-Dump-clause-over
 returns-in-Dump-clause-over g c none =
