@@ -350,5 +350,50 @@ def code():
     yield asked("no code", LITTLE_64, [TEXT], INSIDE + OUTSIDE)
 
 
+ABOUT_CODE = ["--rule=overlap", "--rule=dead-sequence", "--rule=no-code"]
+DEAD = "0x0 dead-sequence: {} sequences begin outside the code, the first at 0x{:016x}\n"
+COVERED = "0x{:x} overlap: row {} at 0x{:016x} ends a sequence that covers 0x{:016x}, as one of the unit at 0x0 does\n"
+NO_CODE = "0x0 no-code: no sequence covers an address of the {} bytes of code from 0x{:016x} on\n"
+
+
+def end_offset(form, number):
+    """Where the end row of a sequence of `line_unit` stands, from 0 on: it takes 3 bytes behind an address and 8 others."""
+    return 34 + (number + 1) * (19 if form.wide else 15) - 3
+
+
+def findings():
+    """What `lint` finds of sequences: in a linked file with code those are live that begin there, and its ranges are known; of
+    another one nothing is found, since there addresses may be relative to sections."""
+    def linted(name, form, sections, addresses, findings, counts, words=()):
+        lines = Section(".debug_line", line_unit(form, [(address, 1) for address in addresses])[0])
+        return Case(name, image(form, [*sections, lines]), ["lint", "elf", *ABOUT_CODE, *words], 1 if findings else 0, findings,
+                    f"findings: {counts}\n" if findings else "")
+    for form in FORMS:
+        for file_type in (ET_EXEC, ET_DYN, ET_REL, ET_CORE):
+            form = replace(form, file_type=file_type)
+            linked = file_type in (ET_EXEC, ET_DYN)
+            # The second one and the last one aren't live in a linked file, and cover a place of one another.
+            addresses = [0x401000, 0x402000, 0x401002, 0x402002]
+            live = COVERED.format(end_offset(form, 2), 6, 0x401006, 0x401002)
+            if linked:
+                yield linted(f"{form}", form, PARTS, addresses, DEAD.format(2, 0x402000) + live + NO_CODE.format(13, 0x1000),
+                             "overlap=1 dead-sequence=1 no-code=1")
+                yield linted(f"{form}, one", form, PARTS, [0x1000, 0x3000], DEAD.format(1, 0x3000) + NO_CODE.format(4, 0x401000),
+                             "dead-sequence=1 no-code=1")
+            else:
+                yield linted(f"{form}", form, PARTS, addresses, "", "")
+                yield linted(f"{form}, one", form, PARTS, [0x1000, 0x3000], "", "")
+            yield linted(f"{form}, all", form, PARTS, [0x401000, 0x1000], "", "")
+            none = NO_CODE.format(4, 0x401000) + NO_CODE.format(13, 0x1000) if linked else ""
+            yield linted(f"{form}, no sequence", form, PARTS, [], none, "no-code=2")
+    yield linted("no code", LITTLE_64, [TEXT], [0x401000, 0, 0x401000], "", "")
+    yield linted("objects", LITTLE_64, PARTS, [0x401000, 0x402000, 0x401002],
+                 '{"offset":0,"rule":"dead-sequence","sequences":1,"first":"0x0000000000402000"}\n'
+                 '{"offset":88,"rule":"overlap","row":6,"address":"0x0000000000401006","op_index":0,'
+                 '"covered":"0x0000000000401002","covered_op_index":0,"unit":0}\n'
+                 '{"offset":0,"rule":"no-code","start":"0x0000000000001000","size":13}\n',
+                 "overlap=1 dead-sequence=1 no-code=1", ["--json"])
+
+
 GROUPS = [streams, damaged_streams, damaged_strings, refused, applied, not_applied, claimed_sizes, object_files,
-          relocated_streams, numbers, sections_of_symbols, not_relative, code]
+          relocated_streams, numbers, sections_of_symbols, not_relative, code, findings]

@@ -7,7 +7,7 @@ import zlib
 from dataclasses import dataclass, field
 
 from elf_files import (
-    COMPRESSED, CREL, EXECINSTR, LITTLE_64, OBJECT, RELA, SYMTAB, Form, Section, compact, image, line_unit, relocation,
+    ALLOC, COMPRESSED, CREL, EXECINSTR, LITTLE_64, OBJECT, RELA, SYMTAB, Form, Section, compact, image, line_unit, relocation,
     symbol)
 from sections.units import FIELDS, table, uleb, unit_of
 
@@ -180,9 +180,9 @@ def blocks(count):
                                              flags=COMPRESSED)])}
 
 
-def code(count):
-    """A linked file with a section of code for each sequence."""
-    parts = [Section(".text", bytes(64), flags=EXECINSTR, address=BASE + 64 * part) for part in range(count)]
+def code(count, more=0):
+    """A linked file with a section of code for each sequence, and as many more without one."""
+    parts = [Section(".text", bytes(64), flags=ALLOC | EXECINSTR, address=BASE + 64 * part) for part in range(count + more)]
     return {"elf": image(LITTLE_64, [Section(".debug_line", units(count)), *parts])}
 
 

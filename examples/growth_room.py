@@ -32,11 +32,14 @@ def names(length):
 
 
 def streams():
-    """What is read piece by piece. A part has 1024 bytes, 16 rows and a sequence."""
+    """What is read piece by piece. A part has 1024 bytes, 16 rows and a sequence, for which `lint` holds at most 400 bytes for
+    the rules that look at all sequences of a section."""
+    linting = 400
     yield Room("a section", 1024, 64, lambda n: {"input": wide_units(n)}, [
         (["dump"], nothing, 0), (["dump", "--header"], nothing, 0), (["dump", "--json"], nothing, 0),
-        (["dump", "--range", "0-0xffffffffffff"], nothing, 0), (["lint"], nothing, 1), (["check"], nothing, 0), (["find", NONE], nothing, 1), (["copy"], nothing, 0),
-        (["copy", "--to-5"], nothing, 0), (["addr", "-", FIRST], nothing, 0),
+        (["dump", "--range", "0-0xffffffffffff"], nothing, 0), (["lint"], lambda n: n * linting, 1),
+        (["lint", "--no-rule", "overlap", "--no-rule", "no-code"], nothing, 1), (["check"], nothing, 0),
+        (["find", NONE], nothing, 1), (["copy"], nothing, 0), (["copy", "--to-5"], nothing, 0), (["addr", "-", FIRST], nothing, 0),
     ])
     # Of a part an index has 16 stretches, a file and a text, in at most 256 bytes. While it is made, at most 44 bytes are
     # held beside it for each of the 17 rows, and 200 for the sequence. Where lines are asked of it, it may be read whole if it

@@ -199,6 +199,7 @@ wants 1 "" $'dwline: no unit at this offset\n' / dump --unit 7 operations/progra
 wants 0 "$(cat "$work/operations")"$'\n' "" / dump --range 0x2000b-0x2000c operations/program
 wants 0 "" "" / dump --range 0x2000c-0x30000 operations/program
 wants 0 "" "" / lint --rule falling-place --rule no-end operations/program
+wants 0 "" "" / lint --rule overlap --rule dead-sequence --rule no-code gcc-O2/program
 wants 2 "" $'dwline: fallen is no rule\n' / lint --rule fallen operations/program
 wants 1 "" $'dwline: README.md: not an ELF file\n' / lint README.md
 

@@ -1,14 +1,15 @@
 #!/usr/bin/env bash
 # try-library.sh [PATH OF dwline]: over the library that `make lib` has built, the examples in C, Rust and Python print of
-# each section of examples/ what `dwline check` prints, the rows that `dwline dump` prints, what `dwline copy` writes,
-# and for the address of each row the row that `dwline find` prints and the location that `dwline addr` prints, for lines
-# of each source file the places that `dwline lines` prints, and the source files that `dwline sources` prints; where a
-# section is damaged they say the same of it, after the same rows and locations; with --keep-going they count what `dwline
-# check --keep-going` counts, say the first fault, and find what stands in the units after it; where a growth is refused
-# they say so, whichever it is; of each ELF file that ships the index that they make is the one that `dwline index` makes, its
-# list the same, and at the ends of its stretches what `dwline addr` says of the file; the documented examples of the Rust and the Python module and the tests of the latter hold; and the
-# calls of the library, over damaged sections and with nothing, touch nothing but what they are given. The programs of
-# README.md print what `dwline addr` does. What isn't installed is named and passed over.
+# each section of examples/ what `dwline check` prints, the rows that `dwline dump` prints, what `dwline copy` writes, and
+# for the address of each row the row that `dwline find` prints and the location that `dwline addr` prints, for lines of
+# each source file the places that `dwline lines` prints, the source files that `dwline sources` prints, and the numbers
+# of what `dwline lint` finds; where a section is damaged they say the same of it, after the same rows and locations; with
+# --keep-going they count what `dwline check --keep-going` counts, say the first fault, and find what stands in the units
+# after it; where a growth is refused they say so, whichever it is; of each ELF file that ships the index that they make
+# is the one that `dwline index` makes, its list the same, and at the ends of its stretches what `dwline addr` says of the
+# file; the documented examples of the Rust and the Python module and the tests of the latter hold; and the calls of the
+# library, over damaged sections and with nothing, touch nothing but what they are given. The programs of README.md print
+# what `dwline addr` does. What isn't installed is named and passed over.
 set -euo pipefail
 dwline=$(realpath "${1-$(dirname "$0")/../crates/dwline/out/dwline}")
 cd "$(dirname "$0")/.."
@@ -83,7 +84,10 @@ if is_installed cargo; then
             cargo build --quiet --offline --example look --manifest-path bindings/rust/Cargo.toml
     fi
 fi
+# What is found is compared where Python reads it.
+lints=no
 if is_installed python3; then
+    lints=yes
     names+=" python"
     export PYTHONDONTWRITEBYTECODE=1
     python3 -m doctest bindings/python/boxantrel.py
@@ -106,6 +110,11 @@ try_lines() {
             done
         done
     done
+}
+
+# The numbers of what `dwline lint` finds in the section on standard input, with these words.
+numbers_of() {
+    { "$dwline" lint --json "$@" 2> /dev/null || true; } | { [ "$lints" = no ] || examples/finding-numbers.py; }
 }
 
 # One section of examples/.
@@ -139,6 +148,7 @@ try_section() {
         > "$here/located.wanted" || true
     "$dwline" sources --rows --md5 --line-str "$line_str" --str "$str" "${order[@]}" < "$section" \
         > "$here/sources.wanted" || true
+    numbers_of --line-str "$line_str" --str "$str" "${order[@]}" < "$section" > "$here/findings.wanted"
     for name in $names; do
         "run_$name" "${order[@]}" < "$section" | cmp - "$here/counts.wanted"
         "run_$name" "${order[@]}" --rows < "$section" | cmp - "$here/rows.wanted"
@@ -147,6 +157,7 @@ try_section() {
         "run_$name" "${order[@]}" --addr "$line_str" "$str" "${addresses[@]}" 0x0 0x1 < "$section" |
             cmp - "$here/located.wanted"
         "run_$name" "${order[@]}" --sources "$line_str" "$str" < "$section" | cmp - "$here/sources.wanted"
+        [ "$lints" = no ] || "run_$name" "${order[@]}" --findings "$line_str" "$str" < "$section" | cmp - "$here/findings.wanted"
     done
     try_lines
     echo "$folder:$names, ${#addresses[@]} addresses, ${#lines[@]} lines of ${#files[@]} files"
@@ -199,6 +210,7 @@ try_around() {
         for goes_on in "" --keep-going; do
             "$dwline" sources --rows --md5 $goes_on --line-str $folder/debug_line_str "${order[@]}" < "$here/$place" \
                 > "$here/sources$goes_on.wanted" 2> /dev/null || true
+            numbers_of $goes_on --line-str $folder/debug_line_str --str /dev/null "${order[@]}" < "$here/$place" > "$here/findings$goes_on.wanted"
         done
         for name in $names; do
             status=0
@@ -219,6 +231,10 @@ try_around() {
                 { "run_$name" "${order[@]}" $goes_on --sources $folder/debug_line_str /dev/null < "$here/$place" \
                     2> "$here/fault" || true; } | cmp - "$here/sources$goes_on.wanted"
                 sed 's/^look: //' "$here/fault" | cmp - <(sed -n '1s/^dwline: //p' "$here/said")
+                [ "$lints" = yes ] || continue
+                { "run_$name" "${order[@]}" $goes_on --findings $folder/debug_line_str /dev/null < "$here/$place" \
+                    2> "$here/fault" || true; } | cmp - "$here/findings$goes_on.wanted"
+                sed 's/^look: //' "$here/fault" | cmp - <(sed -n '1s/^dwline: //p' "$here/said")
             done
         done
     done
@@ -235,7 +251,8 @@ try_refused() {
     strings=examples/gcc-O2/debug_line_str
     here=$work/refused-$1
     mkdir "$here"
-    for words in "" --keep-going --rows --copy "--lines $strings /dev/null series.c 8" "--sources $strings /dev/null"; do
+    for words in "" --keep-going --rows --copy "--lines $strings /dev/null series.c 8" "--sources $strings /dev/null" \
+        "--findings $strings /dev/null"; do
         REFUSED=0 "refused_$1" $words < "$section" > "$here/whole"
         refusals=0
         for REFUSED in {1..40}; do
@@ -358,8 +375,8 @@ for_each() {
     xargs -P "$(nproc)" -I {} bash -euo pipefail -c "$1 {}"
 }
 
-export dwline work names
-export -f run_c run_rust run_python refused_c refused_rust refused_python try_section try_lines try_cut try_around try_refused
+export dwline work names lints
+export -f run_c run_rust run_python refused_c refused_rust refused_python numbers_of try_section try_lines try_cut try_around try_refused
 export -f where_c where_rust where_python try_where
 printf '%s\n' examples/*/debug_line | for_each try_section
 # At each of its first bytes, and at some later ones.

@@ -42,16 +42,16 @@ enum {
     DL_OLDER_8 = 16,    /* of eight */
     DL_ALL = 64,        /* only for dl_index_build and the calls beside it: each sequence counts, one that begins where there
                            is no code too */
-    DL_KEEP_GOING = 128 /* dl_check, dl_find_all, dl_lines, dl_sources, dl_index_build and the calls beside it go on after a
-                           damaged unit whose initial length is good, with the unit that begins where this length says; the
-                           other calls take no notice of it */
+    DL_KEEP_GOING = 128 /* dl_check, dl_find_all, dl_lines, dl_sources, dl_findings, dl_index_build and the calls beside it go on
+                           after a damaged unit whose initial length is good, with the unit that begins where this length says;
+                           the other calls take no notice of it */
 };
 
 /* How a call ends. */
 enum {
     DL_DONE = 0,          /* what was asked for is written */
     DL_FAULT = 1,         /* the bytes are at fault, and the fault is written */
-    DL_NO_ANSWER = 2,     /* no row answers, or the section has no byte at the offset */
+    DL_NO_ANSWER = 2,     /* no row answers, nothing is found, or the section has no byte at the offset */
     DL_NO_MEMORY = 3,     /* malloc or realloc refused memory; the same call may succeed later */
     DL_OTHER_VERSION = 4, /* a unit is of a version that isn't read, or isn't copied */
     DL_NO_ROOM = 5        /* there isn't room for the answer */
@@ -92,8 +92,8 @@ enum {
     DL_OPCODE_OVERRUN = 16,   /* the unit ends inside an opcode */
     DL_TRUNCATED = 17,        /* the section ends inside a unit */
 
-    /* of an ELF file, which dl_index_build tells; the offset and the detail are 0 where nothing is said of them. dl_lines
-       and dl_sources tell the last one of their section */
+    /* of an ELF file, which dl_index_build tells; the offset and the detail are 0 where nothing is said of them. dl_lines,
+       dl_sources and dl_findings tell the last one of their section */
     DL_NOT_ELF = 32,            /* the bytes don't begin with the header of an ELF file */
     DL_DAMAGED_ELF = 33,        /* something lies outside the file, or doesn't fit what it stands in */
     DL_NO_LINE_SECTION = 34,    /* there is no section with a line table */
@@ -271,6 +271,58 @@ typedef struct {
 uint32_t dl_sources(const uint8_t *section, size_t len, uint8_t how, const uint8_t *line_str, size_t line_str_len,
                     const uint8_t *str, size_t str_len, dl_source *sources, size_t room, size_t *count, uint8_t *paths,
                     size_t paths_room, size_t *paths_len, dl_fault *fault);
+
+/*
+ * The rules of what misleads a debugger although it reads well, as `dwline lint` has them (docs/dwline.1). Beside each the
+ * numbers that a finding of it has; those behind them are 0.
+ */
+enum {
+    DL_RULE_FILE_INDEX = 0,         /* the file that is named, how many files there are, the number of the first */
+    DL_RULE_DIRECTORY_INDEX = 1,    /* the file, the directory that it names, how many directories there are, the number
+                                       of the first */
+    DL_RULE_FALLING_PLACE = 2,      /* the address and the op_index of the row before it */
+    DL_RULE_NO_END = 3,             /* none */
+    DL_RULE_EMPTY_SEQUENCE = 4,     /* none */
+    DL_RULE_OVERLAP = 5,            /* the address and the op_index of the place, the offset of the unit that covers it
+                                       too */
+    DL_RULE_DEAD_SEQUENCE = 6,      /* how many sequences, the address of the first; not of a section alone */
+    DL_RULE_MISSING_TEXT = 7,       /* 0 for a directory or 1 for a file, its number, 0 for .debug_line_str or 1 for
+                                       .debug_str, the offset there */
+    DL_RULE_DUPLICATE_FILE = 8,     /* the file, the first file that has its values */
+    DL_RULE_UNUSED_FILE = 9,        /* how many files, the number of the first */
+    DL_RULE_LONG_NUMBER = 10,       /* how many bytes the number has */
+    DL_RULE_PADDING = 11,           /* how many bytes */
+    DL_RULE_WRAPPED_ADDRESS = 12,   /* the address before the advance, the size of an address in bytes */
+    DL_RULE_LINE_WRAPPED = 13,      /* the line */
+    DL_RULE_NO_STATEMENT = 14,      /* none */
+    DL_RULE_SPLIT_INSTRUCTION = 15, /* the address of the first row of the sequence, minimum_instruction_length */
+    DL_RULE_UNKNOWN_OPCODE = 16,    /* 0 for a standard opcode, 1 for an extended one or 2 for a content code, its number */
+    DL_RULE_NO_CODE = 17            /* the address and the length in bytes of the code; not of a section alone */
+};
+
+/* A finding: where it is, and what is found. */
+typedef struct {
+    uint64_t offset;     /* of the operation, for a row the one that appends it; where a unit ends without an end row, its end; of a
+                            header, or of the rows of a unit together, the offset of the unit */
+    uint64_t rule;       /* one of the above */
+    uint64_t row;        /* the number of the row in its unit, from 1 on; 0 where it is about no row */
+    uint64_t address;    /* of that row, or 0 */
+    uint64_t op_index;   /* of that row, or 0 */
+    uint64_t numbers[4]; /* as beside the rule */
+} dl_finding;
+
+/*
+ * Finds what in a section misleads a debugger, in one pass, as `dwline lint` does of a section alone: each sequence counts,
+ * and which code there is isn't known. Of `rules` the bit 1 << DL_RULE_FILE_INDEX asks for the findings of that rule, and
+ * so on; UINT32_MAX asks for all, since bits that are of no rule count for nothing. `line_str` and `str` are as of
+ * dl_path_at: where one of them has no bytes, each text that a table has in it is missing. The findings are told in the
+ * order of the section, and as many as there is room for; they are held in memory of the library before.
+ * DL_DONE: *count is how many findings there are, be there room for them or not, and the first of them are written.
+ * DL_NO_ANSWER: there is none. DL_FAULT: *fault is the first fault of the section, and *count and the findings, of which
+ * there may be none, are those before it; with DL_KEEP_GOING of all units, in damaged ones up to their faults.
+ */
+uint32_t dl_findings(const uint8_t *section, size_t len, uint8_t how, uint32_t rules, const uint8_t *line_str, size_t line_str_len,
+                     const uint8_t *str, size_t str_len, dl_finding *findings, size_t room, size_t *count, dl_fault *fault);
 
 /*
  * Writes all units anew, each under its header with opcode_base 13 and with the same rows, its numbers shortest. The

@@ -186,7 +186,11 @@ def function_of(crate, texts, file, number):
     if text is None:
         with open(f"{crate.folder}/{file}", encoding="utf-8") as it:
             text = it.read()
-    return function_at(file, text, sum(len(it) for it in text.splitlines(True)[:number]))
+    lines = text.splitlines(True)
+    # What is said of an attribute is about the function below it.
+    while number < len(lines) and lines[number - 1].lstrip().startswith("#["):
+        number += 1
+    return function_at(file, text, sum(len(it) for it in lines[:number]))
 
 
 def made_at_once(edits):

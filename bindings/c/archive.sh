@@ -4,7 +4,8 @@
 set -euo pipefail
 kit=$(dirname "$(dirname "$(readlink -f "$(command -v rt)")")")
 cd "$(dirname "$0")/../../crates/dl_c"
-used=(dl_memory dl_buffers dl_index_buffers dl_source_buffers dl_building)
+read -r -a used <<< "$(sed -n 's/^dl_c staticlib: //p' ../../crates.txt)"
+[ ${#used[@]} -gt 0 ] || { echo "crates.txt has no line of dl_c" >&2; exit 1; }
 for name in "${used[@]}"; do
     [ -e "../$name/out/rlib/$name.rlib" ] || exec rt lib
 done

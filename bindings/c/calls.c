@@ -29,6 +29,9 @@ uint32_t boxantrel_lines(const uint8_t *section, size_t len, uint8_t how, const 
 uint32_t boxantrel_sources(const uint8_t *section, size_t len, uint8_t how, const uint8_t *line_str, size_t line_str_len,
                            const uint8_t *str, size_t str_len, dl_source *sources, size_t room, size_t *count, uint8_t *paths,
                            size_t paths_room, size_t *paths_len, dl_fault *fault);
+uint32_t boxantrel_findings(const uint8_t *section, size_t len, uint8_t how, uint32_t rules, const uint8_t *line_str,
+                            size_t line_str_len, const uint8_t *str, size_t str_len, dl_finding *findings, size_t room,
+                            size_t *count, dl_fault *fault);
 uint32_t boxantrel_copy(const uint8_t *section, size_t len, uint8_t how, uint8_t *out, size_t room, size_t *copied,
                         dl_fault *fault);
 size_t boxantrel_fault_text(const dl_fault *fault, uint8_t *text, size_t room);
@@ -159,6 +162,13 @@ uint32_t dl_sources(const uint8_t *section, size_t len, uint8_t how, const uint8
 {
     return boxantrel_sources(from(section, len), len, how, from(line_str, line_str_len), line_str_len, from(str, str_len),
                              str_len, into(sources, room), room, count, into(paths, paths_room), paths_room, paths_len, fault);
+}
+
+uint32_t dl_findings(const uint8_t *section, size_t len, uint8_t how, uint32_t rules, const uint8_t *line_str, size_t line_str_len,
+                     const uint8_t *str, size_t str_len, dl_finding *findings, size_t room, size_t *count, dl_fault *fault)
+{
+    return boxantrel_findings(from(section, len), len, how, rules, from(line_str, line_str_len), line_str_len,
+                              from(str, str_len), str_len, into(findings, room), room, count, fault);
 }
 
 uint32_t dl_copy(const uint8_t *section, size_t len, uint8_t how, uint8_t *out, size_t room, size_t *copied,

@@ -70,6 +70,7 @@ static dl_row *row, *rows_end;
 static dl_place *places_end;
 static dl_source *sources_end;
 static size_t *paths_len;
+static dl_finding *findings_end;
 static uint64_t *unit;
 static dl_unit *described;
 static size_t *count;
@@ -490,6 +491,36 @@ static void check_sources(uint32_t counted, size_t room, size_t paths_room)
     wanted(is_filled(paths + written, paths_room - written), "more than the paths");
 }
 
+/* Finds what misleads a debugger by some rules, where counting ended with this status, into a room for the findings. */
+static void check_findings(uint32_t counted, size_t room)
+{
+    struct strings strings = random_strings();
+    uint32_t rules = below(2) ? UINT32_MAX : (uint32_t)below(UINT32_MAX);
+    uint8_t asked = below(2) ? how | DL_KEEP_GOING : up_to_fault();
+    fill();
+    memset(findings_end - MOST_ROWS, FILL, MOST_ROWS * sizeof *findings_end);
+    dl_finding *findings = findings_end - room;
+    uint32_t status = dl_findings(section, len, asked, rules, strings.line_str, strings.line_str_len, strings.str, strings.str_len,
+                                  or_null(findings, room), room, count, fault);
+    check_fault(status);
+    wanted(status == counted || (status == DL_NO_ANSWER && counted == DL_DONE), "findings with another end than the count");
+    size_t told = 0;
+    if (status == DL_DONE || status == DL_FAULT)
+        told = *count < room ? *count : room;
+    else
+        wanted(is_filled(count, sizeof *count), "a count that isn't told");
+    wanted(status != DL_DONE || *count > 0, "no finding");
+    for (size_t i = 0; i < told; i++) {
+        const dl_finding *one = &findings[i];
+        wanted(one->rule <= DL_RULE_NO_CODE && (rules >> one->rule & 1), "a rule that isn't asked for");
+        wanted(one->rule != DL_RULE_NO_CODE && one->rule != DL_RULE_DEAD_SEQUENCE, "a finding that only a file has");
+        wanted(one->offset <= len, "a finding outside the section");
+        wanted(one->row > 0 || (one->address == 0 && one->op_index == 0), "a place of no row");
+    }
+    wanted(is_filled(findings_end - MOST_ROWS, (MOST_ROWS - room) * sizeof *findings), "a finding before its room");
+    wanted(is_filled(findings + told, (room - told) * sizeof *findings), "more than the findings");
+}
+
 /* Tells the paths of files of the unit at an offset, whose status is this one, into a room. */
 static void check_paths(uint32_t described_as, uint64_t offset, size_t asked, size_t room)
 {
@@ -588,6 +619,7 @@ int main(int words_count, char **words)
     places_end = (dl_place *)guarded(MOST_ROWS * sizeof *places_end);
     sources_end = (dl_source *)guarded(MOST_ROWS * sizeof *sources_end);
     paths_len = (size_t *)guarded(sizeof *paths_len) - 1;
+    findings_end = (dl_finding *)guarded(MOST_ROWS * sizeof *findings_end);
     uint64_t rounds = strtoull(words[1], NULL, 10);
     for (state = 1; state <= rounds; state++) {
         uint64_t round = state;
@@ -599,6 +631,7 @@ int main(int words_count, char **words)
         check_find_all_around(counted, below(MOST_ASKED + 1));
         check_lines(counted, below(below(2) ? 4 : MOST_ROWS + 1));
         check_sources(counted, below(below(2) ? 4 : MOST_ROWS + 1), below(below(2) ? 64 : MOST_COPY + 1));
+        check_findings(counted, below(below(2) ? 4 : MOST_ROWS + 1));
         check_copy(counted, below(below(2) ? 64 : MOST_COPY + 1));
         dl_fault told;
         memset(&told, 0, sizeof told);

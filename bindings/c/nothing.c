@@ -61,6 +61,11 @@ static void without_section(void)
            && count == 0 && length == 0, "dl_sources of nothing");
     wanted(dl_sources(NULL, 0, DL_KEEP_GOING, NULL, 0, NULL, 0, NULL, 0, &count, NULL, 0, &length, &fault) == DL_DONE
            && count == 0 && length == 0, "dl_sources of nothing around damaged units");
+    count = 7;
+    wanted(dl_findings(NULL, 0, 0, UINT32_MAX, NULL, 0, NULL, 0, NULL, 0, &count, &fault) == DL_NO_ANSWER && count == 7,
+           "dl_findings of nothing");
+    wanted(dl_findings(NULL, 0, DL_KEEP_GOING, UINT32_MAX, NULL, 0, NULL, 0, NULL, 0, &count, &fault) == DL_NO_ANSWER && count == 7,
+           "dl_findings of nothing around damaged units");
     wanted(dl_copy(NULL, 0, false, NULL, 0, &length, &fault) == DL_DONE && length == 0, "dl_copy of nothing");
 }
 
@@ -165,6 +170,10 @@ static void without_room(void)
                                              "/boxantrel/series.c/boxantrel/series.h"), "dl_sources");
     wanted(dl_sources(section, len, 0, NULL, 0, NULL, 0, NULL, 0, &count, NULL, 0, &length, &fault) == DL_DONE
            && count == 0 && length == 0, "dl_sources without string sections");
+    wanted(dl_findings(section, len, 0, 1u << DL_RULE_MISSING_TEXT, NULL, 0, NULL, 0, NULL, 0, &count, &fault) == DL_DONE
+           && count > 0, "dl_findings without string sections");
+    wanted(dl_findings(section, len, 0, UINT32_MAX << (DL_RULE_NO_CODE + 1), NULL, 0, NULL, 0, NULL, 0, &count, &fault)
+           == DL_NO_ANSWER, "dl_findings of no rule");
     wanted(dl_copy(section, len, false, NULL, 0, &length, &fault) == DL_NO_ROOM && length > 0, "dl_copy");
 }
 

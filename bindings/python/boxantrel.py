@@ -16,6 +16,8 @@
     [('0x401000', 8, 5), ('0x40102e', 8, 33)]
     >>> [(file.path, file.rows) for file in section.sources(texts)][2:]
     [(b'/boxantrel/main.c', 21), (b'/boxantrel/series.c', 48), (b'/boxantrel/series.h', 0)]
+    >>> section.findings(texts, rules=["file-index", "falling-place"])
+    []
     >>> [(unit.offset, unit.rows, len(list(section.rows_at(unit.offset)))) for unit in section.units()]
     [(0, 59, 59), (297, 32, 32)]
 
@@ -43,18 +45,20 @@ import mmap
 import operator
 import os
 import pathlib
-from typing import Any, Iterator, List, NamedTuple, NoReturn, Optional, Sequence
+from typing import Any, Iterable, Iterator, List, NamedTuple, NoReturn, Optional, Sequence, Tuple
 
 __all__ = [
     "Counts",
     "Damage",
     "FileFault",
+    "Finding",
     "Found",
     "Index",
     "Location",
     "NoIndex",
     "OtherVersion",
     "Place",
+    "RULES",
     "Row",
     "Section",
     "SourceFile",
@@ -102,6 +106,12 @@ class _Source(ctypes.Structure):
         ("bytes", ctypes.c_uint64),
         ("md5", ctypes.c_uint8 * 16),
         ("has_md5", ctypes.c_uint8),
+    ]
+
+
+class _Finding(ctypes.Structure):
+    _fields_ = [(name, ctypes.c_uint64) for name in ("offset", "rule", "row", "address", "op_index")] + [
+        ("numbers", ctypes.c_uint64 * 4)
     ]
 
 
@@ -234,6 +244,41 @@ class SourceFile(NamedTuple):
     sums: List[bytes]
 
 
+# The names of the rules of what misleads a debugger, in the order in which the findings of one place are told.
+RULES = (
+    "file-index",
+    "directory-index",
+    "falling-place",
+    "no-end",
+    "empty-sequence",
+    "overlap",
+    "dead-sequence",
+    "missing-text",
+    "duplicate-file",
+    "unused-file",
+    "long-number",
+    "padding",
+    "wrapped-address",
+    "line-wrapped",
+    "no-statement",
+    "split-instruction",
+    "unknown-opcode",
+    "no-code",
+)
+
+
+class Finding(NamedTuple):
+    """What in a section misleads a debugger: the offset, the name of the rule, the number in its unit, from 1 on, the address
+    and the op_index of the row that it is about, or 0, and four numbers, which include/boxantrel.h tells beside the rules."""
+
+    offset: int
+    rule: str
+    row: int
+    address: int
+    op_index: int
+    numbers: Tuple[int, ...]
+
+
 class Damage(Exception):
     """A unit is damaged. `offset` counts from the section's first byte; `kind` and `detail` are the numbers that stand
     for the fault in include/boxantrel.h. Its text says the same in words.
@@ -344,6 +389,10 @@ def _library() -> ctypes.CDLL:
         + held * 2
         + [ctypes.POINTER(_Source), ctypes.c_size_t, ctypes.POINTER(ctypes.c_size_t)]
         + [ctypes.c_void_p, ctypes.c_size_t, ctypes.POINTER(ctypes.c_size_t), fault],
+        "dl_findings": section
+        + [ctypes.c_uint32]
+        + held * 2
+        + [ctypes.POINTER(_Finding), ctypes.c_size_t, ctypes.POINTER(ctypes.c_size_t), fault],
         "dl_find": section + place + [row, ctypes.POINTER(ctypes.c_uint64), fault],
         "dl_index_fault_text": [ctypes.POINTER(_IndexFault), ctypes.c_void_p, ctypes.c_size_t],
         "dl_index_open": held + [index, ctypes.POINTER(_IndexFault)],
@@ -645,6 +694,45 @@ class Section:
             answer = (sources, room, ctypes.byref(count), paths, paths_room, ctypes.byref(paths_len), ctypes.byref(fault))
             status = _calls.dl_sources(*self._how(keep_going), *asked, *answer)
         return _files(sources[: count.value], paths.raw), status, fault
+
+    def findings(
+        self, line_str: Any = b"", text: Any = b"", rules: Iterable[str] = RULES, keep_going: bool = False
+    ) -> List[Finding]:
+        """What misleads a debugger by these rules, in the order of the section, as `dwline lint` finds it of a section alone:
+        of a string section without bytes each text is missing. A damaged section is raised; the findings before the fault are
+        told by `findings_before`. With `keep_going` those in all units are told, in damaged ones those before their faults,
+        and no damage is raised: `check` tells of it. More than 64 of them are told twice."""
+        found, status, fault = self._findings(line_str, text, rules, keep_going)
+        if status not in (_DONE, _NO_ANSWER) and not (keep_going and _is_damage(status, fault)):
+            _refuse(status, fault)
+        return found
+
+    def findings_before(self, line_str: Any = b"", text: Any = b"", rules: Iterable[str] = RULES) -> List[Finding]:
+        """The same up to the first fault, if there is one."""
+        found, status, fault = self._findings(line_str, text, rules, False)
+        if status not in (_DONE, _NO_ANSWER, _FAULT):
+            _refuse(status, fault)
+        return found
+
+    def _findings(
+        self, line_str: Any, text: Any, rules: Iterable[str], keep_going: bool
+    ) -> tuple[List[Finding], int, _Fault]:
+        strings = (_Bytes(line_str), _Bytes(text))
+        asked = [number for held in strings for number in held.pointer]
+        bits = sum(1 << place for place in {RULES.index(rule) for rule in rules})
+        room, count, fault = 0, ctypes.c_size_t(64), _Fault()
+        while room < count.value:
+            room, count.value = count.value, 0
+            findings = (_Finding * room)()
+            answer = (findings, room, ctypes.byref(count), ctypes.byref(fault))
+            status = _calls.dl_findings(*self._how(keep_going), bits, *asked, *answer)
+        return [_finding(finding) for finding in findings[: count.value]], status, fault
+
+
+def _finding(finding: _Finding) -> Finding:
+    """A finding that a call told."""
+    row = (finding.row, finding.address, finding.op_index)
+    return Finding(finding.offset, RULES[finding.rule], *row, tuple(finding.numbers))
 
 
 def _files(sources: Sequence[_Source], paths: bytes) -> List[SourceFile]:

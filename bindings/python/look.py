@@ -1,16 +1,17 @@
-"""look.py [--big] [--older SIZE] [--keep-going] [--rows | --copy | --addr LINE_STR STR ADDRESS.. |
---lines LINE_STR STR PATH LINE.. | --exact-lines LINE_STR STR PATH LINE.. | --sources LINE_STR STR | ADDRESS..]: of the section
-on standard input, what `dwline check` prints of it; with --rows the rows that `dwline dump` prints, with --copy what `dwline
-copy` writes, with --addr and the files of both string sections what `dwline addr` prints; with --lines what `dwline lines` prints
-of each line of the path, but for the paths, and with --exact-lines what it prints with --exact; with --sources what `dwline
-sources --rows --md5` prints; or with addresses the row that answers for each as `dwline find` prints it. With --keep-going the
-units after a damaged one count too, and answer with --addr, --lines and --sources; the first fault is said."""
+"""look.py [--big] [--older SIZE] [--keep-going] [--rows | --copy | --addr LINE_STR STR ADDRESS.. | --lines LINE_STR STR PATH
+LINE.. | --exact-lines LINE_STR STR PATH LINE.. | --sources LINE_STR STR | --findings LINE_STR STR | ADDRESS..]: of the
+section on standard input, what `dwline check` prints of it; with --rows the rows that `dwline dump` prints, with --copy what
+`dwline copy` writes, with --addr and the files of both string sections what `dwline addr` prints; with --lines what `dwline
+lines` prints of each line of the path, but for the paths, and with --exact-lines what it prints with --exact; with --sources
+what `dwline sources --rows --md5` prints; with --findings the numbers of what `dwline lint` finds; or with addresses the row
+that answers for each as `dwline find` prints it. With --keep-going the units after a damaged one count too, and answer with
+--addr, --lines, --sources and --findings; the first fault is said."""
 
 import pathlib
 import sys
 from typing import Dict, Iterable, List, Optional, Set, Tuple
 
-from boxantrel import Damage, Found, OtherVersion, Place, Row, Section
+from boxantrel import RULES, Damage, Found, OtherVersion, Place, Row, Section
 
 
 def line_of(row: Row) -> str:
@@ -110,6 +111,14 @@ def list_sources(section: Section, keep_going: bool, line_str: bytes, text: byte
     section.check()
 
 
+def list_findings(section: Section, keep_going: bool, line_str: bytes, text: bytes) -> None:
+    found = section.findings(line_str, text, keep_going=True) if keep_going else section.findings_before(line_str, text)
+    for finding in found:
+        place = (finding.row, finding.address, finding.op_index)
+        print(finding.offset, RULES.index(finding.rule), *place, *finding.numbers)
+    section.check()
+
+
 def main(words: List[str]) -> int:
     big = words[:1] == ["--big"]
     words = words[big:]
@@ -133,6 +142,8 @@ def main(words: List[str]) -> int:
             find_lines(section, keep_going, words[0] == "--exact-lines", *files, words[3], words[4:])
         elif words[0] == "--sources":
             list_sources(section, keep_going, *(pathlib.Path(name).read_bytes() for name in words[1:3]))
+        elif words[0] == "--findings":
+            list_findings(section, keep_going, *(pathlib.Path(name).read_bytes() for name in words[1:3]))
         else:
             find_each(section, words)
     except (Damage, OtherVersion) as refusal:

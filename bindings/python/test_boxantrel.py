@@ -10,7 +10,7 @@ import pickle
 import tempfile
 import unittest
 
-from boxantrel import Counts, Damage, FileFault, Index, NoIndex, OtherVersion, Place, Section, SourceFile
+from boxantrel import RULES, Counts, Damage, FileFault, Finding, Index, NoIndex, OtherVersion, Place, Section, SourceFile
 
 EXAMPLES = pathlib.Path(__file__).resolve().parents[2] / "examples"
 BYTES = (EXAMPLES / "gcc-O2" / "debug_line").read_bytes()
@@ -266,6 +266,42 @@ class Sources(unittest.TestCase):
         self.assertEqual(section.sources_before(LINE_STR), [])
         self.assertEqual(section.sources(LINE_STR, keep_going=True), FILES)
         self.assertEqual(Section(BYTES + DAMAGED).sources_before(LINE_STR), FILES)
+
+
+# A row of file 9 at 0x1000 in a unit whose table has one file, numbered from 0 on, with operations for a second row and an end row.
+NO_FILE = SUMMED + bytes(16) + bytes.fromhex("00090200100000000000000409010208000101")
+NINTH = len(SUMMED) + 16 + 13
+NO_FILE_FOUND = [
+    Finding(NINTH, "file-index", 1, 0x1000, 0, (9, 1, 0, 0)),
+]
+
+
+class Findings(unittest.TestCase):
+    def test_rules(self) -> None:
+        self.assertEqual(len(RULES), 18)
+        self.assertEqual(Section(b"").findings(), [])
+        self.assertEqual(Section(NO_FILE).findings(rules=["file-index"]), NO_FILE_FOUND)
+        self.assertEqual(Section(NO_FILE).findings(rules=["padding"]), [])
+        self.assertEqual(Section(NO_FILE).findings(rules=[]), [])
+        self.assertRaises(ValueError, Section(NO_FILE).findings, rules=["no-such"])
+
+    def test_many(self) -> None:
+        found = Section(NO_FILE * 100).findings(rules=["file-index"])
+        self.assertEqual([finding.offset for finding in found], [NINTH + len(NO_FILE) * k for k in range(100)])
+
+    def test_texts(self) -> None:
+        self.assertEqual(Section(BYTES).findings(LINE_STR, rules=["missing-text"]), [])
+        found = Section(BYTES).findings(rules=["missing-text"])
+        self.assertTrue(found)
+        self.assertEqual({finding.rule for finding in found}, {"missing-text"})
+
+    def test_a_damaged_unit(self) -> None:
+        section = Section(DAMAGED + NO_FILE)
+        self.assertRaises(Damage, section.findings)
+        self.assertEqual(section.findings_before(rules=["file-index"]), [])
+        behind = [finding._replace(offset=finding.offset + len(DAMAGED)) for finding in NO_FILE_FOUND]
+        self.assertEqual(section.findings(rules=["file-index"], keep_going=True), behind)
+        self.assertEqual(Section(NO_FILE + DAMAGED).findings_before(rules=["file-index"]), NO_FILE_FOUND)
 
 
 class Around(unittest.TestCase):

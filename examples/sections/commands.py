@@ -3,8 +3,8 @@ from sections.cases import UNIT, TRUNCATED, Run, counts_of, damage, error, row, 
 from sections.headers import DWARF64_DUMP, EACH_FORM_DUMP
 from sections.programs import THREE_DUMP
 from sections.units import (
-    BIG_DWARF64_WITH_MD5, BIG_OPERATIONS, DWARF64_WITH_MD5, EACH_FORM, EMPTY_PROGRAM, FOREIGN, OPCODE_BASE_10, PADDED,
-    PADDED_COPIED, PADDING_OF_THREE_BYTES, SMALLEST, THREE_ROWS, THREE_ROWS_AND_A_BYTE, WITH_FILE)
+    BIG_DWARF64_WITH_MD5, BIG_OPERATIONS, DWARF64_WITH_MD5, EACH_FORM, EMPTY_PROGRAM, FOREIGN, NO_TABLES, OPCODE_BASE_10, PADDED,
+    PADDED_COPIED, PADDING_OF_THREE_BYTES, SMALLEST, THREE_ROWS, THREE_ROWS_AND_A_BYTE, WITH_FILE, unit_of)
 
 NOT_FOUND = error("no line for this address")
 
@@ -200,6 +200,47 @@ NO_FILE = "file-index: row {} at 0x{:016x} names file 1 of 0, numbered from 0\n"
 TWO_NAMES = "0x2d " + NO_FILE.format(1, 0x401000) + "0x2e " + NO_FILE.format(2, 0x401004)
 THREE_BYTES = "0x0 padding: 3 bytes stand between the tables and the program\n"
 
+TWO_NAMES_AGAIN = "0x61 " + NO_FILE.format(1, 0x401000) + "0x62 " + NO_FILE.format(2, 0x401004)
+COVERED = "{} overlap: row {} at 0x{:016x} ends a sequence that covers 0x{:016x}, as one of the unit at {} does\n"
+TWICE = COVERED.format("0x65", 3, 0x401006, 0x401000, "0x0")
+TWICE_OBJECT = ('{"offset":101,"rule":"overlap","row":3,"address":"0x0000000000401006","op_index":0,'
+                '"covered":"0x0000000000401000","covered_op_index":0,"unit":0}\n')
+
+
+def spans(*both, falls=False):
+    """A unit of 34 bytes and a sequence of 17 for each pair of addresses, where it begins and where it ends. One that falls has
+    a row more, above the address where it ends."""
+    program = b""
+    for first, end in both:
+        program += b"\0\x09\x02" + first.to_bytes(8, "little") + b"\x01"
+        if falls:
+            program += b"\0\x09\x02" + (end + 1).to_bytes(8, "little") + b"\x01\0\x09\x02" + end.to_bytes(8, "little")
+        else:
+            program += b"\x02" + bytes([end - first])
+        program += b"\0\x01\x01"
+    return unit_of(NO_TABLES, program)
+
+
+# Sections, and of each sequence that covers a place of one before it the offset, number and address of its end row, that place, and
+# the unit of the first one that covers it.
+OVERLAPS = [
+    # One ends where the other one begins.
+    (spans((0x1000, 0x1010), (0x1010, 0x1020)), []),
+    (spans((0x1000, 0x1010)) + spans((0x1008, 0x1018)), [("0x63", 2, 0x1018, 0x1008, "0x0")]),
+    # The later one begins first, lies around the other one, and within it.
+    (spans((0x1008, 0x1018)) + spans((0x1000, 0x1010)), [("0x63", 2, 0x1010, 0x1008, "0x0")]),
+    (spans((0x1008, 0x1010)) + spans((0x1000, 0x1018)), [("0x63", 2, 0x1018, 0x1008, "0x0")]),
+    (spans((0x1000, 0x1018)) + spans((0x1008, 0x1010)), [("0x63", 2, 0x1010, 0x1008, "0x0")]),
+    # The first place that is covered is one of the second unit, and then one that the first two cover.
+    (spans((0x1010, 0x1020)) + spans((0x1000, 0x1008)) + spans((0x1000, 0x1018)), [("0x96", 2, 0x1018, 0x1000, "0x33")]),
+    (spans((0x1000, 0x1010), (0x1004, 0x1014), (0x1006, 0x1008)),
+     [("0x41", 4, 0x1014, 0x1004, "0x0"), ("0x52", 6, 0x1008, 0x1006, "0x0")]),
+    # One that covers nothing, and those whose rows fall.
+    (spans((0x1000, 0x1010), (0x1008, 0x1008)), []),
+    (spans((0x1000, 0x1010)) + spans((0x1008, 0x1018), falls=True), []),
+    (spans((0x1000, 0x1010), falls=True) + spans((0x1008, 0x1018)), []),
+]
+
 # A section, words of `lint`, the findings, and what is told of them. The rows of three name a file of no table.
 FINDINGS = [
     (b"", (), "", b""),
@@ -214,6 +255,13 @@ FINDINGS = [
     (PADDING_OF_THREE_BYTES + THREE_ROWS_AND_A_BYTE, ("--rule=padding", "--keep-going"), THREE_BYTES,
      damage(len(PADDING_OF_THREE_BYTES) + 52, ENDS_INSIDE) + b"findings: padding=1\n"),
     (THREE_ROWS_AND_A_BYTE + PADDING_OF_THREE_BYTES, ("--rule=padding",), "", damage(52, ENDS_INSIDE)),
+    (THREE_ROWS * 2, ("--rule=overlap",), TWICE, b"findings: overlap=1\n"),
+    (THREE_ROWS * 2, ("--rule=overlap", "--json"), TWICE_OBJECT, b"findings: overlap=1\n"),
+    (THREE_ROWS * 2, (), TWO_NAMES + TWO_NAMES_AGAIN + TWICE, b"findings: file-index=4 overlap=1\n"),
+    (THREE_ROWS * 2, ("--no-rule=file-index", "--no-rule=overlap"), "", b""),
+    (THREE_ROWS + THREE_ROWS_AND_A_BYTE, ("--rule=overlap",), "", damage(104, ENDS_INSIDE)),
+    (THREE_ROWS + THREE_ROWS_AND_A_BYTE, ("--rule=overlap", "--keep-going"), TWICE,
+     damage(104, ENDS_INSIDE) + b"findings: overlap=1\n"),
 ]
 
 # Words that say no offset, no range and no rule.
@@ -254,6 +302,11 @@ def runs_of_parts():
         yield Run(f"sources {' '.join(words)}", ("sources", *words), section, 1 if fault else 0, text(paths), (fault,))
     for section, words, lines, told in FINDINGS:
         yield Run(f"lint {' '.join(words)}", ("lint", *words), section, 1 if told else 0, text(lines), (told,))
+    for number, (section, overlaps) in enumerate(OVERLAPS):
+        words = ("lint", "--rule=overlap", "--rule=dead-sequence", "--rule=no-code")
+        told = f"findings: overlap={len(overlaps)}\n".encode() if overlaps else b""
+        lines = "".join(COVERED.format(*overlap) for overlap in overlaps)
+        yield Run(f"{' '.join(words)}, section {number}", words, section, 1 if told else 0, text(lines), (told,))
     for words, fault in REFUSED_WORDS:
         yield Run(" ".join(words), words, THREE_ROWS, 2, b"", (fault,))
 

@@ -1,12 +1,13 @@
 /*
- * look [--big] [--older SIZE] [--keep-going] [--rows | --copy | --addr LINE_STR STR ADDRESS.. |
- * --lines LINE_STR STR PATH LINE.. | --exact-lines LINE_STR STR PATH LINE.. | --sources LINE_STR STR | ADDRESS..]: of the
- * section on standard input, what `dwline check` prints of it; with --rows the rows that `dwline dump` prints, with --copy what
- * `dwline copy` writes, with --addr and the files of both string sections what `dwline addr` prints; with --lines what `dwline
- * lines` prints of each line of the path, but for the paths, and with --exact-lines what it prints with --exact; with --sources
- * what `dwline sources --rows --md5` prints; or with addresses the row that answers for each as `dwline find` prints it. With
- * --older units of versions 2 to 4 are read too, with addresses of this size. With --keep-going the units after a damaged one
- * count too, and answer with --addr, --lines and --sources; the first fault is said.
+ * look [--big] [--older SIZE] [--keep-going] [--rows | --copy | --addr LINE_STR STR ADDRESS.. | --lines LINE_STR STR PATH
+ * LINE.. | --exact-lines LINE_STR STR PATH LINE.. | --sources LINE_STR STR | --findings LINE_STR STR | ADDRESS..]: of the
+ * section on standard input, what `dwline check` prints of it; with --rows the rows that `dwline dump` prints, with --copy
+ * what `dwline copy` writes, with --addr and the files of both string sections what `dwline addr` prints; with --lines what
+ * `dwline lines` prints of each line of the path, but for the paths, and with --exact-lines what it prints with --exact; with
+ * --sources what `dwline sources --rows --md5` prints; with --findings the numbers of what `dwline lint` finds; or with
+ * addresses the row that answers for each as `dwline find` prints it. With --older units of versions 2 to 4 are read too, with
+ * addresses of this size. With --keep-going the units after a damaged one count too, and answer with --addr, --lines,
+ * --sources and --findings; the first fault is said.
  */
 #include <boxantrel.h>
 #include <inttypes.h>
@@ -309,6 +310,40 @@ static int list_sources(void)
     }
 }
 
+static void print_findings(const dl_finding *findings, size_t count)
+{
+    for (size_t i = 0; i < count; i++) {
+        const dl_finding *one = &findings[i];
+        printf("%" PRIu64 " %" PRIu64 " %" PRIu64 " %" PRIu64 " %" PRIu64, one->offset, one->rule, one->row, one->address,
+               one->op_index);
+        for (size_t k = 0; k < 4; k++)
+            printf(" %" PRIu64, one->numbers[k]);
+        putchar('\n');
+    }
+}
+
+/* Prints the findings, for which more room is taken where they want it; the fault of the section is said at the end. */
+static int list_findings(void)
+{
+    size_t room = 4;
+    for (;;) {
+        size_t count = 0;
+        dl_finding *findings = malloc(room * sizeof *findings);
+        dl_fault fault;
+        uint32_t status = DL_NO_MEMORY;
+        if (findings != NULL)
+            status = dl_findings(bytes, len, how, UINT32_MAX, texts[0], texts_len[0], texts[1], texts_len[1], findings, room,
+                                 &count, &fault);
+        bool is_all = count <= room;
+        if (is_all)
+            print_findings(findings, count);
+        free(findings);
+        if (is_all)
+            return status == DL_DONE || status == DL_NO_ANSWER ? 0 : refused(status, &fault);
+        room = count;
+    }
+}
+
 /* Prints the rows of the unit at the offset, those before a fault too, and gives the status of the call. */
 static uint32_t print_rows(uint64_t offset, dl_fault *fault)
 {
@@ -380,7 +415,8 @@ int main(int count, char **words)
     bool is_exact = at + 3 < count && strcmp(words[at], "--exact-lines") == 0;
     bool is_lines = is_exact || (at + 3 < count && strcmp(words[at], "--lines") == 0);
     bool is_sources = at + 2 < count && strcmp(words[at], "--sources") == 0;
-    for (int i = 0; i < 2 && (is_addr || is_lines || is_sources); i++) {
+    bool is_findings = at + 2 < count && strcmp(words[at], "--findings") == 0;
+    for (int i = 0; i < 2 && (is_addr || is_lines || is_sources || is_findings); i++) {
         FILE *file = fopen(words[at + 1 + i], "rb");
         texts[i] = read_all(file, &texts_len[i]);
         has_all = has_all && texts[i] != NULL;
@@ -404,6 +440,8 @@ int main(int count, char **words)
         status = find_lines(words[at + 3], words + at + 4, (size_t)(count - at - 4), is_exact);
     else if (is_sources)
         status = list_sources();
+    else if (is_findings)
+        status = list_findings();
     else
         for (; at < count && status == 0; at++)
             status = find(words[at]);

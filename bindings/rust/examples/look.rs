@@ -1,12 +1,13 @@
-//! look [--big] [--older SIZE] [--keep-going] [--rows | --copy | --addr LINE_STR STR ADDRESS.. |
-//! --lines LINE_STR STR PATH LINE.. | --exact-lines LINE_STR STR PATH LINE.. | --sources LINE_STR STR | ADDRESS..]: of the
-//! section on standard input, what `dwline check` prints of it; with --rows the rows that `dwline dump` prints, with --copy what
-//! `dwline copy` writes, with --addr and the files of both string sections what `dwline addr` prints; with --lines what `dwline
-//! lines` prints of each line of the path, but for the paths, and with --exact-lines what it prints with --exact; with --sources
-//! what `dwline sources --rows --md5` prints; or with addresses the row that answers for each as `dwline find` prints it. With
-//! --keep-going the units after a damaged one count too, and answer with --addr, --lines and --sources; the first fault is said.
+//! look [--big] [--older SIZE] [--keep-going] [--rows | --copy | --addr LINE_STR STR ADDRESS.. | --lines LINE_STR STR PATH
+//! LINE.. | --exact-lines LINE_STR STR PATH LINE.. | --sources LINE_STR STR | --findings LINE_STR STR | ADDRESS..]: of the
+//! section on standard input, what `dwline check` prints of it; with --rows the rows that `dwline dump` prints, with --copy
+//! what `dwline copy` writes, with --addr and the files of both string sections what `dwline addr` prints; with --lines what
+//! `dwline lines` prints of each line of the path, but for the paths, and with --exact-lines what it prints with --exact; with
+//! --sources what `dwline sources --rows --md5` prints; with --findings the numbers of what `dwline lint` finds; or with
+//! addresses the row that answers for each as `dwline find` prints it. With --keep-going the units after a damaged one count
+//! too, and answer with --addr, --lines, --sources and --findings; the first fault is said.
 
-use boxantrel::{AddressSize, Error, Found, Order, Place, Row, Section, SourceFile, Survey};
+use boxantrel::{AddressSize, Error, Finding, Found, Order, Place, Row, Rule, Section, SourceFile, Survey};
 use std::collections::{HashMap, HashSet};
 use std::io::{self, BufWriter, Read, Write};
 use std::process::ExitCode;
@@ -229,6 +230,37 @@ fn list_sources(
     Ok(found.error.map_or(Ok(()), Err))
 }
 
+/// The numbers of a finding.
+fn print_finding(output: &mut impl Write, finding: &Finding) -> io::Result<()> {
+    let row = finding.row.map_or([0; 3], |row| [row.number, row.address, row.op_index]);
+    write!(output, "{} {}", finding.offset, finding.rule as u8)?;
+    for number in row.iter().chain(&finding.numbers) {
+        write!(output, " {number}")?;
+    }
+    writeln!(output)
+}
+
+fn list_findings(
+    output: &mut impl Write,
+    section: &Section,
+    keep_going: bool,
+    words: &[String],
+) -> io::Result<Result<(), Error>> {
+    let [line_str, str] = words else {
+        return Err(io::Error::other("no files"));
+    };
+    let (line_str, str) = (std::fs::read(line_str)?, std::fs::read(str)?);
+    let found = if keep_going {
+        section.findings_around(&Rule::ALL, &line_str, &str)
+    } else {
+        section.findings(&Rule::ALL, &line_str, &str)
+    };
+    for finding in &found.findings {
+        print_finding(output, finding)?;
+    }
+    Ok(found.error.map_or(Ok(()), Err))
+}
+
 fn address_size(text: &str) -> Option<AddressSize> {
     match text {
         "1" => Some(AddressSize::One),
@@ -274,6 +306,8 @@ fn main() -> io::Result<ExitCode> {
         find_lines(&mut output, &section, keep_going, words[0] == "--exact-lines", &words[1..])?
     } else if words[0] == "--sources" {
         list_sources(&mut output, &section, keep_going, &words[1..])?
+    } else if words[0] == "--findings" {
+        list_findings(&mut output, &section, keep_going, &words[1..])?
     } else {
         find_each(&mut output, &section, &words)?
     };

@@ -2,7 +2,7 @@
 //! proved. This crate hands its bytes over and gives names to what comes back.
 //!
 //! ```
-//! use boxantrel::{Order, Section};
+//! use boxantrel::{Order, Rule, Section};
 //!
 //! let bytes = std::fs::read(concat!(env!("CARGO_MANIFEST_DIR"), "/../../examples/gcc-O2/debug_line"))?;
 //! let section = Section::new(&bytes, Order::Little);
@@ -20,6 +20,8 @@
 //! assert_eq!(places.iter().map(|place| (place.address, place.line)).collect::<Vec<_>>(), [(0x401000, 8), (0x40102e, 8)]);
 //! let files = section.sources(&texts, &[]).files;
 //! assert_eq!((files.len(), files[3].path.as_slice(), files[3].rows), (5, &b"/boxantrel/series.c"[..], 48));
+//! let found = section.findings(&[Rule::FileIndex], &texts, &[]);
+//! assert_eq!((found.findings, found.error), (vec![], None));
 //! let survey = section.check_around()?;
 //! assert_eq!((survey.counts, survey.damaged, survey.first), (section.check()?, 0, None));
 //! assert_eq!(section.find_all_around(&[0x401008, 0]), section.find_all(&[0x401008, 0]));
@@ -155,6 +157,117 @@ pub struct SourceFile {
     /// Its MD5 sums, in the order of their bytes, of which there may be none. Where there are two, two versions of the file were
     /// compiled.
     pub sums: Vec<[u8; 16]>,
+}
+
+/// A rule of what misleads a debugger although it reads well.
+#[derive(Clone, Copy, Debug, PartialEq, Eq, Hash)]
+pub enum Rule {
+    /// A row that isn't an end row names no entry of the table of files. The numbers: the file that is named, how many files there are, the number of the first.
+    FileIndex,
+    /// An entry of the table of files names no entry of the table of directories. The numbers: the file, the directory that it names, how many directories there are, the number of the first.
+    DirectoryIndex,
+    /// The place of a row is below that of the row before it in its sequence. The numbers: the address and the op_index of the row before it.
+    FallingPlace,
+    /// The last sequence of a unit has no end row. The numbers: none.
+    NoEnd,
+    /// A sequence covers no address. The numbers: none.
+    EmptySequence,
+    /// A sequence covers a place that one before it covers too. The numbers: the address and the op_index of the place, the offset of the unit that covers it too.
+    Overlap,
+    /// A sequence begins where a file has no code; not of a section alone. The numbers: how many sequences, the address of the first.
+    DeadSequence,
+    /// A value of a table names a text that its string section doesn't have. The numbers: 0 for a directory or 1 for a file, its number, 0 for .debug_line_str or 1 for .debug_str, the offset there.
+    MissingText,
+    /// Two entries of the table of files have the same values. The numbers: the file, the first file that has its values.
+    DuplicateFile,
+    /// No row names an entry of the table of files. The numbers: how many files, the number of the first.
+    UnusedFile,
+    /// A number in LEB128 has more than ten bytes. The numbers: how many bytes the number has.
+    LongNumber,
+    /// Bytes stand between the tables of a header and the program. The numbers: how many bytes.
+    Padding,
+    /// An advance leads the address past the size of one. The numbers: the address before the advance, the size of an address in bytes.
+    WrappedAddress,
+    /// The line of a row is above 2^32 - 1. The numbers: the line.
+    LineWrapped,
+    /// No row of a sequence is a statement. The numbers: none.
+    NoStatement,
+    /// The address of a row lies within an instruction that begins before it. The numbers: the address of the first row of the sequence, minimum_instruction_length.
+    SplitInstruction,
+    /// An opcode or a content code isn't one of the standard's. The numbers: 0 for a standard opcode, 1 for an extended one or 2 for a content code, its number.
+    UnknownOpcode,
+    /// No sequence covers an address of a range of code; not of a section alone. The numbers: the address and the length in bytes of the code.
+    NoCode,
+}
+
+impl Rule {
+    /// All rules, in the order in which the findings of one place are told.
+    pub const ALL: [Rule; 18] = [
+        Rule::FileIndex,
+        Rule::DirectoryIndex,
+        Rule::FallingPlace,
+        Rule::NoEnd,
+        Rule::EmptySequence,
+        Rule::Overlap,
+        Rule::DeadSequence,
+        Rule::MissingText,
+        Rule::DuplicateFile,
+        Rule::UnusedFile,
+        Rule::LongNumber,
+        Rule::Padding,
+        Rule::WrappedAddress,
+        Rule::LineWrapped,
+        Rule::NoStatement,
+        Rule::SplitInstruction,
+        Rule::UnknownOpcode,
+        Rule::NoCode,
+    ];
+
+    /// The name by which `dwline lint` tells it.
+    pub fn name(self) -> &'static str {
+        match self {
+            Rule::FileIndex => "file-index",
+            Rule::DirectoryIndex => "directory-index",
+            Rule::FallingPlace => "falling-place",
+            Rule::NoEnd => "no-end",
+            Rule::EmptySequence => "empty-sequence",
+            Rule::Overlap => "overlap",
+            Rule::DeadSequence => "dead-sequence",
+            Rule::MissingText => "missing-text",
+            Rule::DuplicateFile => "duplicate-file",
+            Rule::UnusedFile => "unused-file",
+            Rule::LongNumber => "long-number",
+            Rule::Padding => "padding",
+            Rule::WrappedAddress => "wrapped-address",
+            Rule::LineWrapped => "line-wrapped",
+            Rule::NoStatement => "no-statement",
+            Rule::SplitInstruction => "split-instruction",
+            Rule::UnknownOpcode => "unknown-opcode",
+            Rule::NoCode => "no-code",
+        }
+    }
+}
+
+/// A row that a finding is about.
+#[derive(Clone, Copy, Debug, PartialEq, Eq)]
+pub struct RowSeen {
+    /// Which row of its unit it is, from 1 on.
+    pub number: u64,
+    pub address: u64,
+    pub op_index: u64,
+}
+
+/// What in a section misleads a debugger.
+#[derive(Clone, Copy, Debug, PartialEq, Eq)]
+pub struct Finding {
+    /// Of the operation, for a row the one that appends it; where a unit ends without an end row, its end; of a header, or of the
+    /// rows of a unit together, the offset of the unit.
+    pub offset: u64,
+    pub rule: Rule,
+    /// The row that it is about, where it is about one.
+    pub row: Option<RowSeen>,
+    /// As beside the rule; those behind them are 0.
+    pub numbers: [u64; 4],
 }
 
 /// A unit that was read whole.
@@ -584,6 +697,53 @@ impl<'a> Section<'a> {
         }
     }
 
+    /// What misleads a debugger by these rules, in the order of the section, as `dwline lint` finds it of a section alone. The string
+    /// sections are those of `path_at`: of one without bytes each text is missing. Where the section is damaged the findings before the
+    /// fault are told. More than 64 of them are told twice.
+    pub fn findings(&self, rules: &[Rule], line_str: &[u8], str: &[u8]) -> Findings {
+        self.findings_by(self.how(), rules, line_str, str)
+    }
+
+    /// The same, but goes on after a damaged unit as `check_around` does: the findings in all units are told, in damaged ones those
+    /// before their faults, and the error is the damage of the first.
+    pub fn findings_around(&self, rules: &[Rule], line_str: &[u8], str: &[u8]) -> Findings {
+        self.findings_by(self.how() + raw::KEEP_GOING, rules, line_str, str)
+    }
+
+    fn findings_by(&self, how: u8, rules: &[Rule], line_str: &[u8], str: &[u8]) -> Findings {
+        let asked = rules.iter().fold(0, |bits, rule| bits | 1 << *rule as u32);
+        let mut findings = vec![raw::Finding::default(); 64];
+        loop {
+            let mut count = 0;
+            let mut fault = raw::Fault::default();
+            // SAFETY: as in `path_at`; the room is a slice's.
+            let status = unsafe {
+                raw::dl_findings(
+                    self.bytes.as_ptr(),
+                    self.bytes.len(),
+                    how,
+                    asked,
+                    line_str.as_ptr(),
+                    line_str.len(),
+                    str.as_ptr(),
+                    str.len(),
+                    findings.as_mut_ptr(),
+                    findings.len(),
+                    &mut count,
+                    &mut fault,
+                )
+            };
+            if count <= findings.len() {
+                findings.truncate(count);
+                return Findings {
+                    findings: findings.into_iter().map(Finding::from).collect(),
+                    error: (status != raw::DONE && status != raw::NO_ANSWER).then(|| error(status, &fault)),
+                };
+            }
+            findings.resize(count, raw::Finding::default());
+        }
+    }
+
     /// The index of the section: of the sequences that begin in the ranges, in any order, or of all where there are none. The
     /// string sections are those of `path_at`. Where damaged units are gone around, what is wrong with the first of them comes
     /// beside it.
@@ -670,6 +830,14 @@ pub struct FoundSources {
     pub error: Option<Error>,
 }
 
+/// What in a section misleads a debugger, and what is wrong with the section, or that memory was refused.
+#[derive(Clone, Debug, PartialEq, Eq)]
+pub struct Findings {
+    /// In the order of the section; of a damaged section those that were found before its fault.
+    pub findings: Vec<Finding>,
+    pub error: Option<Error>,
+}
+
 impl Iterator for Units<'_> {
     type Item = Result<Unit, Error>;
 
@@ -735,6 +903,21 @@ impl From<raw::Row> for Row {
             prologue_end: row.flags & 4 != 0,
             epilogue_begin: row.flags & 8 != 0,
             end_sequence: row.flags & 16 != 0,
+        }
+    }
+}
+
+impl From<raw::Finding> for Finding {
+    fn from(finding: raw::Finding) -> Finding {
+        Finding {
+            offset: finding.offset,
+            rule: Rule::ALL[finding.rule as usize],
+            row: (finding.row > 0).then_some(RowSeen {
+                number: finding.row,
+                address: finding.address,
+                op_index: finding.op_index,
+            }),
+            numbers: finding.numbers,
         }
     }
 }

@@ -83,6 +83,17 @@ pub struct Source {
     pub has_md5: u8,
 }
 
+#[repr(C)]
+#[derive(Clone, Copy, Debug, Default)]
+pub struct Finding {
+    pub offset: u64,
+    pub rule: u64,
+    pub row: u64,
+    pub address: u64,
+    pub op_index: u64,
+    pub numbers: [u64; 4],
+}
+
 /// By which the calls find the parts of an index.
 #[repr(C)]
 #[derive(Clone, Copy, Debug, PartialEq, Eq)]
@@ -291,6 +302,20 @@ extern "C" {
         paths: *mut u8,
         paths_room: usize,
         paths_len: *mut usize,
+        fault: *mut Fault,
+    ) -> u32;
+    pub fn dl_findings(
+        section: *const u8,
+        len: usize,
+        how: u8,
+        rules: u32,
+        line_str: *const u8,
+        line_str_len: usize,
+        str: *const u8,
+        str_len: usize,
+        findings: *mut Finding,
+        room: usize,
+        count: *mut usize,
         fault: *mut Fault,
     ) -> u32;
     pub fn dl_copy(

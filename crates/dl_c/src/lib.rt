@@ -19,6 +19,7 @@ ghost use Rattle.dl_buffers.specs.Records.{status_code};
 ghost use Rattle.dl_buffers.specs.UnitCalls.{Describes, Lists, length_told, written_over};
 ghost use Rattle.dl_memory.specs.Refusals.{SystemRefuses};
 ghost use Rattle.dl_memory.specs.declared.system.System.{System};
+ghost use Rattle.dl_finding_buffers.specs.FindingCalls.{FindsFindings};
 ghost use Rattle.dl_source_buffers.specs.LineCalls.{FindsLines};
 ghost use Rattle.dl_source_buffers.specs.SourceCalls.{FindsFiles, rooms};
 ghost use Rattle.dl_index_buffers.specs.IndexFaultCalls as index_faults;
@@ -268,6 +269,37 @@ pub extern "C" fn boxantrel_sources(
         count,
         paths,
         paths_len,
+        fault,
+    )
+    .code()
+}
+
+/// As `dl_finding_buffers::findings`.
+#[unsafe(no_mangle)]
+pub extern "C" fn boxantrel_findings(
+    alloc: Global,
+    section: &[u8],
+    how: u8,
+    rules: u32,
+    line_str: &[u8],
+    str: &[u8],
+    findings: &mut [[u8; 72]],
+    count: &mut usize,
+    fault: &mut FaultRecord,
+) -> u32
+    ensures { (status : Status) × (result ≡ status_code status)
+        × FindsFindings SystemRefuses (goes_on how) (dialect_of how) (both_strings line_str.now str.now) rules section.now
+        findings.old findings.new count.old count.new fault.old fault.new status }
+{
+    dl_finding_buffers::findings(
+        &System::new(alloc),
+        section,
+        how,
+        rules,
+        line_str,
+        str,
+        findings,
+        count,
         fault,
     )
     .code()

@@ -1,1 +1,4 @@
+pub mod BitLemmas
 pub mod CountLemmas
+pub mod RecordLemmas
+pub mod NameLemmas

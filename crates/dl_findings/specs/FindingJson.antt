@@ -1,5 +1,6 @@
 -- A finding as a JSON object (RFC 8259), in one line: what it says, under the names of its fields.
-use Rattle.std.specs.Prelude.{ℕ, Bool, if◌then◌else◌, List, [], ◌++◌, codes, decimal, flat_map, Option, Some, None}
+use Rattle.std.specs.Prelude.{ℕ, List, [], ◌++◌, codes, decimal, Option, Some, None}
+use Rattle.dl_look.specs.declared.place.Place.{Place}
 use Rattle.dl_findings.specs.declared.finding.Finding.{Finding}
 use Rattle.dl_findings.specs.declared.finding.Found.{Found}
 use Rattle.dl_findings.specs.declared.finding.Found.TheVariants as found
@@ -9,7 +10,7 @@ use Rattle.dl_findings.specs.declared.finding.RowSeen.{RowSeen}
 use Rattle.dl_findings.specs.declared.finding.TableEntry.{TableEntry}
 use Rattle.dl_findings.specs.declared.finding.TableEntry.TheVariants as entry
 use Rattle.dl_findings.specs.declared.finding.TextSection.{TextSection}
-use Rattle.dl_findings.specs.FindingText.{address_text, finding_line, rule_of, section_name, two_numbers}
+use Rattle.dl_findings.specs.FindingText.{address_text, rule_of, section_name, two_numbers}
 use Rattle.dl_findings.specs.RuleNames.{rule_name}
 
 -- where it is, and the rule
@@ -59,6 +60,15 @@ missing_members e section offset =
     entry_members e
     ++ (codes ",\"section\":\"" ++ (section_name section ++ (codes "\",\"at\":" ++ decimal offset)))
 
+-- what another sequence covers too, and the unit of that one
+unfoldable pub overlap_members : Place → (unit : ℕ) → List ℕ
+overlap_members place unit =
+    both_members (codes ",\"covered\":\"") place.address (codes ",\"covered_op_index\":") place.op_index
+    ++ (codes ",\"unit\":" ++ decimal unit)
+
+unfoldable pub dead_members : (sequences first : ℕ) → List ℕ
+dead_members sequences first = (codes ",\"sequences\":" ++ decimal sequences) ++ address_member (codes ",\"first\":\"") first
+
 abbrev pub found_members : Found → List ℕ
 found_members (found.FileIndex file files first) = file_members file files first
 found_members (found.DirectoryIndex file directory directories first) = directory_members file directory directories first
@@ -66,6 +76,8 @@ found_members (found.FallingPlace before) =
     both_members (codes ",\"before\":\"") before.address (codes ",\"before_op_index\":") before.op_index
 found_members found.NoEnd = []
 found_members found.EmptySequence = []
+found_members (found.Overlap place unit) = overlap_members place unit
+found_members (found.DeadSequence sequences first) = dead_members sequences first
 found_members (found.MissingText e section offset) = missing_members e section offset
 found_members (found.DuplicateFile file same_as) =
     two_numbers (codes ",\"file\":") file (codes ",\"same_as\":") same_as
@@ -79,16 +91,10 @@ found_members (found.SplitInstruction first least) =
     both_members (codes ",\"first\":\"") first (codes ",\"least\":") least
 found_members (found.UnknownOpcode o) = opcode_members o
 found_members (found.UnknownContent code) = codes ",\"content_code\":" ++ decimal code
+found_members (found.NoCode start size) =
+    both_members (codes ",\"start\":\"") start (codes ",\"size\":") size
 
 abbrev pub finding_object : Finding → List ℕ
 finding_object f =
     object_start f.offset (rule_name (rule_of f.found))
     ++ (subject_members f.row ++ (found_members f.found ++ codes "}\n"))
-
--- ---- as it is told: as an object, or as a line of words
-
-abbrev pub finding_told : (json : Bool) → Finding → List ℕ
-finding_told json f = if json then finding_object f else finding_line f
-
-abbrev pub findings_text : (json : Bool) → List Finding → List ℕ
-findings_text json findings = flat_map (finding_told json) findings

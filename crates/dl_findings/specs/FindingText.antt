@@ -24,6 +24,8 @@ rule_of (found.DirectoryIndex file directory directories first) = rule.Directory
 rule_of (found.FallingPlace before) = rule.FallingPlace
 rule_of found.NoEnd = rule.NoEnd
 rule_of found.EmptySequence = rule.EmptySequence
+rule_of (found.Overlap place unit) = rule.Overlap
+rule_of (found.DeadSequence sequences first) = rule.DeadSequence
 rule_of (found.MissingText e section offset) = rule.MissingText
 rule_of (found.DuplicateFile file same_as) = rule.DuplicateFile
 rule_of (found.UnusedFile files first) = rule.UnusedFile
@@ -35,6 +37,7 @@ rule_of found.NoStatement = rule.NoStatement
 rule_of (found.SplitInstruction first least) = rule.SplitInstruction
 rule_of (found.UnknownOpcode o) = rule.UnknownOpcode
 rule_of (found.UnknownContent code) = rule.UnknownOpcode
+rule_of (found.NoCode start size) = rule.NoCode
 
 abbrev pub address_text : (address : ℕ) → List ℕ
 address_text address = codes "0x" ++ hexadecimal_of 16 address
@@ -96,6 +99,20 @@ wrapped_text from size =
     codes "an advance from "
     ++ (address_text from ++ (codes " goes past an address of " ++ (decimal size ++ codes " bytes")))
 
+unfoldable pub overlap_text : Place → (unit : ℕ) → List ℕ
+overlap_text place unit =
+    codes "ends a sequence that covers "
+    ++ (place_text place ++ (codes ", as one of the unit at " ++ ((codes "0x" ++ hexadecimal unit) ++ codes " does")))
+
+unfoldable pub dead_text : (sequences first : ℕ) → List ℕ
+dead_text sequences first =
+    decimal sequences ++ (codes " sequences begin outside the code, the first at " ++ address_text first)
+
+unfoldable pub no_code_text : (start size : ℕ) → List ℕ
+no_code_text start size =
+    (codes "no sequence covers an address of the " ++ decimal size)
+    ++ (codes " bytes of code from " ++ (address_text start ++ codes " on"))
+
 -- what is passed over
 unfoldable pub passed_text : (name : List ℕ) → (code : ℕ) → List ℕ
 passed_text name code = name ++ (hexadecimal code ++ codes " is passed over")
@@ -111,6 +128,8 @@ found_text (found.DirectoryIndex file directory directories first) =
 found_text (found.FallingPlace before) = codes "is below the row before it at " ++ place_text before
 found_text found.NoEnd = codes "is the last of its unit and no end row"
 found_text found.EmptySequence = codes "ends a sequence that covers no address"
+found_text (found.Overlap place unit) = overlap_text place unit
+found_text (found.DeadSequence sequences first) = dead_text sequences first
 found_text (found.MissingText e section offset) = missing_text e section offset
 found_text (found.DuplicateFile file same_as) =
     two_numbers (codes "file ") file (codes " has all values of file ") same_as
@@ -124,6 +143,7 @@ found_text found.NoStatement = codes "ends a sequence in which no row is a state
 found_text (found.SplitInstruction first least) = split_text first least
 found_text (found.UnknownOpcode o) = opcode_text o
 found_text (found.UnknownContent code) = passed_text (codes "content code 0x") code
+found_text (found.NoCode start size) = no_code_text start size
 
 -- where it is, and the rule
 unfoldable pub finding_start : (offset : ℕ) → (name : List ℕ) → List ℕ

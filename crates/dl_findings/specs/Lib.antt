@@ -3,4 +3,6 @@ pub mod RuleNames
 pub mod Chosen
 pub mod FindingText
 pub mod FindingJson
+pub mod FindingRecord
+pub mod FindingTold
 pub mod Counting

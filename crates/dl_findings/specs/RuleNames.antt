@@ -12,6 +12,8 @@ rule_name rule.DirectoryIndex = codes "directory-index"
 rule_name rule.FallingPlace = codes "falling-place"
 rule_name rule.NoEnd = codes "no-end"
 rule_name rule.EmptySequence = codes "empty-sequence"
+rule_name rule.Overlap = codes "overlap"
+rule_name rule.DeadSequence = codes "dead-sequence"
 rule_name rule.MissingText = codes "missing-text"
 rule_name rule.DuplicateFile = codes "duplicate-file"
 rule_name rule.UnusedFile = codes "unused-file"
@@ -22,13 +24,15 @@ rule_name rule.LineWrapped = codes "line-wrapped"
 rule_name rule.NoStatement = codes "no-statement"
 rule_name rule.SplitInstruction = codes "split-instruction"
 rule_name rule.UnknownOpcode = codes "unknown-opcode"
+rule_name rule.NoCode = codes "no-code"
 
 -- in the order in which the findings of one place are told
 abbrev pub all_rules : List Rule
 all_rules =
-    rule.FileIndex ∷ rule.DirectoryIndex ∷ rule.FallingPlace ∷ rule.NoEnd ∷ rule.EmptySequence ∷ rule.MissingText
-    ∷ rule.DuplicateFile ∷ rule.UnusedFile ∷ rule.LongNumber ∷ rule.Padding ∷ rule.WrappedAddress ∷ rule.LineWrapped
-    ∷ rule.NoStatement ∷ rule.SplitInstruction ∷ rule.UnknownOpcode ∷ []
+    rule.FileIndex ∷ rule.DirectoryIndex ∷ rule.FallingPlace ∷ rule.NoEnd ∷ rule.EmptySequence ∷ rule.Overlap
+    ∷ rule.DeadSequence ∷ rule.MissingText ∷ rule.DuplicateFile ∷ rule.UnusedFile ∷ rule.LongNumber ∷ rule.Padding
+    ∷ rule.WrappedAddress ∷ rule.LineWrapped ∷ rule.NoStatement ∷ rule.SplitInstruction ∷ rule.UnknownOpcode
+    ∷ rule.NoCode ∷ []
 
 -- the place of a rule among them, from 0 on
 abbrev pub rule_place : Rule → ℕ
@@ -37,16 +41,19 @@ rule_place rule.DirectoryIndex = 1
 rule_place rule.FallingPlace = 2
 rule_place rule.NoEnd = 3
 rule_place rule.EmptySequence = 4
-rule_place rule.MissingText = 5
-rule_place rule.DuplicateFile = 6
-rule_place rule.UnusedFile = 7
-rule_place rule.LongNumber = 8
-rule_place rule.Padding = 9
-rule_place rule.WrappedAddress = 10
-rule_place rule.LineWrapped = 11
-rule_place rule.NoStatement = 12
-rule_place rule.SplitInstruction = 13
-rule_place rule.UnknownOpcode = 14
+rule_place rule.Overlap = 5
+rule_place rule.DeadSequence = 6
+rule_place rule.MissingText = 7
+rule_place rule.DuplicateFile = 8
+rule_place rule.UnusedFile = 9
+rule_place rule.LongNumber = 10
+rule_place rule.Padding = 11
+rule_place rule.WrappedAddress = 12
+rule_place rule.LineWrapped = 13
+rule_place rule.NoStatement = 14
+rule_place rule.SplitInstruction = 15
+rule_place rule.UnknownOpcode = 16
+rule_place rule.NoCode = 17
 
 -- the rule of this name
 abbrev pub named : (name : List ℕ) → Option Rule

@@ -17,7 +17,7 @@ pub struct RowSeen {
 pub struct Finding {
     /// The offset in the section: of the first byte of the operation that it is about, which for a row is the one that appends
     /// it. Of a unit whose end row is missing it is the end of its program, and of a header, or of the rows of a unit together,
-    /// that of its unit. 2^64 - 1 stands for every offset above it too.
+    /// that of its unit. Of code that no sequence covers it is the end of the last unit. 2^64 - 1 stands for every offset above it too.
     pub offset: u64,
     /// The row that it is about, where it is about one.
     pub row: Option<RowSeen>,
@@ -91,6 +91,17 @@ pub enum Found {
     NoEnd,
     /// The row ends a sequence whose first row has its address.
     EmptySequence,
+    /// The row ends a sequence that covers `place`, the first of its places that a live sequence before it covers too. The first
+    /// of those that cover it is one of the unit at the offset `unit`.
+    Overlap {
+        place: Place,
+        unit: u64,
+    },
+    /// So many `sequences` of the unit, more than none, begin where the file has no code, the first of them at the address `first`.
+    DeadSequence {
+        sequences: u64,
+        first: u64,
+    },
     /// A value of this entry is a text at this offset of a section, which has none there: the offset lies outside it, or no
     /// zero byte follows.
     MissingText {
@@ -141,6 +152,11 @@ pub enum Found {
     UnknownContent {
         content_code: u64,
     },
+    /// No live sequence covers an address of the range of code of `size` bytes from the address `start` on.
+    NoCode {
+        start: u64,
+        size: u64,
+    },
 }
 
 impl Found {
@@ -157,6 +173,8 @@ impl Found {
             Found::FallingPlace { .. } => Rule::FallingPlace,
             Found::NoEnd => Rule::NoEnd,
             Found::EmptySequence => Rule::EmptySequence,
+            Found::Overlap { .. } => Rule::Overlap,
+            Found::DeadSequence { .. } => Rule::DeadSequence,
             Found::MissingText { .. } => Rule::MissingText,
             Found::DuplicateFile { .. } => Rule::DuplicateFile,
             Found::UnusedFile { .. } => Rule::UnusedFile,
@@ -168,6 +186,7 @@ impl Found {
             Found::SplitInstruction { .. } => Rule::SplitInstruction,
             Found::UnknownOpcode { .. } => Rule::UnknownOpcode,
             Found::UnknownContent { .. } => Rule::UnknownOpcode,
+            Found::NoCode { .. } => Rule::NoCode,
         }
     }
 }

@@ -3,36 +3,17 @@
 ghost use Rattle.std.specs.Prelude.{◌≡◌, ◌++◌, codes, decimal};
 ghost use Rattle.dl_print.specs.Output.{BlamesWriter, Prints};
 ghost use Rattle.dl_findings.specs.FindingJson.{address_member, both_members, counted_members, directory_members, file_members};
-ghost use Rattle.dl_findings.specs.FindingJson.{entry_members, finding_object, finding_told, found_members, missing_members, object_start, opcode_members};
+ghost use Rattle.dl_findings.specs.FindingJson.{dead_members, entry_members, finding_object, found_members, missing_members, object_start, opcode_members, overlap_members};
 ghost use Rattle.dl_findings.specs.FindingJson.{row_members, subject_members};
 
 use crate::finding::{Finding, Found, Opcode, RowSeen, TableEntry, TextSection};
-use crate::finding_text::print_line;
 use crate::parts::{print_number, print_numbers, print_section};
 use dl_look::Place;
 use dl_output::Destination;
 use dl_print::{Printer, WriteFault};
 
-/// Prints a finding as a line of words, or as a JSON object in a line.
-pub fn print_finding<W: Destination>(
-    printer: &mut Printer,
-    output: &mut W,
-    json: bool,
-    finding: &Finding,
-) -> Result<(), WriteFault>
-    ensures printed { Prints (W.contents output.old) (W.contents output.new) printer.old printer.new
-        (finding_told json finding.now) result }
-    ensures blames { BlamesWriter W.fails result }
-{
-    if json {
-        print_object(printer, output, finding)
-    } else {
-        print_line(printer, output, finding)
-    }
-}
-
 /// Prints the JSON object of a finding, and ends its line.
-fn print_object<W: Destination>(
+pub(crate) fn print_object<W: Destination>(
     printer: &mut Printer,
     output: &mut W,
     finding: &Finding,
@@ -131,6 +112,10 @@ fn print_found<W: Destination>(
         ),
         Found::NoEnd => printer.put(output, b""),
         Found::EmptySequence => printer.put(output, b""),
+        Found::Overlap { place, unit } => print_overlap(printer, output, *place, *unit),
+        Found::DeadSequence { sequences, first } => {
+            print_dead(printer, output, *sequences, *first)
+        }
         Found::MissingText {
             entry,
             section,
@@ -176,7 +161,53 @@ fn print_found<W: Destination>(
         Found::UnknownContent { content_code } => {
             printer.number(output, b",\"content_code\":", *content_code)
         }
+        Found::NoCode { start, size } => print_both(
+            printer,
+            output,
+            b",\"start\":\"",
+            *start,
+            b",\"size\":",
+            *size,
+        ),
     }
+}
+
+/// Prints which place another sequence covers too, and the unit of that one.
+#[tactic(auto, unfolding(crate::specs::FindingJson::overlap_members))]
+fn print_overlap<W: Destination>(
+    printer: &mut Printer,
+    output: &mut W,
+    place: Place,
+    unit: u64,
+) -> Result<(), WriteFault>
+    ensures printed { Prints (W.contents output.old) (W.contents output.new) printer.old printer.new
+        (overlap_members place unit) result }
+    ensures blames { BlamesWriter W.fails result }
+{
+    print_place(
+        printer,
+        output,
+        b",\"covered\":\"",
+        place,
+        b",\"covered_op_index\":",
+    )?;
+    printer.number(output, b",\"unit\":", unit)
+}
+
+/// Prints how many sequences there are, and where the first begins.
+#[tactic(auto, unfolding(crate::specs::FindingJson::dead_members))]
+fn print_dead<W: Destination>(
+    printer: &mut Printer,
+    output: &mut W,
+    sequences: u64,
+    first: u64,
+) -> Result<(), WriteFault>
+    ensures printed { Prints (W.contents output.old) (W.contents output.new) printer.old printer.new
+        (dead_members sequences first) result }
+    ensures blames { BlamesWriter W.fails result }
+{
+    printer.number(output, b",\"sequences\":", sequences)?;
+    print_address(printer, output, b",\"first\":\"", first)
 }
 
 /// Prints where a section has no text.

@@ -3,18 +3,18 @@
 ghost use Rattle.std.specs.Prelude.{◌≡◌, ◌++◌, codes, decimal};
 ghost use Rattle.dl_print.specs.Output.{BlamesWriter, Prints};
 ghost use Rattle.dl_print.specs.Text.{number_if_any};
-ghost use Rattle.dl_findings.specs.FindingText.{file_index_text, finding_line, finding_start, found_text, numbered_text, padding_text};
-ghost use Rattle.dl_findings.specs.FindingText.{directory_index_text, long_text, opcode_text, passed_text, place_text, row_text, split_text, subject_text, wrapped_text};
+ghost use Rattle.dl_findings.specs.FindingText.{dead_text, file_index_text, finding_line, finding_start, found_text, no_code_text, numbered_text, padding_text};
+ghost use Rattle.dl_findings.specs.FindingText.{directory_index_text, long_text, opcode_text, overlap_text, passed_text, place_text, row_text, split_text, subject_text, wrapped_text};
 
 use crate::finding::{Finding, Found, Opcode, RowSeen};
 use crate::missing_text::print_missing;
-use crate::parts::print_numbers;
+use crate::parts::{print_number, print_numbers};
 use dl_look::Place;
 use dl_output::Destination;
 use dl_print::{Printer, WriteFault};
 
 /// Prints the line of a finding.
-pub fn print_line<W: Destination>(
+pub(crate) fn print_line<W: Destination>(
     printer: &mut Printer,
     output: &mut W,
     finding: &Finding,
@@ -86,6 +86,10 @@ fn print_found<W: Destination>(
         Found::FallingPlace { before } => print_before(printer, output, *before),
         Found::NoEnd => printer.put(output, b"is the last of its unit and no end row"),
         Found::EmptySequence => printer.put(output, b"ends a sequence that covers no address"),
+        Found::Overlap { place, unit } => print_overlap(printer, output, *place, *unit),
+        Found::DeadSequence { sequences, first } => {
+            print_dead(printer, output, *sequences, *first)
+        }
         Found::MissingText {
             entry,
             section,
@@ -119,6 +123,7 @@ fn print_found<W: Destination>(
         Found::UnknownContent { content_code } => {
             print_passed(printer, output, b"content code 0x", *content_code)
         }
+        Found::NoCode { start, size } => print_no_code(printer, output, *start, *size),
     }
 }
 
@@ -317,6 +322,65 @@ fn print_wrapped<W: Destination>(
     printer.put(output, b" goes past an address of ")?;
     printer.number(output, b"", size)?;
     printer.put(output, b" bytes")
+}
+
+/// Prints which place another sequence covers too, and the unit of that one.
+#[tactic(auto, unfolding(crate::specs::FindingText::overlap_text))]
+fn print_overlap<W: Destination>(
+    printer: &mut Printer,
+    output: &mut W,
+    place: Place,
+    unit: u64,
+) -> Result<(), WriteFault>
+    ensures printed { Prints (W.contents output.old) (W.contents output.new) printer.old printer.new
+        (overlap_text place unit) result }
+    ensures blames { BlamesWriter W.fails result }
+{
+    printer.put(output, b"ends a sequence that covers ")?;
+    print_place(printer, output, place)?;
+    printer.put(output, b", as one of the unit at ")?;
+    printer.hexadecimal_number(output, b"0x", unit)?;
+    printer.put(output, b" does")
+}
+
+/// Prints how many sequences begin outside the code, and where the first does.
+#[tactic(auto, unfolding(crate::specs::FindingText::dead_text))]
+fn print_dead<W: Destination>(
+    printer: &mut Printer,
+    output: &mut W,
+    sequences: u64,
+    first: u64,
+) -> Result<(), WriteFault>
+    ensures printed { Prints (W.contents output.old) (W.contents output.new) printer.old printer.new
+        (dead_text sequences first) result }
+    ensures blames { BlamesWriter W.fails result }
+{
+    printer.number(output, b"", sequences)?;
+    printer.put(output, b" sequences begin outside the code, the first at ")?;
+    printer.address(output, first)
+}
+
+/// Prints which code no sequence covers.
+#[tactic(auto, unfolding(crate::specs::FindingText::no_code_text))]
+fn print_no_code<W: Destination>(
+    printer: &mut Printer,
+    output: &mut W,
+    start: u64,
+    size: u64,
+) -> Result<(), WriteFault>
+    ensures printed { Prints (W.contents output.old) (W.contents output.new) printer.old printer.new
+        (no_code_text start size) result }
+    ensures blames { BlamesWriter W.fails result }
+{
+    print_number(
+        printer,
+        output,
+        b"no sequence covers an address of the ",
+        size,
+    )?;
+    printer.put(output, b" bytes of code from ")?;
+    printer.address(output, start)?;
+    printer.put(output, b" on")
 }
 
 /// Prints which opcode is passed over.

@@ -4,7 +4,9 @@
 mod counts;
 mod finding;
 mod finding_json;
+mod finding_record;
 mod finding_text;
+mod finding_told;
 mod missing_text;
 mod parts;
 mod rule;
@@ -12,6 +14,6 @@ mod rules;
 
 pub use counts::FindingCounts;
 pub use finding::{Finding, Found, Opcode, RowSeen, TableEntry, TextSection};
-pub use finding_json::print_finding;
+pub use finding_told::{FindingForm, print_finding};
 pub use rule::{RULES, Rule};
 pub use rules::Rules;

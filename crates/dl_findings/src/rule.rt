@@ -16,6 +16,10 @@ pub enum Rule {
     NoEnd,
     /// A sequence covers no address. Section 6.2.2.
     EmptySequence,
+    /// A sequence covers a place that a live one before it covers too. Section 6.2.2.
+    Overlap,
+    /// A sequence begins where the file has no code. Section 6.2.2.
+    DeadSequence,
     /// A value of a table names a text that its string section doesn't have. Sections 6.2.4.1 and 7.5.5.
     MissingText,
     /// Two entries of the table of files have the same values. Section 6.2.4.1.
@@ -36,10 +40,12 @@ pub enum Rule {
     SplitInstruction,
     /// An opcode or a content code isn't one of the standard's. Sections 6.2.4.1, 6.2.5.2 and 6.2.5.3.
     UnknownOpcode,
+    /// No sequence covers an address of a range of code. Section 6.2.
+    NoCode,
 }
 
 /// How many rules there are.
-pub(crate) const COUNT: usize = 15;
+pub(crate) const COUNT: usize = 18;
 
 /// All rules, in the order in which the findings of one place are told.
 pub const RULES: [Rule; COUNT] = [
@@ -48,6 +54,8 @@ pub const RULES: [Rule; COUNT] = [
     Rule::FallingPlace,
     Rule::NoEnd,
     Rule::EmptySequence,
+    Rule::Overlap,
+    Rule::DeadSequence,
     Rule::MissingText,
     Rule::DuplicateFile,
     Rule::UnusedFile,
@@ -58,6 +66,7 @@ pub const RULES: [Rule; COUNT] = [
     Rule::NoStatement,
     Rule::SplitInstruction,
     Rule::UnknownOpcode,
+    Rule::NoCode,
 ];
 
 impl Rule {
@@ -72,6 +81,8 @@ impl Rule {
             Rule::FallingPlace => b"falling-place",
             Rule::NoEnd => b"no-end",
             Rule::EmptySequence => b"empty-sequence",
+            Rule::Overlap => b"overlap",
+            Rule::DeadSequence => b"dead-sequence",
             Rule::MissingText => b"missing-text",
             Rule::DuplicateFile => b"duplicate-file",
             Rule::UnusedFile => b"unused-file",
@@ -82,6 +93,7 @@ impl Rule {
             Rule::NoStatement => b"no-statement",
             Rule::SplitInstruction => b"split-instruction",
             Rule::UnknownOpcode => b"unknown-opcode",
+            Rule::NoCode => b"no-code",
         }
     }
 
@@ -100,7 +112,7 @@ impl Rule {
     /// Its place in `RULES`, from 0 on.
     pub fn place(self) -> usize
         ensures place { result ≡ rule_place self }
-        ensures within { result < 15 }
+        ensures within { result < 18 }
     {
         match self {
             Rule::FileIndex => 0,
@@ -108,16 +120,19 @@ impl Rule {
             Rule::FallingPlace => 2,
             Rule::NoEnd => 3,
             Rule::EmptySequence => 4,
-            Rule::MissingText => 5,
-            Rule::DuplicateFile => 6,
-            Rule::UnusedFile => 7,
-            Rule::LongNumber => 8,
-            Rule::Padding => 9,
-            Rule::WrappedAddress => 10,
-            Rule::LineWrapped => 11,
-            Rule::NoStatement => 12,
-            Rule::SplitInstruction => 13,
-            Rule::UnknownOpcode => 14,
+            Rule::Overlap => 5,
+            Rule::DeadSequence => 6,
+            Rule::MissingText => 7,
+            Rule::DuplicateFile => 8,
+            Rule::UnusedFile => 9,
+            Rule::LongNumber => 10,
+            Rule::Padding => 11,
+            Rule::WrappedAddress => 12,
+            Rule::LineWrapped => 13,
+            Rule::NoStatement => 14,
+            Rule::SplitInstruction => 15,
+            Rule::UnknownOpcode => 16,
+            Rule::NoCode => 17,
         }
     }
 }

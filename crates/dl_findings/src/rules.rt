@@ -12,7 +12,7 @@ pub struct Rules {
 impl Rules {
     ghost use Rattle.std.specs.Prelude.{◌≡◌, true, false, if◌then◌else◌, ◌==◌};
     ghost use Rattle.dl_findings.specs.declared.rule.Rule.{Rule};
-    ghost use Rattle.dl_findings.specs.Chosen.{is_chosen};
+    ghost use Rattle.dl_findings.specs.Chosen.{has_bit, is_chosen};
     ghost use Rattle.dl_findings.specs.RuleNames.{rule_place};
 
     /// All rules.
@@ -29,6 +29,17 @@ impl Rules {
         Rules {
             has: [false; COUNT],
         }
+    }
+
+    /// The rules whose bits are set. The bit of a rule is worth 2^n, n its place in `RULES`; bits that are of no rule count for nothing.
+    pub fn of_bits(bits: u32) -> Rules
+        ensures { (r : Rule) → is_chosen result r ≡ has_bit bits r }
+    {
+        let mut has = [false; COUNT];
+        for place in 0..COUNT {
+            has[place] = (bits >> place) & 1 == 1;
+        }
+        Rules { has }
     }
 
     /// These rules and this one.

@@ -1,5 +1,5 @@
 -- What is found at one visit more.
-use Rattle.std.proofs.Common.{◌≡◌, ◌∙◌, ℕ, ◌+◌, List, [], ◌∷◌, ◌++◌, Bool, refl, sym, ap, ap₂, append-nil, append_assoc, arith}
+use Rattle.std.proofs.Common.{◌≡◌, ◌∙◌, ℕ, ◌+◌, List, [], ◌∷◌, ◌++◌, refl, sym, ap, ap₂, append-nil, append_assoc, arith}
 use Rattle.std.proofs.Common.{◌-◌, ◌≤◌, suc, ◌<◌}
 use Rattle.std.specs.Prelude.{flat_map, map}
 use Rattle.std.proofs.lemmas.List.Concat.{flat_map-append}
@@ -9,37 +9,38 @@ use Rattle.dl_rows.specs.Items.{a_byte}
 use Rattle.dl_sections.specs.DamageTold.{damages_told}
 use Rattle.dl_sections.specs.Section.{Visit, of_item}
 use Rattle.dl_lint.specs.Findings.{chosen, findings_after, findings_at, findings_in}
-use Rattle.dl_findings.specs.FindingJson.{finding_told, findings_text}
+use Rattle.dl_findings.specs.FindingTold.{finding_told, findings_text}
+use Rattle.dl_findings.specs.declared.finding_told.FindingForm.{FindingForm}
 use Rattle.dl_findings.specs.declared.finding.Finding.{Finding}
-use Rattle.dl_findings.specs.declared.rules.Rules.{Rules}
+use Rattle.dl_lint.specs.declared.question.LintQuestion.{LintQuestion}
 
-module _ (s : Strings) (rules : Rules) where
+module _ (s : Strings) (q : LintQuestion) where
   pub findings-append : (before a b : List Visit)
-      → findings_after s rules before (a ++ b) ≡ findings_after s rules before a ++ findings_after s rules (before ++ a) b
-  findings-append before [] b = ap (λ (l : List Visit). findings_after s rules l b) (sym (append-nil before))
+      → findings_after s q before (a ++ b) ≡ findings_after s q before a ++ findings_after s q (before ++ a) b
+  findings-append before [] b = ap (λ (l : List Visit). findings_after s q l b) (sym (append-nil before))
   findings-append before (v ∷ a) b =
-      let here = chosen rules (findings_at s before v) in
+      let here = chosen q.rules (findings_at s q before v) in
       ap (λ (l : List Finding). here ++ l) (findings-append (before ++ v ∷ []) a b)
-      ∙ sym (append_assoc here (findings_after s rules (before ++ v ∷ []) a)
-      (findings_after s rules ((before ++ v ∷ []) ++ a) b))
-      ∙ ap (λ (l : List Visit). (here ++ findings_after s rules (before ++ v ∷ []) a) ++ findings_after s rules l b)
+      ∙ sym (append_assoc here (findings_after s q (before ++ v ∷ []) a)
+      (findings_after s q ((before ++ v ∷ []) ++ a) b))
+      ∙ ap (λ (l : List Visit). (here ++ findings_after s q (before ++ v ∷ []) a) ++ findings_after s q l b)
       (append_assoc before (v ∷ []) a)
 
   -- one visit more
   pub findings-push : (visits : List Visit) (v : Visit)
-      → findings_in s rules (visits ++ v ∷ []) ≡ findings_in s rules visits ++ chosen rules (findings_at s visits v)
+      → findings_in s q (visits ++ v ∷ []) ≡ findings_in s q visits ++ chosen q.rules (findings_at s q visits v)
   findings-push visits v =
       findings-append [] visits (v ∷ [])
-      ∙ ap (λ (l : List Finding). findings_in s rules visits ++ l) (append-nil (chosen rules (findings_at s visits v)))
+      ∙ ap (λ (l : List Finding). findings_in s q visits ++ l) (append-nil (chosen q.rules (findings_at s q visits v)))
 
   -- nothing is found at bytes
-  pub none_at_bytes : (before : List Visit) (bytes : List ℕ) → findings_after s rules before (map of_item (map a_byte bytes)) ≡ []
+  pub none_at_bytes : (before : List Visit) (bytes : List ℕ) → findings_after s q before (map of_item (map a_byte bytes)) ≡ []
   none_at_bytes before [] = refl
   none_at_bytes before (b ∷ bytes) = none_at_bytes (before ++ of_item (a_byte b) ∷ []) bytes
 
-pub text-append : (json : Bool) (a b : List Finding)
-    → findings_text json (a ++ b) ≡ findings_text json a ++ findings_text json b
-text-append json a b = flat_map-append (finding_told json) a b
+pub text-append : (form : FindingForm) (a b : List Finding)
+    → findings_text form (a ++ b) ≡ findings_text form a ++ findings_text form b
+text-append form a b = flat_map-append (finding_told form) a b
 
 -- no damage is told by bytes
 pub no_damage : (bytes : List ℕ) → damages_told (map of_item (map a_byte bytes)) ≡ []

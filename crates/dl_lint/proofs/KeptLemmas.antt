@@ -2,9 +2,10 @@
 use Rattle.std.proofs.Common.{◌≡◌, ◌∙◌, ℕ, ◌+◌, ◌-◌, List, [], ◌∷◌, ◌++◌, length, Bool, true, false, refl, sym, ap, ap₂}
 use Rattle.std.proofs.Common.{append-nil, append_assoc, arith, length-append, Option, None, inl, inr}
 use Rattle.std.proofs.lemmas.Bool.{cases_Bool}
+use Rattle.std.proofs.lemmas.Bool.Decides.{nat_tests}
 use Rattle.std.proofs.lemmas.List.Folds.{list_any-append}
-use Rattle.std.specs.Prelude.{not, map, flat_map, if◌then◌else◌, unwrap_or, ◌||◌}
-use Rattle.std.specs.List.{after_last, before_last, count_by, list_any, suffix_len}
+use Rattle.std.specs.Prelude.{not, map, flat_map, if◌then◌else◌, unwrap_or, ◌&&◌, ◌||◌}
+use Rattle.std.specs.List.{before_last, count_by, list_any, suffix_len}
 use Rattle.std.specs.Option.{option_or}
 use Rattle.std.proofs.lemmas.List.{reverse-append, take-append-le, take_all}
 use Rattle.std.proofs.lemmas.List.Concat.{flat_map-append}
@@ -14,17 +15,19 @@ use Rattle.dl_rows.proofs.PlaceLemmas.{after_last-push}
 use Rattle.dl_rows.specs.declared.operation.Operation.{Operation}
 use Rattle.dl_rows.specs.declared.row.Row.{Row}
 use Rattle.dl_rows.specs.Items.{a_byte, a_row, an_operation}
-use Rattle.dl_look.proofs.MoreRows.{last_place-push}
+use Rattle.dl_look.proofs.MoreRows.{is_rising-push, last_place-push, unended-push, unended-push_end}
 use Rattle.dl_look.specs.declared.place.Place.{Place}
-use Rattle.dl_look.specs.Answer.{first_place, last_place, place_of}
+use Rattle.dl_look.specs.Answer.{first_place, is_at_most, is_below, is_rising, last_place, place_of}
+use Rattle.dl_look.specs.FinderRows.{unended, unended_after}
 use Rattle.dl_sections.specs.Section.{Visit, of_header, of_item}
 use Rattle.dl_lint.specs.declared.reached.Reached.{Reached}
 use Rattle.dl_lint.specs.declared.reached.Sequence.{Sequence}
 use Rattle.dl_findings.specs.Counting.{at_most_64_bits}
-use Rattle.dl_lint.specs.Before.{is_byte, is_end, is_header, is_operation, last_program, of_unit, program_begins}
+use Rattle.dl_lint.specs.Before.{is_byte, is_header, is_operation, last_program, of_unit, program_begins}
 use Rattle.dl_lint.specs.Before.{program_of, program_offset, row_of, rows_told, sequence_told}
 use Rattle.dl_findings.proofs.CountLemmas.{count-push}
 use Rattle.dl_lint.specs.Keeping.{is_some_row, is_statement, reached_by, sequence_of}
+use Rattle.dl_lint.specs.RowRules.{falls_below}
 
 -- ---- the last element that passes
 
@@ -58,7 +61,7 @@ made program two one all rows = record {
   next = at_most_64_bits (program + all);
   rows = at_most_64_bits (length rows);
   last = last_place rows;
-  sequence = sequence_of (after_last is_end rows);
+  sequence = sequence_of (unended rows);
 }
 
 abbrev pub bytes_in : List Visit → ℕ
@@ -97,19 +100,26 @@ further : (n b : ℕ) (bytes : List ℕ)
     → at_most_64_bits (at_most_64_bits (n + 1) + length bytes) ≡ at_most_64_bits (n + length (b ∷ bytes))
 further n b bytes = omega arith
 
+-- the rows of the current sequence
+unended_more : (rows : List Row) (r : Row) → unended (rows ++ r ∷ []) ≡ (if r.end_sequence then [] else unended rows ++ r ∷ [])
+unended_more rows r = by r.end_sequence refl where
+  by : (b : Bool) → r.end_sequence ≡ b → unended (rows ++ r ∷ []) ≡ (if b then [] else unended rows ++ r ∷ [])
+  by true ends = unended-push_end [] rows r ends
+  by false goes = unended-push [] rows r goes
+
 -- a row more
 with_rows : (p two one all : ℕ) (rows : List Row) (r : Row)
     → made p two one (all + 0) (rows ++ r ∷ [])
     ≡ record (made p two one all rows) {
       rows = at_most_64_bits (at_most_64_bits (length rows) + 1);
       last = place_of r;
-      sequence = sequence_of (if r.end_sequence then [] else after_last is_end rows ++ r ∷ []);
+      sequence = sequence_of (if r.end_sequence then [] else unended rows ++ r ∷ []);
     }
 with_rows p two one all rows r =
-    rw (no_byte all, after_last-push is_end rows r, last_place-push rows r) (ap (λ (n : ℕ). record (made p two one all rows) {
+    rw (no_byte all, unended_more rows r, last_place-push rows r) (ap (λ (n : ℕ). record (made p two one all rows) {
       rows = n;
       last = place_of r;
-      sequence = sequence_of (if r.end_sequence then [] else after_last is_end rows ++ r ∷ []);
+      sequence = sequence_of (if r.end_sequence then [] else unended rows ++ r ∷ []);
     }) (count_more rows r)) where
       count_more : (rows : List Row) (r : Row)
           → at_most_64_bits (length (rows ++ r ∷ [])) ≡ at_most_64_bits (at_most_64_bits (length rows) + 1)
@@ -245,21 +255,83 @@ any-push : (rows : List Row) (r : Row)
     → list_any is_statement (rows ++ r ∷ []) ≡ (list_any is_statement rows || r.is_stmt)
 any-push rows r = grind (arith, list_any-append is_statement rows (r ∷ []))
 
-pub sequence-push : (rows : List Row) (r : Row)
-    → sequence_of (rows ++ r ∷ []) ≡ record {
+some-push : (rows : List Row) (r : Row) → is_some_row (rows ++ r ∷ []) ≡ true
+some-push [] r = refl
+some-push (s ∷ rows) r = refl
+
+pub sequence_more : (rows : List Row) (r : Row) (s : Sequence) (rising : Bool) → s ≡ sequence_of rows
+    → rising ≡ is_rising (rows ++ r ∷ [])
+    → ◌≡◌ {A = Sequence} (record {
       has_begun = true;
       first = first_place (rows ++ r ∷ []);
-      last = place_of r;
-      has_statement = list_any is_statement rows || r.is_stmt;
-    }
-sequence-push [] r = rw (any-push [] r) refl
-sequence-push (s ∷ rows) r = rw (last_place-push (s ∷ rows) r, any-push (s ∷ rows) r) refl
+      has_statement = s.has_statement || r.is_stmt;
+      rising = rising;
+    }) (sequence_of (rows ++ r ∷ []))
+sequence_more rows r s rising is e =
+    rw (e, is) (ap₂ made_of (sym (some-push rows r)) (sym (any-push rows r))) where
+      made_of : Bool → Bool → Sequence
+      made_of begun any = record {
+        has_begun = begun;
+        first = first_place (rows ++ r ∷ []);
+        has_statement = any;
+        rising = is_rising (rows ++ r ∷ []);
+      }
 
-pub sequence_kept : (rows : List Row) (r : Row) (s : Sequence) (first last : Place) (has : Bool) → s ≡ sequence_of rows
-    → first ≡ first_place (rows ++ r ∷ []) → last ≡ place_of r → has ≡ (s.has_statement || r.is_stmt)
-    → r.end_sequence ≡ false
-    → ◌≡◌ {A = Sequence} (record { has_begun = true; first = first; last = last; has_statement = has })
-    (sequence_of (if r.end_sequence then [] else rows ++ r ∷ []))
-sequence_kept rows r s first last has is begins ends any goes_on =
-    rw (begins, ends, any, is) (sym (sequence-push rows r)
-    ∙ ap (λ (b : Bool). sequence_of (if b then [] else rows ++ r ∷ [])) (sym goes_on))
+-- ---- places that don't fall
+
+not_below : (p q : Place) → is_at_most q p ≡ not (is_below p q)
+not_below p q = grind (arith, nat_tests)
+
+pub rises_more : (rows : List Row) (r : Row) → is_rising (rows ++ r ∷ []) ≡ (is_rising rows && not (falls_below rows r))
+rises_more [] r = refl
+rises_more (q ∷ rows) r =
+    is_rising-push q rows r
+    ∙ ap (λ (b : Bool). is_rising (q ∷ rows) && b) (not_below (place_of r) (last_place (q ∷ rows)))
+
+-- the last row of a unit is that of its sequence, where that has one
+last-append : (a : List Row) (r : Row) (rows : List Row) → last_place (a ++ r ∷ rows) ≡ last_place (r ∷ rows)
+last-append [] r rows = refl
+last-append (q ∷ []) r rows = refl
+last-append (q ∷ s ∷ a) r rows = last-append (s ∷ a) r rows
+
+abbrev Last : (begun rows whole : List Row) → Type 0
+Last begun rows whole =
+    is_some_row (unended_after begun rows) ≡ true → last_place (unended_after begun rows) ≡ last_place whole
+
+last_unended : (begun rows : List Row) → Last begun rows (begun ++ rows)
+last_unended begun [] some = ap last_place (sym (append-nil begun))
+last_unended begun (r ∷ rows) some =
+    by r.end_sequence refl (last_unended [] rows) (last_unended (begun ++ r ∷ []) rows) where
+      by_end : (rows : List Row) → is_some_row (unended_after [] rows) ≡ true → last_place rows ≡ last_place (begun ++ r ∷ rows)
+      by_end [] none = absurd cc
+      by_end (q ∷ rows) more = sym (last-append begun r (q ∷ rows))
+
+      by : (b : Bool) → r.end_sequence ≡ b → Last [] rows rows → Last (begun ++ r ∷ []) rows ((begun ++ r ∷ []) ++ rows)
+          → last_place (unended_after begun (r ∷ rows)) ≡ last_place (begun ++ r ∷ rows)
+      by true ends after on =
+          let e : unended_after begun (r ∷ rows) ≡ unended_after [] rows =
+          ap (λ (b : Bool). if b then unended_after [] rows else unended_after (begun ++ r ∷ []) rows) ends in
+          let more : is_some_row (unended_after [] rows) ≡ true = sym (ap is_some_row e) ∙ some in
+          ap last_place e ∙ after more ∙ by_end rows more
+      by false goes after on =
+          let e : unended_after begun (r ∷ rows) ≡ unended_after (begun ++ r ∷ []) rows =
+          ap (λ (b : Bool). if b then unended_after [] rows else unended_after (begun ++ r ∷ []) rows) goes in
+          ap last_place e ∙ on (sym (ap is_some_row e) ∙ some) ∙ ap last_place (append_assoc begun (r ∷ []) rows)
+
+pub last_of_sequence : (at : Reached) (visits : List Visit) → at ≡ reached_by visits → is_some_row (sequence_told visits) ≡ true
+    → at.last ≡ last_place (sequence_told visits)
+last_of_sequence at visits is some = ap (λ (a : Reached). a.last) is ∙ sym (last_unended [] (rows_told visits) some)
+
+pub falls_some : (rows : List Row) (r : Row) → falls_below rows r ≡ true → is_some_row rows ≡ true
+falls_some [] r falls = absurd cc
+falls_some (s ∷ rows) r falls = refl
+
+falls_by : (rows : List Row) (r : Row) → is_some_row rows ≡ true → falls_below rows r ≡ is_below (place_of r) (last_place rows)
+falls_by [] r some = absurd cc
+falls_by (s ∷ rows) r some = refl
+
+pub falls_below_last : (at : Reached) (visits : List Visit) (r : Row) → at ≡ reached_by visits → at.sequence.has_begun ≡ true
+    → is_below (place_of r) at.last ≡ falls_below (sequence_told visits) r
+falls_below_last at visits r is begun =
+    let some : is_some_row (sequence_told visits) ≡ true = sym (ap (λ (a : Reached). a.sequence.has_begun) is) ∙ begun in
+    ap (is_below (place_of r)) (last_of_sequence at visits is some) ∙ sym (falls_by (sequence_told visits) r some)

@@ -1,8 +1,12 @@
 pub mod KeptLemmas
 pub mod OperationLemmas
-pub mod AdvanceLemmas
 pub mod FilesLemmas
+pub mod SequenceLemmas
 pub mod FindingLemmas
 pub mod TellLemmas
 pub mod LintingLemmas
+pub mod AtOnceLemmas
+pub mod RunLemmas
+pub mod SectionLemmas
+pub mod RowLemmas
 pub mod CommandLemmas

@@ -1,29 +1,26 @@
--- What is kept of operations, one visit more.
-use Rattle.std.proofs.Common.{◌≡◌, ◌∙◌, ℕ, List, [], ◌∷◌, ◌++◌, Bool, true, false, true≢false, refl, sym, ap, subst, inl, inr}
-use Rattle.std.proofs.Common.{append-nil, append_assoc, arith, Option, Some, None, ap₂, take, drop, take-append-drop, length, ◌+◌, ◌≤◌}
-use Rattle.std.specs.Prelude.{◌==◌, ◌||◌, max, not, if◌then◌else◌, map, fold, nat_lt, option_to_list}
-use Rattle.std.specs.List.{list_any}
-use Rattle.std.proofs.lemmas.Bool.{cases_Bool}
-use Rattle.std.proofs.lemmas.List.Folds.{list_any-append}
+-- What is kept of operations, one visit more, and what is found at one.
+use Rattle.std.proofs.Common.{◌≡◌, ◌∙◌, ℕ, List, [], ◌∷◌, ◌++◌, Bool, true, false, refl, sym, ap, ap₂, subst, inl, inr}
+use Rattle.std.proofs.Common.{append-nil, append_assoc, arith, map}
+use Rattle.std.specs.Prelude.{fold, nat_lt, if◌then◌else◌}
+use Rattle.std.proofs.lemmas.Bool.{cases_Bool, le-ltb, lt-ltb, ltb-false, ltb-true}
 use Rattle.std.proofs.lemmas.List.Sums.{fold-append}
-use Rattle.dl_num.specs.LebFront.{after_leb, leb_front}
-use Rattle.dl_look.specs.declared.place.Place.{Place}
 use Rattle.dl_field.specs.HeaderData.{HeaderData}
-use Rattle.dl_rows.specs.declared.operation.Operation.{Operation}
+use Rattle.dl_field.specs.declared.params.Params.{Params}
+use Rattle.dl_look.specs.declared.place.Place.{Place}
+use Rattle.dl_print.specs.ValueText.{Strings}
 use Rattle.dl_rows.specs.Items.{a_byte, an_operation}
+use Rattle.dl_rows.specs.declared.operation.Operation.{Operation}
 use Rattle.dl_sections.specs.Section.{Visit, of_item}
 use Rattle.dl_findings.specs.Counting.{at_most_64_bits}
-use Rattle.dl_lint.specs.declared.byte_set.ByteSet.{ByteSet}
-use Rattle.dl_findings.specs.declared.finding.Opcode.{Opcode}
-use Rattle.dl_findings.specs.declared.finding.Opcode.TheVariants as opcode
-use Rattle.dl_lint.specs.declared.operation_read.OpcodeRead.{OpcodeRead}
-use Rattle.dl_lint.specs.declared.operation_read.OpcodeRead.TheVariants as read
-use Rattle.dl_lint.specs.declared.operation_read.OperationRead.{OperationRead}
-use Rattle.dl_lint.specs.declared.operations.Operations.{Operations}
-use Rattle.dl_lint.specs.Keeping.{Knows, counted, has_byte, has_passed, is_in_number, is_settled, known_opcode, opcode_with}
-use Rattle.dl_lint.specs.Keeping.{operation_read, read_with, unread}
-use Rattle.dl_lint.specs.OperationRules.{is_same}
-use Rattle.dl_lint.specs.Operations.{UnitSeen, extended_in, longest_after, longest_number, longest_operand, moved_by, nothing_seen, opcode_in, passed_over, reduced, seen, seen_with}
+use Rattle.dl_findings.specs.declared.finding.Found.TheVariants as found
+use Rattle.dl_operation_rules.specs.declared.advance.Moved.{Moved}
+use Rattle.dl_operation_rules.specs.declared.operations.Operations.{Operations}
+use Rattle.dl_operation_rules.specs.Judging.{IsGood, wraps}
+use Rattle.dl_operation_rules.specs.Keeping.{Knows}
+use Rattle.dl_operation_rules.specs.Operations.{UnitSeen, moved_by, nothing_seen, seen, seen_with, with_bytes}
+use Rattle.dl_lint.specs.Findings.{findings_at}
+use Rattle.dl_lint.specs.declared.question.LintQuestion.{LintQuestion}
+use Rattle.dl_lint.specs.OperationRules.{at_operation, long_found, wrapped_found}
 
 -- ---- visits
 
@@ -35,294 +32,64 @@ pub knows_on : (operations : Operations) (visits : List Visit) (v : Visit) → K
     → Knows operations (seen (visits ++ v ∷ []))
 knows_on operations visits v knows = subst (Knows operations) (sym (seen-push visits v)) knows
 
-of_bytes : (s : UnitSeen) (bytes : List ℕ)
-    → fold seen_with s (map of_item (map a_byte bytes)) ≡ record s { bytes = s.bytes ++ bytes }
+of_bytes : (s : UnitSeen) (bytes : List ℕ) → fold seen_with s (map of_item (map a_byte bytes)) ≡ with_bytes s bytes
 of_bytes s [] = ap (λ (l : List ℕ). record s { bytes = l }) (sym (append-nil s.bytes))
 of_bytes s (b ∷ bytes) =
-    of_bytes (record s { bytes = s.bytes ++ b ∷ [] }) bytes
+    of_bytes (with_bytes s (b ∷ [])) bytes
     ∙ ap (λ (l : List ℕ). record s { bytes = l }) (append_assoc s.bytes (b ∷ []) bytes)
 
+pub seen_bytes : (visits : List Visit) (bytes : List ℕ)
+    → seen (visits ++ map of_item (map a_byte bytes)) ≡ with_bytes (seen visits) bytes
+seen_bytes visits bytes =
+    fold-append seen_with nothing_seen visits (map of_item (map a_byte bytes)) ∙ of_bytes (seen visits) bytes
+
 -- bytes more
-pub knows_bytes : (operations : Operations) (visits : List Visit) (bytes : List ℕ)
-    → Knows operations (record (seen visits) { bytes = (seen visits).bytes ++ bytes })
+pub knows_bytes : (operations : Operations) (visits : List Visit) (bytes : List ℕ) → Knows operations (with_bytes (seen visits) bytes)
     → Knows operations (seen (visits ++ map of_item (map a_byte bytes)))
-knows_bytes operations visits bytes knows =
-    subst (Knows operations)
-    (sym (fold-append seen_with nothing_seen visits (map of_item (map a_byte bytes)) ∙ of_bytes (seen visits) bytes)) knows
+knows_bytes operations visits bytes knows = subst (Knows operations) (sym (seen_bytes visits bytes)) knows
 
--- ---- opcodes
+-- ---- what is found
 
-single_stays : (b : ℕ) (w : List ℕ) → fold opcode_with (read.Single b) w ≡ read.Single b
-single_stays b [] = refl
-single_stays b (c ∷ w) = single_stays b w
-
-extended_stays : (b : ℕ) (w : List ℕ) → fold opcode_with (read.Extended b) w ≡ read.Extended b
-extended_stays b [] = refl
-extended_stays b (c ∷ w) = extended_stays b w
-
-after_number : (w : List ℕ) → known_opcode (fold opcode_with read.Number w) ≡ extended_in w
-after_number [] = refl
-after_number (b ∷ w) = ap known_opcode (extended_stays b w)
-
-after_length : (w : List ℕ) → known_opcode (fold opcode_with read.Length w) ≡ extended_in (after_leb w)
-after_length [] = refl
-after_length (b ∷ w) = elim (cases_Bool (nat_lt b 128)) [
-  | inl ends ↦ rw ends (after_number w)
-  | inr goes ↦ rw goes (after_length w)
-]
-
-opcode_of : (r : OperationRead) (w : List ℕ) → (fold read_with r w).opcode ≡ fold opcode_with r.opcode w
-opcode_of r [] = refl
-opcode_of r (b ∷ w) = opcode_of (read_with r b) w ∙ ap (λ (o : OpcodeRead). fold opcode_with o w) (by (is_in_number r.opcode)) where
-  by : (is : Bool) → (if is then counted r b else record r { opcode = opcode_with r.opcode b }).opcode ≡ opcode_with r.opcode b
-  by true = refl
-  by false = refl
-
-opcode_in_bytes : (bytes : List ℕ) → known_opcode (fold opcode_with read.Unread bytes) ≡ opcode_in bytes
-opcode_in_bytes [] = refl
-opcode_in_bytes (b ∷ w) = elim (cases_Bool (b == 0)) [
-  | inl zero ↦ rw zero (after_length w)
-  | inr other ↦ rw other (ap known_opcode (single_stays b w))
-]
-
--- the opcode of some bytes
-pub known_is : (bytes : List ℕ) → known_opcode (operation_read bytes).opcode ≡ opcode_in bytes
-known_is bytes = ap known_opcode (opcode_of unread bytes) ∙ opcode_in_bytes bytes
-
-pub reads_on : (r : OperationRead) (before bytes : List ℕ) → r ≡ operation_read before
-    → fold read_with r bytes ≡ operation_read (before ++ bytes)
-reads_on r before bytes is = rw is (sym (fold-append read_with unread before bytes))
-
--- more bytes say nothing
-settled_one : (r : OperationRead) → is_settled r.opcode ≡ true → (b : ℕ) → read_with r b ≡ r
-settled_one r settled b = by r.opcode refl settled where
-  by : (o : OpcodeRead) → r.opcode ≡ o → is_settled o ≡ true → read_with r b ≡ r
-  by (read.Extended n) is stops = rw is (elim (cases_Bool (n == 4)) [
-    | inl four ↦ absurd (true≢false (sym stops ∙ ap not four))
-    | inr other ↦ rw other refl
-  ])
-  by read.Unread is stops = absurd (true≢false (sym stops))
-  by read.Length is stops = absurd (true≢false (sym stops))
-  by read.Number is stops = absurd (true≢false (sym stops))
-  by (read.Single n) is stops = absurd (true≢false (sym stops))
-
-pub settled_stays : (r : OperationRead) → is_settled r.opcode ≡ true → (w : List ℕ) → fold read_with r w ≡ r
-settled_stays r settled [] = refl
-settled_stays r settled (b ∷ w) =
-    ap (λ (n : OperationRead). fold read_with n w) (settled_one r settled b) ∙ settled_stays r settled w
-
-pub settled_at : (r read : OperationRead) (i : ℕ) (w : List ℕ) → read ≡ fold read_with r (take i w)
-    → is_settled read.opcode ≡ true → read ≡ fold read_with r w
-settled_at r read i w is settled =
-    sym (ap (fold read_with r) (sym (take-append-drop i w)) ∙ fold-append read_with r (take i w) (drop i w)
-    ∙ ap (λ (n : OperationRead). fold read_with n (drop i w)) (sym is) ∙ settled_stays read settled (drop i w))
-
--- ---- numbers
-
-abbrev C : ℕ → ℕ
-C n = at_most_64_bits n
-
-at_least : (come : ℕ) (w : List ℕ) → come ≤ longest_after come w
-at_least come [] = omega arith
-at_least come (b ∷ w) = elim (cases_Bool (nat_lt b 128)) [
-  | inl ends ↦ rw ends (omega arith)
-  | inr goes ↦ rw goes (omega (arith, at_least (come + 1) w))
-]
-
-abbrev kept : OpcodeRead → (begun longest : ℕ) → OperationRead
-kept o begun longest = record { opcode = o; begun = begun; longest = longest }
-
-abbrev reading : OpcodeRead → (come longest : ℕ) → OperationRead
-reading o come longest = kept o (C come) (C longest)
-
-again : (come : ℕ) → C (C come + 1) ≡ C (come + 1)
-again come = omega arith
-
-both : (longest come : ℕ) → max (C longest) (C (C come + 1)) ≡ C (max longest (come + 1))
-both longest come = omega arith
-
--- a byte of a number more, which ends it or doesn't
-counts_last : (o : OpcodeRead) (come longest b : ℕ) → nat_lt b 128 ≡ true
-    → counted (reading o come longest) b ≡ reading (opcode_with o b) 0 (max longest (come + 1))
-counts_last o come longest b ends = rw ends (ap (kept (opcode_with o b) 0) (both longest come))
-
-counts_more : (o : OpcodeRead) (come longest b : ℕ) → nat_lt b 128 ≡ false
-    → counted (reading o come longest) b ≡ reading (opcode_with o b) (come + 1) (max longest (come + 1))
-counts_more o come longest b goes =
-    rw goes (ap₂ (kept (opcode_with o b)) (again come) (both longest come))
-
--- where an operand of numbers goes on to the end
-module _ (o : OpcodeRead) (stays : (b : ℕ) → opcode_with o b ≡ o) (counts : is_in_number o ≡ true) where
-  last_one : (come longest b : ℕ) → nat_lt b 128 ≡ true
-      → read_with (reading o come longest) b ≡ reading o 0 (max longest (come + 1))
-  last_one come longest b ends =
-      ap (λ (is : Bool). if is then counted (reading o come longest) b
-      else record (reading o come longest) { opcode = opcode_with o b }) counts
-      ∙ counts_last o come longest b ends
-      ∙ ap (λ (p : OpcodeRead). reading p 0 (max longest (come + 1))) (stays b)
-
-  one_of_more : (come longest b : ℕ) → nat_lt b 128 ≡ false
-      → read_with (reading o come longest) b ≡ reading o (come + 1) (max longest (come + 1))
-  one_of_more come longest b goes =
-      ap (λ (is : Bool). if is then counted (reading o come longest) b
-      else record (reading o come longest) { opcode = opcode_with o b }) counts
-      ∙ counts_more o come longest b goes
-      ∙ ap (λ (p : OpcodeRead). reading p (come + 1) (max longest (come + 1))) (stays b)
-
-  longest_of : (come longest : ℕ) (w : List ℕ) → come ≤ longest
-      → (fold read_with (reading o come longest) w).longest ≡ C (max longest (longest_after come w))
-  longest_of come longest [] le = omega arith
-  longest_of come longest (b ∷ w) le = elim (cases_Bool (nat_lt b 128)) [
-    | inl ends ↦
-        ap (λ (r : OperationRead). (fold read_with r w).longest) (last_one come longest b ends)
-        ∙ longest_of 0 (max longest (come + 1)) w (omega arith)
-        ∙ rw ends (omega arith)
-    | inr goes ↦
-        let least : come + 1 ≤ longest_after (come + 1) w = at_least (come + 1) w in
-        ap (λ (r : OperationRead). (fold read_with r w).longest) (one_of_more come longest b goes)
-        ∙ longest_of (come + 1) (max longest (come + 1)) w (omega arith)
-        ∙ rw goes (omega (arith, least))
+-- a number of bytes that is found, and one that isn't
+module _ (visits : List Visit) (n bytes : ℕ) (is : bytes ≡ at_most_64_bits n) (b : Bool) (long : b ≡ nat_lt 10 bytes) where
+  as_many : nat_lt 10 bytes ≡ nat_lt 10 n
+  as_many = elim (cases_Bool (nat_lt 10 n)) [
+    | inl many ↦ lt-ltb 10 bytes (omega (arith, is, ltb-true 10 n many)) ∙ sym many
+    | inr few ↦ le-ltb 10 bytes (omega (arith, is, ltb-false 10 n few)) ∙ sym few
   ]
 
-extended_counts : (n longest : ℕ) (w : List ℕ)
-    → (fold read_with (reading (read.Extended n) 0 longest) w).longest
-    ≡ C (max longest (if n == 4 then longest_after 0 w else 0))
-extended_counts n longest w = elim (cases_Bool (n == 4)) [
-  | inl four ↦
-      longest_of (read.Extended n) (λ b. refl) four 0 longest w (omega arith)
-      ∙ rw four refl
-  | inr other ↦
-      ap (λ (r : OperationRead). r.longest)
-      (settled_stays (reading (read.Extended n) 0 longest) (ap not other) w)
-      ∙ rw other (omega arith)
-]
+  pub not_long : b ≡ false → [] ≡ long_found visits n
+  not_long isnt =
+      ap (λ (x : Bool). if x then at_operation visits (found.LongNumber (at_most_64_bits n)) ∷ [] else [])
+      (sym isnt ∙ long ∙ as_many)
 
-number_counts : (longest : ℕ) (w : List ℕ)
-    → (fold read_with (reading read.Number 0 longest) w).longest ≡ C (max longest (longest_operand w))
-number_counts longest [] = omega arith
-number_counts longest (b ∷ w) = extended_counts b longest w
+  pub is_long : b ≡ true → at_operation visits (found.LongNumber bytes) ∷ [] ≡ long_found visits n
+  is_long so =
+      ap (λ (m : ℕ). at_operation visits (found.LongNumber m) ∷ []) is
+      ∙ ap (λ (x : Bool). if x then at_operation visits (found.LongNumber (at_most_64_bits n)) ∷ [] else [])
+      (sym so ∙ long ∙ as_many)
 
-length_counts : (come longest : ℕ) (w : List ℕ) → come ≤ longest
-    → (fold read_with (reading read.Length come longest) w).longest
-    ≡ C (max longest (max (come + length (leb_front w)) (longest_operand (after_leb w))))
-length_counts come longest [] le = omega arith
-length_counts come longest (b ∷ w) le = elim (cases_Bool (nat_lt b 128)) [
-  | inl ends ↦
-      let next : opcode_with read.Length b ≡ read.Number =
-      ap (λ (is : Bool). if is then read.Number else read.Length) ends in
-      ap (λ (r : OperationRead). (fold read_with r w).longest)
-      (counts_last read.Length come longest b ends
-      ∙ ap (λ (o : OpcodeRead). reading o 0 (max longest (come + 1))) next)
-      ∙ number_counts (max longest (come + 1)) w
-      ∙ rw ends (omega arith)
-  | inr goes ↦
-      let next : opcode_with read.Length b ≡ read.Length =
-      ap (λ (is : Bool). if is then read.Number else read.Length) goes in
-      ap (λ (r : OperationRead). (fold read_with r w).longest)
-      (counts_more read.Length come longest b goes
-      ∙ ap (λ (o : OpcodeRead). reading o (come + 1) (max longest (come + 1))) next)
-      ∙ length_counts (come + 1) (max longest (come + 1)) w (omega arith)
-      ∙ rw goes (omega arith)
-]
+-- an advance that goes past the size of an address, and one that doesn't
+module _ (visits : List Visit) (p p' : Params) (at place : Place) (o : Operation) (moved : Moved) (b : Bool) (same : p' ≡ p)
+    (stands : at ≡ place) (moves : moved ≡ moved_by p at o) (wrap : b ≡ wraps p' moved o) where
+  as_wraps : b ≡ wraps p (moved_by p place o) o
+  as_wraps =
+      wrap ∙ ap₂ (λ (q : Params) (m : Moved). wraps q m o) same moves
+      ∙ ap (λ (a : Place). wraps p (moved_by p a o) o) stands
 
--- the longest number of some bytes
-pub longest_is : (bytes : List ℕ) → (operation_read bytes).longest ≡ at_most_64_bits (longest_number bytes)
-longest_is [] = refl
-longest_is (b ∷ w) = elim (cases_Bool (b == 0)) [
-  | inl zero ↦
-      ap (λ (o : OpcodeRead). (fold read_with (kept o 0 0) w).longest)
-      (ap (λ (is : Bool). if is then read.Length else read.Single b) zero)
-      ∙ length_counts 0 0 w (omega arith)
-      ∙ rw zero (omega arith)
-  | inr other ↦
-      ap (λ (o : OpcodeRead). (fold read_with (kept o 0 0) w).longest)
-      (ap (λ (is : Bool). if is then read.Length else read.Single b) other)
-      ∙ longest_of (read.Single b) (λ c. refl) refl 0 0 w (omega arith)
-      ∙ rw other (omega arith)
-]
+  pub not_wrapped : b ≡ false → [] ≡ wrapped_found visits p place o
+  not_wrapped isnt =
+      ap (λ (x : Bool). if x then at_operation visits (found.WrappedAddress place.address p.address_size) ∷ [] else [])
+      (sym isnt ∙ as_wraps)
 
--- ---- what was passed over
+  pub is_wrapped : b ≡ true
+      → at_operation visits (found.WrappedAddress at.address p'.address_size) ∷ [] ≡ wrapped_found visits p place o
+  is_wrapped so =
+      ap₂ (λ (a : Place) (q : Params). at_operation visits (found.WrappedAddress a.address q.address_size) ∷ []) stands same
+      ∙ ap (λ (x : Bool). if x then at_operation visits (found.WrappedAddress place.address p.address_size) ∷ [] else [])
+      (sym so ∙ as_wraps)
 
--- a standard opcode more
-pub passes_standard : (old new : Operations) (n : ℕ)
-    → ((b : ℕ) → has_byte new.standard b ≡ (if b == n then true else has_byte old.standard b)) → new.extended ≡ old.extended
-    → (o : Opcode) → has_passed new o ≡ (if is_same o (opcode.Standard n) then true else has_passed old o)
-passes_standard old new n added same (opcode.Standard b) = added b
-passes_standard old new n added same (opcode.Extended b) = ap (λ (s : ByteSet). has_byte s b) same
-
--- an extended one
-pub passes_extended : (old new : Operations) (n : ℕ)
-    → ((b : ℕ) → has_byte new.extended b ≡ (if b == n then true else has_byte old.extended b)) → new.standard ≡ old.standard
-    → (o : Opcode) → has_passed new o ≡ (if is_same o (opcode.Extended n) then true else has_passed old o)
-passes_extended old new n added same (opcode.Extended b) = added b
-passes_extended old new n added same (opcode.Standard b) = ap (λ (s : ByteSet). has_byte s b) same
-
--- none
-none_passed : (standard extended : ByteSet) → ((b : ℕ) → has_byte standard b ≡ false)
-    → ((b : ℕ) → has_byte extended b ≡ false) → (o : Opcode)
-    → has_passed (record { read = unread; place = nothing_seen.place; standard = standard; extended = extended }) o ≡ false
-none_passed standard extended a b (opcode.Standard n) = a n
-none_passed standard extended a b (opcode.Extended n) = b n
-
-pub same_passed : (old new : Operations) → new.standard ≡ old.standard → new.extended ≡ old.extended
-    → (o : Opcode) → has_passed new o ≡ has_passed old o
-same_passed old new a b (opcode.Standard n) = ap (λ (s : ByteSet). has_byte s n) a
-same_passed old new a b (opcode.Extended n) = ap (λ (s : ByteSet). has_byte s n) b
-
-either : (is was : Bool) → (if is then true else was) ≡ (was || (is || false))
-either is was = grind arith
-
-one_more : (os : List Opcode) (o added : Opcode)
-    → (if is_same o added then true else list_any (is_same o) os) ≡ list_any (is_same o) (os ++ added ∷ [])
-one_more os o added =
-    either (is_same o added) (list_any (is_same o) os) ∙ sym (list_any-append (is_same o) os (added ∷ []))
-
-pub passed_some : (old mid : Operations) (os : List Opcode) (added : Opcode)
-    → ((o : Opcode) → has_passed mid o ≡ (if is_same o added then true else has_passed old o))
-    → ((o : Opcode) → has_passed old o ≡ list_any (is_same o) os)
-    → (o : Opcode) → has_passed mid o ≡ list_any (is_same o) (os ++ added ∷ [])
-passed_some old mid os added adds has o =
-    adds o ∙ ap (λ (was : Bool). if is_same o added then true else was) (has o) ∙ one_more os o added
-
-pub passed_none : (old : Operations) (os : List Opcode) → ((o : Opcode) → has_passed old o ≡ list_any (is_same o) os)
-    → (o : Opcode) → has_passed old o ≡ list_any (is_same o) (os ++ [])
-passed_none old os has o = has o ∙ ap (list_any (is_same o)) (sym (append-nil os))
-
--- ---- one thing more
-
-pub at_first : (standard extended : ByteSet) → ((b : ℕ) → has_byte standard b ≡ false)
-    → ((b : ℕ) → has_byte extended b ≡ false)
-    → Knows (record { read = unread; place = nothing_seen.place; standard = standard; extended = extended }) nothing_seen
-at_first standard extended a b = record { read = refl; place = refl; passed = none_passed standard extended a b }
-
-pub reads_more : (old : Operations) (s : UnitSeen) (bytes : List ℕ) (r : OperationRead) → r ≡ fold read_with old.read bytes
-    → Knows old s → Knows (record old { read = r }) (record s { bytes = s.bytes ++ bytes })
-reads_more old s bytes r is knows = record {
-  read = is ∙ reads_on old.read s.bytes bytes knows.read;
-  place = knows.place;
-  passed = λ o. same_passed old (record old { read = r }) refl refl o ∙ knows.passed o;
-}
-
-module _ (old mid : Operations) (s : UnitSeen) (passed : Option Opcode) (knows : Knows old s) where
-  abbrev All : Type 0
-  All = (o : Opcode) → has_passed mid o ≡ list_any (is_same o) (s.opcodes ++ option_to_list passed)
-
-  -- an opcode was passed over, or none
-  pub more_some : (added : Opcode) → passed ≡ Some added
-      → ((o : Opcode) → has_passed mid o ≡ (if is_same o added then true else has_passed old o)) → All
-  more_some added is adds = λ o. passed_some old mid s.opcodes added adds knows.passed o
-      ∙ ap (λ (p : Option Opcode). list_any (is_same o) (s.opcodes ++ option_to_list p)) (sym is)
-
-  pub more_none : passed ≡ None → mid ≡ old → All
-  more_none is same = λ o. ap (λ (m : Operations). has_passed m o) same ∙ passed_none old s.opcodes knows.passed o
-      ∙ ap (λ (p : Option Opcode). list_any (is_same o) (s.opcodes ++ option_to_list p)) (sym is)
-
-pub ends_operation : (mid : Operations) (s : UnitSeen) (h : HeaderData) (o : Operation) (place : Place)
-    → place ≡ reduced h.params (moved_by h.params s.place o)
-    → ((c : Opcode) → has_passed mid c ≡ list_any (is_same c) (s.opcodes ++ option_to_list (passed_over o s.bytes)))
-    → Knows (record mid { read = unread; place = place }) (seen_with s (of_item (an_operation h o)))
-ends_operation mid s h o place led all = record {
-  read = refl;
-  place = led;
-  passed = λ c. same_passed mid (record mid { read = unread; place = place }) refl refl c ∙ all c;
-}
+-- nothing, at an operation at which the rules of operations find nothing
+pub none_at_operation : (s : Strings) (q : LintQuestion) (visits : List Visit) (h : HeaderData) (o : Operation)
+    → IsGood h.params (seen visits) o → findings_at s q visits (of_item (an_operation h o)) ≡ []
+none_at_operation s q visits h o good = rw (good.short, good.within, good.known) refl

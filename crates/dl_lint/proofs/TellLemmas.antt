@@ -14,6 +14,7 @@ use Rattle.dl_findings.specs.declared.finding.TableEntry.{TableEntry}
 use Rattle.dl_findings.specs.declared.finding.TableEntry.TheVariants as entry
 use Rattle.dl_findings.specs.declared.finding.TextSection.TheVariants as texts
 use Rattle.dl_findings.specs.declared.rule.Rule.TheVariants as rule
+use Rattle.dl_sequence_rules.specs.Dead.{dead_found}
 use Rattle.dl_table_rules.specs.Duplicates.{entries_of, first_same}
 use Rattle.dl_table_rules.specs.Texts.{lacks}
 use Rattle.dl_table_rules.specs.Unused.{unused_in}
@@ -23,14 +24,16 @@ use Rattle.dl_path.proofs.PrintLemmas.{loses_front, loses_same, loses_then, more
 use Rattle.dl_print.specs.Output.{PrintsMore, HasPrinted}
 use Rattle.dl_print.specs.declared.fault.WriteFault.{WriteFault}
 use Rattle.dl_findings.specs.Chosen.{is_chosen}
-use Rattle.dl_findings.specs.Counting.{Counts}
+use Rattle.dl_findings.specs.Counting.{Counts, at_most_64_bits}
 use Rattle.dl_lint.specs.Findings.{chosen}
-use Rattle.dl_findings.specs.FindingJson.{findings_text}
+use Rattle.dl_findings.specs.FindingTold.{findings_text}
 use Rattle.dl_findings.specs.FindingText.{rule_of}
 use Rattle.dl_lint.specs.Telling.{Adds, Tells, told_text}
 use Rattle.dl_findings.specs.declared.finding.Finding.{Finding}
 use Rattle.dl_lint.specs.declared.report.Report.{Report}
+use Rattle.dl_findings.specs.declared.finding_told.FindingForm.{FindingForm}
 use Rattle.dl_findings.specs.declared.rules.Rules.{Rules}
+use Rattle.dl_lint.specs.declared.question.LintQuestion.{LintQuestion}
 use Rattle.dl_lint.proofs.FindingLemmas.{text-append}
 
 pub chosen-append : (rules : Rules) (a b : List Finding) → chosen rules (a ++ b) ≡ chosen rules a ++ chosen rules b
@@ -92,15 +95,19 @@ module _ (rules : Rules) (offset : ℕ) where
         ∙ ap₂ (λ (a b : List Finding). a ++ b) (no_table entry.Directory (first_number h.params) h.directories)
         (no_table entry.File (first_number h.params) h.files)
 
+  pub no_dead : (firsts : List ℕ) → is_chosen rules rule.DeadSequence ≡ false → chosen rules (dead_found offset firsts) ≡ []
+  no_dead [] out = refl
+  no_dead (first ∷ firsts) out =
+      none_of_one rules offset (found.DeadSequence (at_most_64_bits (length (first ∷ firsts))) first) out
+
 -- nothing is told of findings that aren't chosen
-pub told_none : (before : Option (List ℕ)) (old : Report) (findings : List Finding) → chosen old.rules findings ≡ []
+pub told_none : (before : Option (List ℕ)) (old : Report) (findings : List Finding) → chosen old.question.now.rules findings ≡ []
     → Tells {A = ⊤} before before old old findings (Ok tt)
 told_none before old findings none = (
   λ start text h. subst (λ (l : List ℕ). HasPrinted start before l old.printer.now)
-      (sym (ap (λ (l : List Finding). text ++ findings_text old.json l) none ∙ append-nil text)) h,
+      (sym (ap (λ (l : List Finding). text ++ findings_text old.question.now.form l) none ∙ append-nil text)) h,
   record {
-    rules = refl;
-    json = refl;
+    question = refl;
     counts = λ told counts. subst (Counts old.counts)
         (sym (ap (λ (l : List Finding). told ++ l) none ∙ append-nil told)) counts;
   },
@@ -110,8 +117,8 @@ told_none before old findings none = (
 
 text_both : (report : Report) (a b : List Finding) → told_text report a ++ told_text report b ≡ told_text report (a ++ b)
 text_both report a b =
-    sym (ap (findings_text report.json) (chosen-append report.rules a b)
-    ∙ text-append report.json (chosen report.rules a) (chosen report.rules b))
+    sym (ap (findings_text report.question.now.form) (chosen-append report.question.now.rules a b)
+    ∙ text-append report.question.now.form (chosen report.question.now.rules a) (chosen report.question.now.rules b))
 
 -- some of them were told
 pub record Front (before mid : Option (List ℕ)) (old between : Report) (whole rest : List Finding) : Type 0 where
@@ -125,7 +132,7 @@ none_yet before old whole = record {
   front = [];
   cut = refl;
   printed = λ start text h. subst (λ (l : List ℕ). HasPrinted start before l old.printer.now) (sym (append-nil text)) h;
-  adds = record { rules = refl; json = refl; counts = λ told counts. rw (append-nil told) counts };
+  adds = record { question = refl; counts = λ told counts. rw (append-nil told) counts };
 }
 
 module _ {before mid : Option (List ℕ)} {old between : Report} {whole rest : List Finding}
@@ -134,24 +141,24 @@ module _ {before mid : Option (List ℕ)} {old between : Report} {whole rest : L
   longer = f.cut ∙ ap (λ (l : List Finding). f.front ++ l) cut ∙ sym (append_assoc f.front b others)
 
   module _ (after : Option (List ℕ)) (new : Report) (a : List Finding) (e : a ≡ b) where
-    here : chosen between.rules a ≡ chosen old.rules b
-    here = ap (λ (l : List Finding). chosen between.rules l) e ∙ ap (λ (r : Rules). chosen r b) f.adds.rules
+    here : chosen between.question.now.rules a ≡ chosen old.question.now.rules b
+    here = ap (λ (l : List Finding). chosen between.question.now.rules l) e ∙ ap (λ (q : LintQuestion). chosen q.rules b) f.adds.question
 
     text_here : told_text old f.front ++ told_text between a
         ≡ told_text old (f.front ++ b)
     text_here =
-        ap₂ (λ (json : Bool) (l : List Finding). told_text old f.front ++ findings_text json l) f.adds.json here
+        ap₂ (λ (form : FindingForm) (l : List Finding). told_text old f.front ++ findings_text form l)
+        (ap (λ (q : LintQuestion). q.form) f.adds.question) here
         ∙ text_both old f.front b
 
     adds_both : Adds between new a → Adds old new (f.front ++ b)
     adds_both more = record {
-      rules = more.rules ∙ f.adds.rules;
-      json = more.json ∙ f.adds.json;
+      question = more.question ∙ f.adds.question;
       counts = λ told counts. subst (Counts new.counts)
-          (append_assoc told (chosen old.rules f.front) (chosen between.rules a)
-          ∙ ap (λ (l : List Finding). told ++ (chosen old.rules f.front ++ l)) here
-          ∙ ap (λ (l : List Finding). told ++ l) (sym (chosen-append old.rules f.front b)))
-          (more.counts (told ++ chosen old.rules f.front) (f.adds.counts told counts));
+          (append_assoc told (chosen old.question.now.rules f.front) (chosen between.question.now.rules a)
+          ∙ ap (λ (l : List Finding). told ++ (chosen old.question.now.rules f.front ++ l)) here
+          ∙ ap (λ (l : List Finding). told ++ l) (sym (chosen-append old.question.now.rules f.front b)))
+          (more.counts (told ++ chosen old.question.now.rules f.front) (f.adds.counts told counts));
     }
 
     -- and then more

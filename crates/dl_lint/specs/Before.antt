@@ -9,6 +9,7 @@ use Rattle.dl_field.specs.declared.params.Params.{Params}
 use Rattle.dl_findings.specs.Counting.{at_most_64_bits}
 use Rattle.dl_rows.specs.Items.{a_byte, a_row, an_operation}
 use Rattle.dl_rows.specs.declared.row.Row.{Row}
+use Rattle.dl_look.specs.FinderRows.{unended}
 use Rattle.dl_sections.specs.Section.{Visit, of_header, of_item}
 
 -- ---- the current unit
@@ -29,12 +30,9 @@ row_of visit = []
 abbrev pub rows_told : List Visit → List Row
 rows_told visits = flat_map row_of (of_unit visits)
 
-abbrev pub is_end : Row → Bool
-is_end r = r.end_sequence
-
 -- those of its current sequence: after its last end row
 abbrev pub sequence_told : List Visit → List Row
-sequence_told visits = after_last is_end (rows_told visits)
+sequence_told visits = unended (rows_told visits)
 
 -- which row of the unit the next one is, from 1 on
 abbrev pub row_number : List Visit → ℕ

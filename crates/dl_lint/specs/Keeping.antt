@@ -1,10 +1,9 @@
 -- What is kept of visits. No promise rests on this file.
-use Rattle.std.specs.Prelude.{◌≡◌, ℕ, Bool, true, false, not, ◌==◌, ◌+◌, max, nat_lt, if◌then◌else◌, List, [], ◌∷◌, length, fold}
-use Rattle.std.specs.Prelude.{Option, Some, None, slice_index_or}
+use Rattle.std.specs.Prelude.{◌≡◌, ℕ, ◌+◌, ◌^◌, ◌<◌, Bool, true, false, List, [], ◌∷◌, length, IfSome, MatchOption, Some, None}
 use Rattle.dl_field.specs.HeaderData.{HeaderData}
 use Rattle.std.specs.List.{before_last, list_any}
 use Rattle.dl_rows.specs.declared.row.Row.{Row}
-use Rattle.dl_look.specs.Answer.{first_place, last_place}
+use Rattle.dl_look.specs.Answer.{first_place, is_rising, last_place}
 use Rattle.dl_sections.specs.Copying.{offset_after as unit_offset}
 use Rattle.dl_sections.specs.Section.{Visit}
 use Rattle.dl_sections.specs.Visiting.{header_told}
@@ -12,21 +11,22 @@ use Rattle.dl_findings.specs.Chosen.{is_chosen}
 use Rattle.dl_findings.specs.declared.rule.Rule.TheVariants as rule
 use Rattle.dl_findings.specs.declared.rules.Rules.{Rules}
 use Rattle.dl_table_rules.specs.Keeping.{AreNamed}
+use Rattle.dl_sequence_rules.specs.Keeping.{AreDead, IsAddressCoverage, IsCoverage}
+use Rattle.dl_sequence_rules.specs.SequenceFindings.{overlaps_after}
+use Rattle.dl_sequence_rules.specs.declared.ended.Ended.{Ended}
 use Rattle.dl_findings.specs.Counting.{at_most_64_bits}
 use Rattle.dl_lint.specs.Before.{end_offset, is_operation, of_unit, offset_after, operation_offset, rows_told}
 use Rattle.dl_lint.specs.Before.{sequence_told}
-use Rattle.dl_lint.specs.OperationRules.{is_same}
-use Rattle.dl_lint.specs.Operations.{UnitSeen}
+use Rattle.dl_lint.specs.Sequences.{dead_told, ended_in, live_in}
 use Rattle.dl_lint.specs.TableRules.{files_named}
-use Rattle.dl_lint.specs.declared.byte_set.ByteSet.{ByteSet}
-use Rattle.dl_findings.specs.declared.finding.Opcode.{Opcode}
-use Rattle.dl_findings.specs.declared.finding.Opcode.TheVariants as opcode
-use Rattle.dl_lint.specs.declared.operation_read.OpcodeRead.{OpcodeRead}
-use Rattle.dl_lint.specs.declared.operation_read.OpcodeRead.TheVariants as read
-use Rattle.dl_lint.specs.declared.operation_read.OperationRead.{OperationRead}
-use Rattle.dl_lint.specs.declared.operations.Operations.{Operations}
+use Rattle.dl_lint.specs.Wanting.{keeps_sequences}
+use Rattle.dl_lint.specs.declared.reached.Offsets.{Offsets}
 use Rattle.dl_lint.specs.declared.reached.Reached.{Reached}
 use Rattle.dl_lint.specs.declared.reached.Sequence.{Sequence}
+use Rattle.dl_lint.specs.declared.question.LintQuestion.{LintQuestion}
+use Rattle.dl_lint.specs.declared.section_report.Covered.{Covered}
+use Rattle.dl_lint.specs.declared.section_report.Crowded.{Crowded}
+use Rattle.dl_lint.specs.declared.sequences_seen.SequencesSeen.{SequencesSeen}
 use Rattle.dl_lint.specs.declared.unit_files.UnitFiles.{UnitFiles}
 
 abbrev pub is_some_row : List Row → Bool
@@ -41,8 +41,8 @@ abbrev pub sequence_of : List Row → Sequence
 sequence_of rows = record {
   has_begun = is_some_row rows;
   first = first_place rows;
-  last = last_place rows;
   has_statement = list_any is_statement rows;
+  rising = is_rising rows;
 }
 
 -- of the visits of a section up to some one
@@ -56,62 +56,12 @@ reached_by visits = record {
   sequence = sequence_of (sequence_told visits);
 }
 
--- ---- of operations
-
--- a zero byte begins an extended opcode: its length follows, in LEB128, and then its number
-abbrev pub opcode_with : OpcodeRead → ℕ → OpcodeRead
-opcode_with read.Unread b = if b == 0 then read.Length else read.Single b
-opcode_with read.Length b = if nat_lt b 128 then read.Number else read.Length
-opcode_with read.Number b = read.Extended b
-opcode_with known b = known
-
--- the next byte is one of a number in LEB128
-abbrev pub is_in_number : OpcodeRead → Bool
-is_in_number read.Length = true
-is_in_number (read.Single b) = true
-is_in_number (read.Extended b) = b == 4
-is_in_number other = false
-
--- more bytes say nothing
-abbrev pub is_settled : OpcodeRead → Bool
-is_settled (read.Extended b) = not (b == 4)
-is_settled other = false
-
-abbrev pub known_opcode : OpcodeRead → Option Opcode
-known_opcode (read.Single b) = Some (opcode.Standard b)
-known_opcode (read.Extended b) = Some (opcode.Extended b)
-known_opcode other = None
-
--- a byte of a number more
-abbrev pub counted : OperationRead → ℕ → OperationRead
-counted r b = record {
-  opcode = opcode_with r.opcode b;
-  begun = if nat_lt b 128 then 0 else at_most_64_bits (r.begun + 1);
-  longest = max r.longest (at_most_64_bits (r.begun + 1));
-}
-
-abbrev pub read_with : OperationRead → ℕ → OperationRead
-read_with r b = if is_in_number r.opcode then counted r b else record r { opcode = opcode_with r.opcode b }
-
-abbrev pub unread : OperationRead
-unread = record { opcode = read.Unread; begun = 0; longest = 0 }
-
--- of the bytes of an operation
-abbrev pub operation_read : List ℕ → OperationRead
-operation_read bytes = fold read_with unread bytes
-
-abbrev pub has_byte : ByteSet → ℕ → Bool
-has_byte bytes b = slice_index_or bytes.has b false
-
-abbrev pub has_passed : Operations → Opcode → Bool
-has_passed operations (opcode.Standard b) = has_byte operations.standard b
-has_passed operations (opcode.Extended b) = has_byte operations.extended b
-
--- they are what is seen
-pub record Knows (operations : Operations) (s : UnitSeen) : Type 0 where
-  pub read : operations.read ≡ operation_read s.bytes
-  pub place : operations.place ≡ s.place
-  pub passed : (o : Opcode) → has_passed operations o ≡ list_any (is_same o) s.opcodes
+-- those of an operation of so many bytes after a run of so many, where no other one has begun
+pub record AreAfter (at : Reached) (run bytes : ℕ) (o : Offsets) : Type 0 where
+  pub whole : at.begun ≡ at.next
+  pub begin : o.begin ≡ at.next + run
+  pub end : o.end ≡ o.begin + bytes
+  pub fits : o.end < 2 ^ 64
 
 -- ---- of files
 
@@ -120,3 +70,20 @@ pub record KnowsFiles (rules : Rules) (files : UnitFiles) (visits : List Visit) 
   pub unit : files.unit ≡ unit_offset 0 visits
   pub named : is_chosen rules rule.UnusedFile ≡ true → (h : HeaderData) → header_told None visits ≡ Some h
       → AreNamed files.named h (files_named visits)
+
+-- ---- of sequences
+
+-- where rules on them are chosen, the dead ones of the current unit, and those that cover places
+pub record KnowsSequences (q : LintQuestion) (seen : SequencesSeen) (visits : List Visit) : Type 0 where
+  pub dead : is_chosen q.rules rule.DeadSequence ≡ true → AreDead seen.dead (dead_told (live_in q) visits)
+  pub ended : keeps_sequences q ≡ true → seen.ended.items ≡ ended_in (live_in q) visits
+
+-- its sequences have the overlaps of these, and it tells which of them is the first that covers a place
+pub record IsCrowded (crowded : Crowded) (sequences : List Ended) : Type 0 where
+  pub coverage : IsCoverage crowded.coverage crowded.sequences.items
+  pub same : overlaps_after [] crowded.sequences.items ≡ overlaps_after [] sequences
+
+-- where their rules find something, by which sequences these are first
+pub record AreCovered (q : LintQuestion) (covered : Covered) (sequences : List Ended) : Type 0 where
+  pub places : MatchOption covered.places (is_chosen q.rules rule.Overlap ≡ false) (λ c. IsCrowded c sequences)
+  pub addresses : IfSome covered.addresses (λ c. IsAddressCoverage c sequences)

@@ -1,24 +1,20 @@
 -- The rules of operations: what each finds at a visit of a section, before being the visits before it. DWARF 5, sections 6.2.4.1
 -- and 6.2.5.1 to 6.2.5.3.
-use Rattle.std.specs.Prelude.{ℕ, ◌*◌, ◌^◌, Bool, true, false, not, ◌==◌, ◌&&◌, nat_le, nat_lt, if◌then◌else◌}
-use Rattle.std.specs.Prelude.{List, [], ◌∷◌, Option, Some, None}
-use Rattle.std.specs.List.{list_any}
+use Rattle.std.specs.Prelude.{ℕ, nat_lt, if◌then◌else◌, List, [], ◌∷◌, Option, Some, None}
 use Rattle.dl_field.specs.declared.params.Params.{Params}
 use Rattle.dl_rows.specs.declared.operation.Operation.{Operation}
-use Rattle.dl_rows.specs.declared.operation.Operation.TheVariants as op
 use Rattle.dl_rows.specs.Items.{an_operation}
 use Rattle.dl_look.specs.declared.place.Place.{Place}
 use Rattle.dl_sections.specs.Section.{Visit, of_header, of_item}
 use Rattle.dl_findings.specs.Counting.{at_most_64_bits}
-use Rattle.dl_lint.specs.Before.{next_operation_offset}
 use Rattle.dl_table_rules.specs.HeaderFindings.{contents_found}
-use Rattle.dl_lint.specs.Operations.{longest_number, moved_by, passed_over, seen}
-use Rattle.dl_lint.specs.declared.advance.Moved.{Moved}
+use Rattle.dl_operation_rules.specs.Judging.{is_unknown, wraps}
+use Rattle.dl_operation_rules.specs.Operations.{longest_number, moved_by, passed_over, seen}
+use Rattle.dl_lint.specs.Before.{next_operation_offset}
 use Rattle.dl_findings.specs.declared.finding.Finding.{Finding}
 use Rattle.dl_findings.specs.declared.finding.Found.{Found}
 use Rattle.dl_findings.specs.declared.finding.Found.TheVariants as found
 use Rattle.dl_findings.specs.declared.finding.Opcode.{Opcode}
-use Rattle.dl_findings.specs.declared.finding.Opcode.TheVariants as opcode
 
 -- at the operation that comes after these visits
 abbrev pub at_operation : (before : List Visit) → Found → Finding
@@ -37,16 +33,6 @@ long_number_at before visit = []
 -- ---- wrapped-address: an advance (section 6.2.5.1, and DW_LNS_fixed_advance_pc) leads the address past what address_size bytes
 -- hold, from where it goes on at 0
 
-abbrev pub is_advance : Operation → Bool
-is_advance (op.Special b) = true
-is_advance (op.AdvancePc n) = true
-is_advance op.ConstAddPc = true
-is_advance (op.FixedAdvancePc n) = true
-is_advance o = false
-
-abbrev pub wraps : Params → Moved → Operation → Bool
-wraps p moved o = nat_le (2 ^ (8 * p.address_size)) moved.address && is_advance o
-
 abbrev pub wrapped_found : (before : List Visit) → Params → Place → Operation → List Finding
 wrapped_found before p at o =
     if wraps p (moved_by p at o) o then at_operation before (found.WrappedAddress at.address p.address_size) ∷ [] else []
@@ -57,20 +43,6 @@ wrapped_address_at before visit = []
 
 -- ---- unknown-opcode: an opcode that is passed over and that the standard doesn't name, the first time in its unit; and content
 -- codes, which are found in the header
-
--- DW_LNE_define_file, extended opcode 3, is one of versions 2 to 4 (DWARF 4, section 6.2.5.3)
-abbrev pub is_named : (version : ℕ) → Opcode → Bool
-is_named version (opcode.Standard b) = false
-is_named version (opcode.Extended b) = (b == 3) && nat_lt version 5
-
-abbrev pub is_same : Opcode → Opcode → Bool
-is_same (opcode.Standard a) (opcode.Standard b) = a == b
-is_same (opcode.Extended a) (opcode.Extended b) = a == b
-is_same a b = false
-
--- one that isn't named, and none of those before
-abbrev pub is_unknown : Params → (before : List Opcode) → Opcode → Bool
-is_unknown p before o = not (is_named p.version o) && not (list_any (is_same o) before)
 
 abbrev pub opcode_found : (before : List Visit) → Params → Option Opcode → List Finding
 opcode_found before p None = []

@@ -84,9 +84,11 @@ line_wrapped_at before visit = []
 
 -- ---- no-statement: no row of a sequence that has ended is a recommended place for a breakpoint (section 6.2.2, is_stmt)
 
+abbrev pub ends_without_statement : (before : List Visit) → Row → Bool
+ends_without_statement before r = r.end_sequence && not (list_any (λ s. s.is_stmt) (sequence_told before))
+
 abbrev pub no_statement_at : (before : List Visit) → Visit → List Finding
-no_statement_at before (of_item (a_row h r)) =
-    found_if (r.end_sequence && not (list_any (λ s. s.is_stmt) (sequence_told before))) before r found.NoStatement
+no_statement_at before (of_item (a_row h r)) = found_if (ends_without_statement before r) before r found.NoStatement
 no_statement_at before visit = []
 
 -- ---- split-instruction: each instruction is so many bytes long or a multiple of that (section 6.2.4,

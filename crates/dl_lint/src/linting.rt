@@ -9,22 +9,22 @@ ghost use Rattle.dl_findings.specs.Chosen.{is_chosen};
 ghost use Rattle.dl_findings.specs.declared.rule.Rule.TheVariants as rule;
 ghost use Rattle.dl_table_rules.specs.Keeping.{AreEnds};
 ghost use Rattle.dl_lint.specs.Commands.{Lints, LintsAround};
-ghost use Rattle.dl_lint.specs.Linting.{told_around};
 
-use crate::advance::moved_by;
-use crate::operations::Operations;
+use crate::finishing::{Finishing, read_around};
 use crate::question::{LintQuestion, Linted, LintedAround};
 use crate::reached::{BEFORE_UNITS, Reached};
 use crate::report::Report;
-use crate::row_rules::no_end;
+use crate::row_rules::{is_good_row, no_end};
+use crate::sequences_seen::SequencesSeen;
 use crate::unit_files::UnitFiles;
 use dl_findings::{FindingCounts, Rule, Rules};
 use dl_head::{Header, HeaderLengths};
 use dl_input::Source;
 use dl_memory::{Memory, NoMemory};
+use dl_operation_rules::{Operations, moved_by, place_after};
 use dl_output::Destination;
 use dl_print::{Printer, WriteFault};
-use dl_rows::{Flow, Operation, Row};
+use dl_rows::{Flow, Operation, QuietRun, Row};
 use dl_sections::{
     AroundDamage, Damage, DamageSink, Options, RunFault, SECTION_LIMIT, Survey, Visitor,
     read_units, read_units_around,
@@ -45,6 +45,8 @@ struct Linter<'d, M, D> {
     operations: Operations,
     /// What is kept of its files.
     files: &'d mut UnitFiles,
+    /// What is kept of the sequences of the section.
+    sequences: &'d mut SequencesSeen,
     damages: &'d mut D,
 }
 
@@ -67,6 +69,7 @@ impl<W: Destination, M: Memory, D: DamageSink> Visitor<W> for Linter<'_, M, D> {
         self.at = Reached::at_program(offset, &lengths, header);
         self.operations = Operations::at_start();
         *self.files = files;
+        self.sequences.begin_unit();
         Ok(())
     }
 
@@ -74,14 +77,12 @@ impl<W: Destination, M: Memory, D: DamageSink> Visitor<W> for Linter<'_, M, D> {
         Ok(())
     }
 
-    #[inline]
     fn bytes(&mut self, _output: &mut W, bytes: &[u8]) -> Result<(), WriteFault> {
-        self.at = self.at.with_bytes(bytes);
-        self.operations.with_bytes(bytes);
+        self.at.bytes(bytes);
+        self.operations.bytes(bytes);
         Ok(())
     }
 
-    #[inline]
     fn operation(
         &mut self,
         output: &mut W,
@@ -91,18 +92,65 @@ impl<W: Destination, M: Memory, D: DamageSink> Visitor<W> for Linter<'_, M, D> {
         let params = header.params();
         let moved = moved_by(params, self.operations.place, operation);
         self.report.tell_operation(output, &self.at, &self.operations, header, operation, moved)?;
-        self.operations
-            .with_operation(operation, moved.place(params));
-        self.at = self.at.with_operation();
+        let place = place_after(params, self.operations.place, operation, moved);
+        self.operations.operation(operation, place);
+        self.at.operation();
         Ok(())
     }
 
-    #[inline]
     fn row(&mut self, output: &mut W, header: &Header, row: &Row) -> Result<(), RunFault> {
-        self.report.tell_row(output, &self.at, header, row)?;
-        self.at = self.at.with_row(row);
+        self.one_row(output, header, row)
+    }
+
+    #[inline(always)]
+    fn hears_runs(&self) -> bool {
+        true
+    }
+
+    #[inline(always)]
+    fn operation_after(
+        &mut self,
+        _output: &mut W,
+        header: &Header,
+        run: QuietRun<'_>,
+        bytes: &[u8],
+        operation: Operation,
+    ) -> Result<bool, WriteFault> {
+        let Some(offsets) = self.at.offsets_after(run.bytes, bytes) else {
+            return Ok(false);
+        };
+        if !self.operations.pass(header.params(), bytes, operation) {
+            return Ok(false);
+        }
+        self.at.go_to(offsets);
+        Ok(true)
+    }
+
+    #[inline(always)]
+    fn row_after(
+        &mut self,
+        output: &mut W,
+        header: &Header,
+        run: QuietRun<'_>,
+        bytes: &[u8],
+        operation: Operation,
+        row: &Row,
+    ) -> Result<bool, RunFault> {
+        let Some(offsets) = self.at.offsets_after(run.bytes, bytes) else {
+            return Ok(false);
+        };
+        if !self.operations.pass(header.params(), bytes, operation) {
+            return Ok(false);
+        }
+        self.at.go_to(offsets);
+        if row.end_sequence || !is_good_row(&self.at, header, row) {
+            let copy = *row;
+            self.one_row(output, header, &copy)?;
+            return Ok(true);
+        }
+        self.at.good_row(row);
         self.files.row(row);
-        Ok(())
+        Ok(true)
     }
 
     fn unterminated(&mut self, output: &mut W) -> Result<(), RunFault> {
@@ -110,7 +158,8 @@ impl<W: Destination, M: Memory, D: DamageSink> Visitor<W> for Linter<'_, M, D> {
     }
 
     fn end(&mut self, output: &mut W, header: Option<Header>) -> Result<Flow, RunFault> {
-        self.report.tell_end(output, self.files, header.is_some())?;
+        self.report
+            .tell_end(output, self.files, self.sequences, header.is_some())?;
         Ok(Flow::On)
     }
 
@@ -122,6 +171,36 @@ impl<W: Destination, M: Memory, D: DamageSink> Visitor<W> for Linter<'_, M, D> {
 impl<W: Destination, M: Memory, D: DamageSink> AroundDamage<W> for Linter<'_, M, D> {
     fn damaged(&mut self, _unit: u64, damage: Damage) {
         self.damages.damaged(damage);
+    }
+}
+
+impl<M: Memory, D: DamageSink> Linter<'_, M, D> {
+    ghost use Rattle.std.specs.Prelude.{◌∷◌, []};
+    ghost use Rattle.dl_rows.specs.Items.{a_row};
+    ghost use Rattle.dl_sections.specs.Section.{of_item};
+    ghost use Rattle.dl_sections.specs.Visiting.{Hears};
+    ghost use Rattle.dl_lint.specs.Linting.{lint_story};
+
+    /// A row further on, by all rules.
+    #[cold]
+    #[inline(never)]
+    fn one_row<W: Destination>(
+        &mut self,
+        output: &mut W,
+        header: &Header,
+        row: &Row,
+    ) -> Result<(), RunFault>
+        ensures heard { Hears (lint_story M.refuses D.hears) self.old self.new (W.contents output.old) (W.contents output.new)
+            (of_item (a_row header.now row.now) ∷ []) result }
+        ensures blames_writer { BlamesWriter W.fails result }
+    {
+        let unit = self.files.unit();
+        self.sequences
+            .row(self.memory, self.report.question, unit, &self.at, row)?;
+        self.report.tell_row(output, &self.at, header, row)?;
+        self.at.row(row);
+        self.files.row(row);
+        Ok(())
     }
 }
 
@@ -138,11 +217,11 @@ impl<M: Memory, D> Linter<'_, M, D> {
 
     /// The order of the files of a header, where `duplicate-file` is chosen.
     fn order_of<'h>(&self, header: &'h Header) -> Result<EntryOrder<'h>, RunFault>
-        ensures order { IfOk result (λ order. is_chosen self.now.report.rules rule.DuplicateFile ≡ true
+        ensures order { IfOk result (λ order. is_chosen self.now.report.question.now.rules rule.DuplicateFile ≡ true
             → IsOrderOf order (entries_of header.now.files)) }
-        ensures refused { IfErr result (WantsFiles (M.refuses self.now.memory.now) self.now.report.rules header.now) }
+        ensures refused { IfErr result (WantsFiles (M.refuses self.now.memory.now) self.now.report.question.now.rules header.now) }
     {
-        if !self.report.rules.contains(Rule::DuplicateFile) {
+        if !self.report.question.rules.contains(Rule::DuplicateFile) {
             return Ok(EntryOrder::none(self.memory.alloc()));
         }
         match EntryOrder::of(self.memory, header.files()) {
@@ -154,13 +233,25 @@ impl<M: Memory, D> Linter<'_, M, D> {
     /// What is kept of the files of the unit at this offset that has this header.
     fn files_of(&self, unit: u64, header: &Header) -> Result<UnitFiles, RunFault>
         ensures knows { IfOk result (λ files. (visits : List Visit) (lengths : HeaderLengths)
-            → KnowsFiles self.now.report.rules files (visits ++ of_header unit lengths header.now ∷ [])) }
-        ensures refused { IfErr result (WantsFiles (M.refuses self.now.memory.now) self.now.report.rules header.now) }
+            → KnowsFiles self.now.report.question.now.rules files (visits ++ of_header unit lengths header.now ∷ [])) }
+        ensures refused { IfErr result (WantsFiles (M.refuses self.now.memory.now) self.now.report.question.now.rules header.now) }
     {
-        match UnitFiles::of(self.memory, &self.report.rules, unit, header) {
+        match UnitFiles::of(self.memory, &self.report.question.rules, unit, header) {
             Ok(files) => Ok(files),
             Err(NoMemory) => Err(RunFault::NoMemory),
         }
+    }
+}
+
+impl<W: Destination, M: Memory, D: DamageSink> Finishing<W> for Linter<'_, M, D> {
+    ghost use Rattle.dl_lint.specs.Linting.{ends_by};
+
+    ghost ends = { ends_by M.refuses D.hears };
+
+    fn finish(&mut self, output: &mut W) -> Result<FindingCounts, RunFault> {
+        self.report
+            .tell_section(self.memory, output, self.sequences)?;
+        Ok(self.report.counts)
     }
 }
 
@@ -176,17 +267,21 @@ impl DamageSink for NoneTold {
     fn damaged(&mut self, _damage: Damage) {}
 }
 
-/// Prints a line for each finding of the chosen rules in the units of the input, in the order in which they are read: words,
-/// or a JSON object.
+/// Prints each finding of the chosen rules in the units of the input, in the order in which they are read: a line of words or a
+/// JSON object, or a record.
+///
+/// Behind these come the findings of `overlap` and `no-code`, once the section is read to its end.
 ///
 /// What is found before a fault is printed. The faults are those of `RunFault`. `NoMemory` comes where a growth of `Reader::feed`
-/// is refused, and, where `duplicate-file` or `unused-file` is chosen, where one is refused for the files of a header; then
-/// what is found before that header is printed.
+/// is refused; where `duplicate-file` or `unused-file` is chosen, where one is refused for the files of a header; and where
+/// `overlap` is, or `no-code` and there are ranges of code, where one is refused for the sequence that a row ends, or at the end
+/// of the section for the places where sequences begin and end. Then what is found before that header, that row or that end is
+/// printed.
 pub fn lint<M: Memory, R: Source, W: Destination>(
     memory: &M,
     input: &mut R,
     output: &mut W,
-    question: &LintQuestion,
+    question: &LintQuestion<'_>,
     options: &Options<'_>,
 ) -> Result<Linted, RunFault>
     requires { options.now.limit ≤ SECTION_LIMIT }
@@ -197,31 +292,30 @@ pub fn lint<M: Memory, R: Source, W: Destination>(
     ensures blames_writer { BlamesWriter W.fails result }
     ensures over { OnOk result (R.over input.new) }
 {
-    let mut files = UnitFiles::before_units(memory.alloc());
     let mut linter = Linter {
         memory,
         options,
         ends: ends_of(&question.rules, options),
         report: Report {
             printer: &mut Printer::new(),
-            rules: question.rules,
-            json: question.json,
+            question,
             counts: FindingCounts::none(),
         },
         at: BEFORE_UNITS,
         operations: Operations::at_start(),
-        files: &mut files,
+        files: &mut UnitFiles::before_units(memory.alloc()),
+        sequences: &mut SequencesSeen::before_units(memory.alloc()),
         damages: &mut NoneTold,
     };
     let summary = read_units(memory.alloc(), input, output, options, &mut linter)?;
-    Ok(Linted {
-        summary,
-        counts: linter.report.counts,
-    })
+    let counts = linter.finish(output)?;
+    Ok(Linted { summary, counts })
 }
 
 /// Prints the findings as `lint` does, and goes on after units that are damaged; of these it prints what is found before their
 /// faults. `damages` hears of each damaged unit, once what comes before its fault is printed and out.
+///
+/// What `overlap` and `no-code` find of the section as a whole is found by the sequences that could be read.
 ///
 /// The answer tells what the units come to, and how many are damaged; the faults are those of `read_units_around`, and
 /// failed writes.
@@ -229,7 +323,7 @@ pub fn lint_around<M: Memory, R: Source, W: Destination, D: DamageSink>(
     memory: &M,
     input: &mut R,
     output: &mut W,
-    question: &LintQuestion,
+    question: &LintQuestion<'_>,
     options: &Options<'_>,
     damages: &mut D,
 ) -> Result<LintedAround, RunFault>
@@ -245,23 +339,23 @@ pub fn lint_around<M: Memory, R: Source, W: Destination, D: DamageSink>(
 {
     let mut printer = Printer::new();
     let mut files = UnitFiles::before_units(memory.alloc());
+    let mut sequences = SequencesSeen::before_units(memory.alloc());
     let mut linter = Linter {
         memory,
         options,
         ends: ends_of(&question.rules, options),
         report: Report {
             printer: &mut printer,
-            rules: question.rules,
-            json: question.json,
+            question,
             counts: FindingCounts::none(),
         },
         at: BEFORE_UNITS,
         operations: Operations::at_start(),
         files: &mut files,
+        sequences: &mut sequences,
         damages,
     };
-    let ended = read_units_around(memory.alloc(), input, output, options, &mut linter);
-    told_around(ended, linter.report.counts)
+    read_around(memory.alloc(), input, output, options, &mut linter)
 }
 
 /// Where the string sections end, where `missing-text` is chosen.
@@ -273,15 +367,4 @@ fn ends_of(rules: &Rules, options: &Options<'_>) -> TextEnds
         return NO_SECTIONS;
     }
     TextEnds::of(options.debug_line_str, options.debug_str)
-}
-
-/// What is answered where the reading ended so, and so many findings were told.
-fn told_around(
-    ended: Result<Survey, RunFault>,
-    counts: FindingCounts,
-) -> Result<LintedAround, RunFault>
-    ensures { result ≡ told_around counts ended }
-{
-    let survey = ended?;
-    Ok(LintedAround { survey, counts })
 }

@@ -1,21 +1,19 @@
 //! What the rules find at an operation. Sections 6.2.5.1 to 6.2.5.3.
 
-ghost use Rattle.std.specs.Prelude.{◌≡◌, List, Some, nat_lt, option_to_list};
+ghost use Rattle.std.specs.Prelude.{◌≡◌, List, Some, option_to_list};
 ghost use Rattle.dl_rows.specs.Items.{an_operation};
 ghost use Rattle.dl_sections.specs.Section.{Visit, of_item};
 ghost use Rattle.dl_field.specs.HeaderData.{HeaderData};
-ghost use Rattle.dl_field.specs.Usable.{IsUsable};
 ghost use Rattle.dl_rows.specs.declared.operation.Operation.{Operation as Made};
-ghost use Rattle.dl_lint.specs.Keeping.{Knows, reached_by};
-ghost use Rattle.dl_lint.specs.OperationRules.{at_operation, is_advance, is_named, is_unknown, long_number_at, opcode_found, unknown_opcode_at};
-ghost use Rattle.dl_lint.specs.OperationRules.{wraps, wrapped_address_at};
-ghost use Rattle.dl_lint.specs.Operations.{UnitSeen, moved_by, seen};
+ghost use Rattle.dl_operation_rules.specs.Keeping.{Knows};
+ghost use Rattle.dl_operation_rules.specs.Operations.{moved_by, seen};
+ghost use Rattle.dl_lint.specs.Keeping.{reached_by};
+ghost use Rattle.dl_lint.specs.OperationRules.{at_operation, long_number_at, opcode_found, unknown_opcode_at, wrapped_address_at};
 
-use crate::advance::{Moved, address_end};
-use crate::operations::Operations;
 use crate::reached::Reached;
 use dl_findings::{Finding, Found, Opcode};
-use dl_head::{Header, Params};
+use dl_head::Header;
+use dl_operation_rules::{Moved, Operations, is_long, is_unknown, wraps};
 use dl_rows::Operation;
 
 /// What is found at the operation that comes next.
@@ -29,9 +27,6 @@ fn found(at: &Reached, found: Found) -> Finding
     }
 }
 
-/// The most bytes that assemblers pad a number in LEB128 to.
-const USUAL_BYTES: u64 = 10;
-
 /// `long-number`
 #[inline]
 pub fn long_number(at: &Reached, operations: &Operations) -> Option<Finding>
@@ -44,14 +39,6 @@ pub fn long_number(at: &Reached, operations: &Operations) -> Option<Finding>
         return None;
     }
     Some(found(at, Found::LongNumber { bytes }))
-}
-
-/// Whether a number has more bytes than assemblers pad it to.
-#[inline]
-fn is_long(bytes: u64) -> bool
-    ensures { result ≡ nat_lt 10 bytes }
-{
-    USUAL_BYTES < bytes
 }
 
 /// `wrapped-address`, at an operation that leads the registers there.
@@ -78,28 +65,6 @@ pub fn wrapped_address(
             size: u64::from(params.address_size),
         },
     ))
-}
-
-/// Whether an operation advances the address past its size.
-#[inline]
-fn wraps(params: &Params, operation: Operation, moved: Moved) -> bool
-    requires { IsUsable params.now }
-    ensures { result ≡ wraps params.now moved operation }
-{
-    moved.address >= address_end(params) && is_advance(operation)
-}
-
-/// Whether an operation advances the address.
-fn is_advance(operation: Operation) -> bool
-    ensures { result ≡ is_advance operation }
-{
-    matches!(
-        operation,
-        Operation::Special(_)
-            | Operation::AdvancePc(_)
-            | Operation::ConstAddPc
-            | Operation::FixedAdvancePc(_)
-    )
 }
 
 /// `unknown-opcode`
@@ -133,21 +98,4 @@ fn opcode_found(
         return None;
     }
     Some(found(at, Found::UnknownOpcode { opcode }))
-}
-
-/// Whether the standard doesn't name an opcode, and it wasn't passed over before.
-fn is_unknown(params: &Params, operations: &Operations, opcode: Opcode) -> bool
-    ensures { (s : UnitSeen) → Knows operations.now s → result ≡ is_unknown params.now s.opcodes opcode }
-{
-    !is_named(params.version, opcode) && !operations.has_passed(opcode)
-}
-
-/// Whether an opcode that is passed over is DW_LNE_define_file, which the standard names before version 5.
-fn is_named(version: u16, opcode: Opcode) -> bool
-    ensures { result ≡ is_named version opcode }
-{
-    match opcode {
-        Opcode::Standard(_) => false,
-        Opcode::Extended(number) => number == 3 && version < 5,
-    }
 }

@@ -1,6 +1,7 @@
 //! What is kept of the visits of the current unit. Sections 6.2.2 to 6.2.5.
 
 ghost use Rattle.std.specs.Prelude.{◌≡◌, ◌-◌, ◌^◌, min};
+ghost use Rattle.dl_look.specs.Answer.{is_below, place_of};
 ghost use Rattle.dl_lint.specs.Before.{program_offset};
 
 use dl_head::{Format, Header, HeaderLengths, Params};
@@ -20,18 +21,26 @@ pub struct Sequence {
     pub has_begun: bool,
     /// The place of the first.
     pub first: Place,
-    /// The place of the last.
-    pub last: Place,
     /// Whether one is a statement.
     pub has_statement: bool,
+    /// Whether no row's place is below that of the row before it.
+    pub rising: bool,
+}
+
+/// Whether the place of a row is below another one.
+#[inline(always)]
+fn is_below(row: &Row, place: Place) -> bool
+    ensures { result ≡ is_below (place_of row.now) place }
+{
+    row.address < place.address || (row.address == place.address && row.op_index < place.op_index)
 }
 
 /// Before the first row of a sequence.
 pub const NOT_BEGUN: Sequence = Sequence {
     has_begun: false,
     first: NOWHERE,
-    last: NOWHERE,
     has_statement: false,
+    rising: true,
 };
 
 /// What is kept of the visits of the current unit. Offsets are those of the section.
@@ -61,13 +70,22 @@ pub const BEFORE_UNITS: Reached = Reached {
     sequence: NOT_BEGUN,
 };
 
+/// Where an operation begins after operations that are over, and where it ends.
+#[derive(Clone, Copy)]
+pub struct Offsets {
+    begin: u64,
+    end: u64,
+}
+
 impl Sequence {
-    ghost use Rattle.std.specs.Prelude.{◌≡◌, ◌++◌, ◌∷◌, [], List, if◌then◌else◌};
+    ghost use Rattle.std.specs.Prelude.{◌≡◌, ◌++◌, ◌∷◌, [], List, true};
     ghost use Rattle.dl_rows.specs.declared.row.Row.{Row};
     ghost use Rattle.dl_look.specs.Answer.{first_place};
     ghost use Rattle.dl_lint.specs.Keeping.{sequence_of};
+    ghost use Rattle.dl_lint.specs.RowRules.{falls_below};
 
     /// The place of the first row, where this one is the next.
+    #[inline(always)]
     pub fn first_with(&self, row: &Row) -> Place
         ensures { (rows : List Row) → self.now ≡ sequence_of rows → result ≡ first_place (rows ++ row.now ∷ []) }
     {
@@ -78,30 +96,44 @@ impl Sequence {
         }
     }
 
-    /// One row more.
-    fn with_row(&self, row: &Row) -> Sequence
-        ensures { (rows : List Row) → self.now ≡ sequence_of rows
-            → result ≡ sequence_of (if row.now.end_sequence then [] else rows ++ row.now ∷ []) }
+    /// With this row it has begun.
+    #[inline(always)]
+    fn begin(&mut self, row: &Row)
+        ensures { (rows : List Row) → self.old ≡ sequence_of rows
+            → self.new ≡ record self.old { has_begun = true; first = first_place (rows ++ row.now ∷ []) } }
     {
-        if row.end_sequence {
-            return NOT_BEGUN;
+        if !self.has_begun {
+            self.has_begun = true;
+            self.first.address = row.address;
+            self.first.op_index = row.op_index;
         }
-        Sequence {
-            has_begun: true,
-            first: self.first_with(row),
-            last: Place::of(row),
-            has_statement: self.has_statement || row.is_stmt,
+    }
+
+    /// One row more, which doesn't end it. `falls`: its place is below that of the row before it.
+    #[inline(always)]
+    fn row(&mut self, row: &Row, falls: bool)
+        ensures { (rows : List Row) → self.old ≡ sequence_of rows → falls ≡ falls_below rows row.now
+            → self.new ≡ sequence_of (rows ++ row.now ∷ []) }
+    {
+        self.begin(row);
+        self.has_statement |= row.is_stmt;
+        if falls {
+            self.rising = false;
         }
     }
 }
 
 impl Reached {
-    ghost use Rattle.std.specs.Prelude.{◌≡◌, ◌++◌, ◌∷◌, [], List, map};
+    ghost use Rattle.std.specs.Prelude.{◌≡◌, ◌+◌, ◌++◌, ◌∷◌, [], IfSome, List, false, length, map};
     ghost use Rattle.dl_field.specs.HeaderData.{HeaderData};
+    ghost use Rattle.dl_look.specs.Answer.{is_rising, place_of};
+    ghost use Rattle.dl_findings.specs.Counting.{at_most_64_bits};
     ghost use Rattle.dl_rows.specs.Items.{a_byte, a_row, an_operation};
     ghost use Rattle.dl_rows.specs.declared.operation.Operation.{Operation};
     ghost use Rattle.dl_sections.specs.Section.{Visit, of_header, of_item};
-    ghost use Rattle.dl_lint.specs.Keeping.{reached_by};
+    ghost use Rattle.dl_lint.specs.Before.{sequence_told};
+    ghost use Rattle.dl_lint.specs.Keeping.{AreAfter, reached_by};
+    ghost use Rattle.dl_lint.specs.RowRules.{falls_below};
 
     /// At the program of the unit at this offset that has this header.
     pub fn at_program(unit: u64, lengths: &HeaderLengths, header: &Header) -> Reached
@@ -117,39 +149,98 @@ impl Reached {
     }
 
     /// Bytes of the program further on.
-    pub fn with_bytes(self, bytes: &[u8]) -> Reached
-        ensures { (visits : List Visit) → self ≡ reached_by visits
-            → result ≡ reached_by (visits ++ map of_item (map a_byte bytes.now)) }
+    #[inline(always)]
+    pub fn bytes(&mut self, bytes: &[u8])
+        ensures { (visits : List Visit) → self.old ≡ reached_by visits
+            → self.new ≡ reached_by (visits ++ map of_item (map a_byte bytes.now)) }
     {
-        Reached {
-            next: self.next.saturating_add(bytes.len() as u64),
-            ..self
-        }
+        self.next = self.next.saturating_add(bytes.len() as u64);
     }
 
     /// An operation further on.
-    pub fn with_operation(self) -> Reached
-        ensures { (visits : List Visit) (h : HeaderData) (o : Operation) → self ≡ reached_by visits
-            → result ≡ reached_by (visits ++ of_item (an_operation h o) ∷ []) }
+    #[inline(always)]
+    pub fn operation(&mut self)
+        ensures { (visits : List Visit) (h : HeaderData) (o : Operation) → self.old ≡ reached_by visits
+            → self.new ≡ reached_by (visits ++ of_item (an_operation h o) ∷ []) }
     {
-        Reached {
-            operation: self.begun,
-            begun: self.next,
-            ..self
+        self.operation = self.begun;
+        self.begun = self.next;
+    }
+
+    /// Where an operation of these bytes begins and ends after a run of others; None where bytes of one that isn't over came
+    /// before, or 64 bits don't hold that.
+    #[inline(always)]
+    pub fn offsets_after(&self, run: &[u8], bytes: &[u8]) -> Option<Offsets>
+        ensures { IfSome result (AreAfter self.now (length run.now) (length bytes.now)) }
+    {
+        if self.begun != self.next {
+            return None;
         }
+        let begin = self.next.checked_add(run.len() as u64)?;
+        let end = begin.checked_add(bytes.len() as u64)?;
+        Some(Offsets { begin, end })
+    }
+
+    /// Operations further on, the last of which has these offsets.
+    #[inline(always)]
+    pub fn go_to(&mut self, offsets: Offsets)
+        ensures { self.new ≡ record self.old { operation = offsets.begin; begun = offsets.end; next = offsets.end } }
+    {
+        self.operation = offsets.begin;
+        self.begun = offsets.end;
+        self.next = offsets.end;
+    }
+
+    /// Whether the place of a row is below that of the last row of its sequence.
+    #[inline(always)]
+    pub fn falls_below(&self, row: &Row) -> bool
+        ensures { (visits : List Visit) → self.now ≡ reached_by visits → result ≡ falls_below (sequence_told visits) row.now }
+    {
+        self.sequence.has_begun && is_below(row, self.last)
+    }
+
+    /// Whether no row's place is below that of the row before it in its sequence, where this one is the next.
+    pub fn rises_with(&self, row: &Row) -> bool
+        ensures { (visits : List Visit) → self.now ≡ reached_by visits
+            → result ≡ is_rising (sequence_told visits ++ row.now ∷ []) }
+    {
+        self.sequence.rising && !self.falls_below(row)
     }
 
     /// A row further on.
-    pub fn with_row(&self, row: &Row) -> Reached
-        ensures { (visits : List Visit) (h : HeaderData) → self.now ≡ reached_by visits
-            → result ≡ reached_by (visits ++ of_item (a_row h row.now) ∷ []) }
+    #[inline(never)]
+    pub fn row(&mut self, row: &Row)
+        ensures { (visits : List Visit) (h : HeaderData) → self.old ≡ reached_by visits
+            → self.new ≡ reached_by (visits ++ of_item (a_row h row.now) ∷ []) }
     {
-        Reached {
-            rows: self.rows.saturating_add(1),
-            last: Place::of(row),
-            sequence: self.sequence.with_row(row),
-            ..*self
+        if row.end_sequence {
+            self.sequence = NOT_BEGUN;
+        } else {
+            let falls = self.falls_below(row);
+            self.sequence.row(row, falls);
         }
+        self.count(row);
+    }
+
+    /// A row further on, which neither ends a sequence nor falls.
+    #[inline(always)]
+    pub fn good_row(&mut self, row: &Row)
+        ensures { (visits : List Visit) (h : HeaderData) → self.old ≡ reached_by visits → row.now.end_sequence ≡ false
+            → falls_below (sequence_told visits) row.now ≡ false
+            → self.new ≡ reached_by (visits ++ of_item (a_row h row.now) ∷ []) }
+    {
+        self.sequence.row(row, false);
+        self.count(row);
+    }
+
+    /// Another last row.
+    #[inline(always)]
+    fn count(&mut self, row: &Row)
+        ensures { self.new ≡ record self.old { rows = at_most_64_bits (self.old.rows + 1); last = place_of row.now } }
+    {
+        self.rows = self.rows.saturating_add(1);
+        self.last.address = row.address;
+        self.last.op_index = row.op_index;
     }
 }
 

@@ -1,6 +1,6 @@
 //! Findings of chosen rules, told one after the other.
 
-ghost use Rattle.std.specs.Prelude.{◌≡◌, ◌≤◌, ◌∷◌, [], List, Option, None, is_some, option_map, option_to_list, true};
+ghost use Rattle.std.specs.Prelude.{◌≡◌, ◌≤◌, ◌∷◌, [], List, Option, Some, None, is_some, option_map, option_to_list, true};
 ghost use Rattle.dl_table.specs.EntryHeld.{entry_items};
 ghost use Rattle.dl_field.specs.HeaderData.{HeaderData};
 ghost use Rattle.dl_print.specs.ValueText.{Strings};
@@ -13,24 +13,31 @@ ghost use Rattle.dl_findings.specs.declared.rule.Rule.TheVariants as rule;
 ghost use Rattle.dl_table_rules.specs.Duplicates.{entries_of};
 ghost use Rattle.dl_table_rules.specs.Keeping.{AreEnds};
 ghost use Rattle.dl_table_rules.specs.Ordering.{IsOrderOf};
-ghost use Rattle.dl_table_rules.specs.TableFindings.{duplicates_found, missing_entry, missing_found, missing_in};
+ghost use Rattle.dl_table_rules.specs.TableFindings.{duplicates_found, missing_entry, missing_found, missing_in, unused_found};
 ghost use Rattle.dl_lint.specs.Findings.{findings_at};
 ghost use Rattle.dl_table_rules.specs.HeaderFindings.{contents_found, directories_found};
-ghost use Rattle.dl_lint.specs.Keeping.{Knows, KnowsFiles, reached_by};
-ghost use Rattle.dl_lint.specs.Operations.{moved_by, seen};
+ghost use Rattle.dl_operation_rules.specs.Keeping.{Knows};
+ghost use Rattle.dl_lint.specs.Keeping.{KnowsFiles, KnowsSequences, reached_by};
+ghost use Rattle.dl_lint.specs.Sequences.{dead_told, live_in};
+ghost use Rattle.dl_lint.specs.TableRules.{files_named};
+ghost use Rattle.dl_sections.specs.Copying.{offset_after as unit_offset};
+ghost use Rattle.dl_sequence_rules.specs.Dead.{dead_found};
+ghost use Rattle.dl_operation_rules.specs.Operations.{moved_by, seen};
 ghost use Rattle.dl_lint.specs.Telling.{Tells, entry_numbered};
 
-use crate::advance::Moved;
 use crate::header_rules::padding;
 use crate::operation_rules::{long_number, unknown_opcode, wrapped_address};
-use crate::operations::Operations;
+use crate::question::LintQuestion;
 use crate::reached::Reached;
 use crate::row_rules::{
-    empty_sequence, falling_place, file_index, line_wrapped, no_statement, split_instruction,
+    empty_sequence, falling_place, file_index, is_good_row, line_wrapped, no_statement,
+    split_instruction,
 };
+use crate::sequences_seen::SequencesSeen;
 use crate::unit_files::UnitFiles;
-use dl_findings::{Finding, FindingCounts, Rule, Rules, TableEntry, print_finding};
+use dl_findings::{Finding, FindingCounts, Rule, TableEntry, print_finding};
 use dl_head::{Entry, Header, HeaderLengths, Table};
+use dl_operation_rules::{Moved, Operations};
 use dl_output::Destination;
 use dl_print::{Printer, WriteFault};
 use dl_rows::{Operation, Row};
@@ -43,14 +50,13 @@ use dl_table_rules::{
 #[derive(Drop)]
 pub struct Report<'p> {
     pub printer: &'p mut Printer,
-    pub rules: Rules,
-    /// Whether they are told as JSON objects.
-    pub json: bool,
+    pub question: &'p LintQuestion<'p>,
     pub counts: FindingCounts,
 }
 
-impl<'p> Report<'p> {
+impl Report<'_> {
     /// Tells a finding, where its rule is chosen.
+    #[inline(never)]
     pub fn tell<W: Destination>(
         &mut self,
         output: &mut W,
@@ -59,16 +65,16 @@ impl<'p> Report<'p> {
         ensures told { Tells (W.contents output.old) (W.contents output.new) self.old self.new (finding.now ∷ []) result }
         ensures blames { BlamesWriter W.fails result }
     {
-        if !self.rules.contains(finding.found.rule()) {
+        if !self.question.rules.contains(finding.found.rule()) {
             return Ok(());
         }
         self.counts.add(finding);
-        print_finding(self.printer, output, self.json, finding)
+        print_finding(self.printer, output, self.question.form, finding)
     }
 
     /// Tells what is found, if anything.
     #[inline]
-    fn tell_any<W: Destination>(
+    pub fn tell_any<W: Destination>(
         &mut self,
         output: &mut W,
         finding: Option<Finding>,
@@ -83,7 +89,7 @@ impl<'p> Report<'p> {
     }
 
     /// Tells what is found at the next row.
-    #[inline]
+    #[inline(never)]
     pub fn tell_row<W: Destination>(
         &mut self,
         output: &mut W,
@@ -93,9 +99,12 @@ impl<'p> Report<'p> {
     ) -> Result<(), WriteFault>
         ensures told { (s : Strings) (visits : List Visit) → at.now ≡ reached_by visits
             → Tells (W.contents output.old) (W.contents output.new) self.old self.new
-            (findings_at s visits (of_item (a_row header.now row.now))) result }
+            (findings_at s self.old.question.now visits (of_item (a_row header.now row.now))) result }
         ensures blames { BlamesWriter W.fails result }
     {
+        if is_good_row(at, header, row) {
+            return Ok(());
+        }
         self.tell_any(output, file_index(at, header, row))?;
         self.tell_any(output, falling_place(at, row))?;
         self.tell_any(output, empty_sequence(at, row))?;
@@ -105,7 +114,6 @@ impl<'p> Report<'p> {
     }
 
     /// Tells what is found at the next operation, which leads the registers there.
-    #[inline]
     pub fn tell_operation<W: Destination>(
         &mut self,
         output: &mut W,
@@ -118,7 +126,7 @@ impl<'p> Report<'p> {
         ensures told { (s : Strings) (visits : List Visit) → at.now ≡ reached_by visits → Knows operations.now (seen visits)
             → moved ≡ moved_by header.now.params operations.now.place operation
             → Tells (W.contents output.old) (W.contents output.new) self.old self.new
-            (findings_at s visits (of_item (an_operation header.now operation))) result }
+            (findings_at s self.old.question.now visits (of_item (an_operation header.now operation))) result }
         ensures blames { BlamesWriter W.fails result }
     {
         self.tell_any(output, long_number(at, operations))?;
@@ -141,10 +149,10 @@ impl<'p> Report<'p> {
         order: &EntryOrder<'_>,
     ) -> Result<(), WriteFault>
         ensures told { (s : Strings) (visits : List Visit)
-            → (is_chosen self.old.rules rule.MissingText ≡ true → AreEnds ends.now s.line_strings s.strings)
-            → (is_chosen self.old.rules rule.DuplicateFile ≡ true → IsOrderOf order.now (entries_of header.now.files))
+            → (is_chosen self.old.question.now.rules rule.MissingText ≡ true → AreEnds ends.now s.line_strings s.strings)
+            → (is_chosen self.old.question.now.rules rule.DuplicateFile ≡ true → IsOrderOf order.now (entries_of header.now.files))
             → Tells (W.contents output.old) (W.contents output.new) self.old self.new
-            (findings_at s visits (of_header unit lengths.now header.now)) result }
+            (findings_at s self.old.question.now visits (of_header unit lengths.now header.now)) result }
         ensures blames { BlamesWriter W.fails result }
     {
         self.tell_directories(output, unit, header)?;
@@ -204,12 +212,12 @@ impl<'p> Report<'p> {
         ends: &TextEnds,
     ) -> Result<(), WriteFault>
         ensures told { (s : Strings)
-            → (is_chosen self.old.rules rule.MissingText ≡ true → AreEnds ends.now s.line_strings s.strings)
+            → (is_chosen self.old.question.now.rules rule.MissingText ≡ true → AreEnds ends.now s.line_strings s.strings)
             → Tells (W.contents output.old) (W.contents output.new) self.old self.new
             (missing_found s unit header.now) result }
         ensures blames { BlamesWriter W.fails result }
     {
-        if !self.rules.contains(Rule::MissingText) {
+        if !self.question.rules.contains(Rule::MissingText) {
             return Ok(());
         }
         let first = header.first_number();
@@ -274,12 +282,12 @@ impl<'p> Report<'p> {
         header: &Header,
         order: &EntryOrder<'_>,
     ) -> Result<(), WriteFault>
-        ensures told { (is_chosen self.old.rules rule.DuplicateFile ≡ true → IsOrderOf order.now (entries_of header.now.files))
+        ensures told { (is_chosen self.old.question.now.rules rule.DuplicateFile ≡ true → IsOrderOf order.now (entries_of header.now.files))
             → Tells (W.contents output.old) (W.contents output.new) self.old self.new
             (duplicates_found unit header.now) result }
         ensures blames { BlamesWriter W.fails result }
     {
-        if !self.rules.contains(Rule::DuplicateFile) {
+        if !self.question.rules.contains(Rule::DuplicateFile) {
             return Ok(());
         }
         let count = header.files().len();
@@ -296,14 +304,54 @@ impl<'p> Report<'p> {
         &mut self,
         output: &mut W,
         files: &UnitFiles,
+        sequences: &SequencesSeen,
         has_header: bool,
     ) -> Result<(), WriteFault>
-        ensures told { (s : Strings) (visits : List Visit) (h : Option HeaderData) → KnowsFiles self.old.rules files.now visits
+        ensures told { (s : Strings) (visits : List Visit) (h : Option HeaderData) → KnowsFiles self.old.question.now.rules files.now visits
+            → KnowsSequences self.old.question.now sequences.now visits
             → header_told None visits ≡ h → has_header ≡ is_some h
-            → Tells (W.contents output.old) (W.contents output.new) self.old self.new (findings_at s visits (of_end h)) result }
+            → Tells (W.contents output.old) (W.contents output.new) self.old self.new
+            (findings_at s self.old.question.now visits (of_end h)) result }
         ensures blames { BlamesWriter W.fails result }
     {
-        if !has_header || !self.rules.contains(Rule::UnusedFile) {
+        if !has_header {
+            return Ok(());
+        }
+        self.tell_dead(output, sequences, files.unit())?;
+        self.tell_unused(output, files)
+    }
+
+    /// Tells the sequences that aren't live of the unit with a header at this offset.
+    fn tell_dead<W: Destination>(
+        &mut self,
+        output: &mut W,
+        sequences: &SequencesSeen,
+        unit: u64,
+    ) -> Result<(), WriteFault>
+        ensures told { (visits : List Visit) → KnowsSequences self.old.question.now sequences.now visits → unit ≡ unit_offset 0 visits
+            → Tells (W.contents output.old) (W.contents output.new) self.old self.new
+            (dead_found (unit_offset 0 visits) (dead_told (live_in self.old.question.now) visits)) result }
+        ensures blames { BlamesWriter W.fails result }
+    {
+        if !self.question.rules.contains(Rule::DeadSequence) {
+            return Ok(());
+        }
+        self.tell_any(output, sequences.dead(unit))
+    }
+
+    /// Tells the files that no row names of a unit with a header.
+    fn tell_unused<W: Destination>(
+        &mut self,
+        output: &mut W,
+        files: &UnitFiles,
+    ) -> Result<(), WriteFault>
+        ensures told { (visits : List Visit) (h : HeaderData) → KnowsFiles self.old.question.now.rules files.now visits
+            → header_told None visits ≡ Some h
+            → Tells (W.contents output.old) (W.contents output.new) self.old self.new
+            (unused_found (unit_offset 0 visits) h (files_named visits)) result }
+        ensures blames { BlamesWriter W.fails result }
+    {
+        if !self.question.rules.contains(Rule::UnusedFile) {
             return Ok(());
         }
         self.tell_any(output, files.unused())

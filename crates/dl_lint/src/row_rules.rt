@@ -1,17 +1,21 @@
 //! What the rules find at a row, and at the end of a unit. Sections 6.2.2 to 6.2.5.
 
-ghost use Rattle.std.specs.Prelude.{◌≡◌, ◌∷◌, [], List, option_to_list, true};
+ghost use Rattle.std.specs.Prelude.{◌≡◌, ◌∷◌, [], false, IsTrue, List, is_none, option_to_list, true};
+ghost use Rattle.dl_head.specs.Numbers.{file_numbered};
+ghost use Rattle.dl_print.specs.ValueText.{Strings};
 ghost use Rattle.dl_field.specs.HeaderData.{HeaderData};
 ghost use Rattle.dl_rows.specs.Items.{a_row};
 ghost use Rattle.dl_sections.specs.Section.{Visit, of_item, of_open};
-ghost use Rattle.dl_rows.specs.declared.row.Row as rows;
-ghost use Rattle.dl_lint.specs.Keeping.{reached_by, sequence_of};
+ghost use Rattle.dl_lint.specs.Before.{sequence_told};
+ghost use Rattle.dl_lint.specs.Keeping.{reached_by};
 ghost use Rattle.dl_lint.specs.RowRules.{distance, empty_sequence_at, ends_nothing, falling_place_at, falls_below, file_index_at, found_if};
-ghost use Rattle.dl_lint.specs.RowRules.{is_split, is_wrapped};
+ghost use Rattle.dl_lint.specs.Findings.{findings_at};
+ghost use Rattle.dl_lint.specs.RowRules.{ends_without_statement, first_address, is_split, is_wrapped};
+ghost use Rattle.dl_lint.specs.declared.question.LintQuestion.{LintQuestion};
 ghost use Rattle.dl_lint.specs.RowRules.{line_wrapped_at, names_no_file, no_end_at, no_statement_at, row_seen, split_instruction_at};
 ghost use Rattle.dl_findings.specs.declared.finding.Found.{Found};
 
-use crate::reached::{Reached, Sequence};
+use crate::reached::Reached;
 use dl_findings::{Finding, Found, RowSeen};
 use dl_head::Header;
 use dl_look::Place;
@@ -20,8 +24,63 @@ use dl_rows::Row;
 /// The greatest line that 32 bits hold.
 const GREATEST_LINE: u64 = 0xffff_ffff;
 
+/// Whether that shows at once that no rule finds anything at the row that comes next.
+#[inline(always)]
+pub fn is_good_row(at: &Reached, header: &Header, row: &Row) -> bool
+    ensures nothing { (s : Strings) (q : LintQuestion) (visits : List Visit) → at.now ≡ reached_by visits
+        → IsTrue result → findings_at s q visits (of_item (a_row header.now row.now)) ≡ [] }
+    ensures rises { (visits : List Visit) → at.now ≡ reached_by visits → IsTrue result
+        → falls_below (sequence_told visits) row.now ≡ false }
+{
+    if !names_a_file(header, row) {
+        return false;
+    }
+    if at.falls_below(row) {
+        return false;
+    }
+    if is_wrapped(row.line) {
+        return false;
+    }
+    if ends_nothing(at, row) || ends_without_statement(at, row) {
+        return false;
+    }
+    !splits(at, header, row)
+}
+
+/// Whether there is a file of a row's number, or the row is an end row.
+#[inline(always)]
+fn names_a_file(header: &Header, row: &Row) -> bool
+    ensures { IsTrue result → names_no_file header.now row.now ≡ false }
+{
+    row.end_sequence || has_file(header, row.file)
+}
+
+/// Whether there is a file of this number.
+#[inline(always)]
+fn has_file(header: &Header, number: u64) -> bool
+    ensures { IsTrue result → is_none (file_numbered header.now number) ≡ false }
+{
+    let first = header.first_number();
+    first <= number && number - first < header.files().len() as u64
+}
+
+/// Whether the address of a row is no multiple of the least length of an instruction from the first one of its sequence.
+#[inline(always)]
+fn splits(at: &Reached, header: &Header, row: &Row) -> bool
+    ensures { (visits : List Visit) → at.now ≡ reached_by visits
+        → result ≡ is_split header.now.params.minimum_instruction_length (first_address visits row.now) row.now.address }
+{
+    let least = header.params().minimum_instruction_length;
+    // Each number is a multiple of 1, and no division is needed for that.
+    if least <= 1 {
+        return false;
+    }
+    let first = at.sequence.first_with(row).address;
+    apart(first, row.address) % u64::from(least) != 0
+}
+
 /// The row that comes next.
-fn row_seen(at: &Reached, row: &Row) -> RowSeen
+pub fn row_seen(at: &Reached, row: &Row) -> RowSeen
     ensures { (visits : List Visit) → at.now ≡ reached_by visits → result ≡ row_seen visits row.now }
 {
     RowSeen {
@@ -69,30 +128,16 @@ pub fn file_index(at: &Reached, header: &Header, row: &Row) -> Option<Finding>
     )
 }
 
-/// Whether the place of a row is below that of the last row of its sequence.
-#[inline]
-fn falls_below(sequence: &Sequence, row: &Row) -> bool
-    ensures { (told : List rows.Row) → sequence.now ≡ sequence_of told → result ≡ falls_below told row.now }
-{
-    sequence.has_begun && Place::of(row) < sequence.last
-}
-
 /// `falling-place`
 #[inline]
 pub fn falling_place(at: &Reached, row: &Row) -> Option<Finding>
     ensures { (visits : List Visit) (h : HeaderData) → at.now ≡ reached_by visits
         → option_to_list result ≡ falling_place_at visits (of_item (a_row h row.now)) }
 {
-    if !falls_below(&at.sequence, row) {
+    if !at.falls_below(row) {
         return None;
     }
-    found(
-        at,
-        row,
-        Found::FallingPlace {
-            before: at.sequence.last,
-        },
-    )
+    found(at, row, Found::FallingPlace { before: at.last })
 }
 
 /// `no-end`
@@ -110,7 +155,7 @@ pub fn no_end(at: &Reached) -> Finding
 }
 
 /// Whether a row ends a sequence whose first row has its address.
-#[inline]
+#[inline(always)]
 fn ends_nothing(at: &Reached, row: &Row) -> bool
     ensures { (visits : List Visit) → at.now ≡ reached_by visits → result ≡ ends_nothing visits row.now }
 {
@@ -130,7 +175,7 @@ pub fn empty_sequence(at: &Reached, row: &Row) -> Option<Finding>
 }
 
 /// Whether a line needs more than 32 bits.
-#[inline]
+#[inline(always)]
 fn is_wrapped(line: u64) -> bool
     ensures { result ≡ is_wrapped line }
 {
@@ -149,28 +194,28 @@ pub fn line_wrapped(at: &Reached, row: &Row) -> Option<Finding>
     found(at, row, Found::LineWrapped { line: row.line })
 }
 
+/// Whether a row ends a sequence in which no row is a statement.
+#[inline(always)]
+fn ends_without_statement(at: &Reached, row: &Row) -> bool
+    ensures { (visits : List Visit) → at.now ≡ reached_by visits → result ≡ ends_without_statement visits row.now }
+{
+    row.end_sequence && !at.sequence.has_statement
+}
+
 /// `no-statement`
 #[inline]
 pub fn no_statement(at: &Reached, row: &Row) -> Option<Finding>
     ensures { (visits : List Visit) (h : HeaderData) → at.now ≡ reached_by visits
         → option_to_list result ≡ no_statement_at visits (of_item (a_row h row.now)) }
 {
-    if !row.end_sequence || at.sequence.has_statement {
+    if !ends_without_statement(at, row) {
         return None;
     }
     found(at, row, Found::NoStatement)
 }
 
-/// Whether an address is no multiple of so many bytes from the first one.
-#[inline]
-fn is_split(least: u8, first: u64, address: u64) -> bool
-    ensures { result ≡ is_split least first address }
-{
-    least != 0 && apart(first, address) % u64::from(least) != 0
-}
-
 /// How far two addresses are apart.
-#[inline]
+#[inline(always)]
 fn apart(a: u64, b: u64) -> u64
     ensures { result ≡ distance a b }
 {
@@ -183,17 +228,15 @@ pub fn split_instruction(at: &Reached, header: &Header, row: &Row) -> Option<Fin
     ensures { (visits : List Visit) → at.now ≡ reached_by visits
         → option_to_list result ≡ split_instruction_at visits (of_item (a_row header.now row.now)) }
 {
-    let least = header.params().minimum_instruction_length;
-    let first = at.sequence.first_with(row).address;
-    if !is_split(least, first, row.address) {
+    if !splits(at, header, row) {
         return None;
     }
     found(
         at,
         row,
         Found::SplitInstruction {
-            first,
-            least: u64::from(least),
+            first: at.sequence.first_with(row).address,
+            least: u64::from(header.params().minimum_instruction_length),
         },
     )
 }

@@ -64,8 +64,16 @@ impl UnitFiles {
         Ok(UnitFiles { unit, named })
     }
 
+    /// The offset of the unit.
+    #[inline(always)]
+    pub fn unit(&self) -> u64
+        ensures { result ≡ self.now.unit }
+    {
+        self.unit
+    }
+
     /// A row further on.
-    #[inline]
+    #[inline(always)]
     pub fn row(&mut self, row: &Row)
         ensures { (rules : Rules) (visits : List Visit) (h : HeaderData) → KnowsFiles rules self.old visits
             → KnowsFiles rules self.new (visits ++ of_item (a_row h row.now) ∷ []) }

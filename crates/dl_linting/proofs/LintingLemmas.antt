@@ -12,7 +12,12 @@ use Rattle.dl_lint.specs.declared.question.LintedAround.{LintedAround}
 use Rattle.dl_open.specs.Tables.{HasNoDamage, IsWhole, bytes_of, file_dialect, stream_of}
 use Rattle.dl_open.specs.declared.dialect.FileUnits.{FileUnits}
 use Rattle.dl_open.specs.declared.named.Sections.TheVariants.{LinesAndTexts}
+use Rattle.dl_elf.specs.declared.fault.ElfFault.TheVariants.{Read}
+use Rattle.dl_open.specs.Code.{RefusesCode}
+use Rattle.dl_open.specs.declared.fault.FileFault.{FileFault}
+use Rattle.dl_open.specs.declared.fault.FileFault.TheVariants.{Elf, Open}
 use Rattle.dl_open.specs.declared.stop.FileStop.{FileStop}
+use Rattle.dl_open.specs.declared.stop.FileStop.TheVariants.{File}
 use Rattle.dl_open.proofs.WiderLemmas.{has_table_wider, strings_wider, table_stops_weaker}
 use Rattle.dl_print.specs.ValueText.{Strings}
 use Rattle.dl_sections.specs.Blaming as run
@@ -29,9 +34,10 @@ use Rattle.dl_program.specs.Stops.{over_file}
 use Rattle.dl_program.specs.Units.{are_sizes, file_units}
 use Rattle.dl_program.specs.declared.stop.Stop.{Stop}
 use Rattle.dl_program.specs.declared.stop.Stop.TheVariants.{NotRule, NotUnderstood}
-use Rattle.dl_linting.specs.Linting.{BlamesInput, BlamesSection, HasReadAll, IsWish, LintsWords, OnFile, OnHeld, OnInput, OnTable}
+use Rattle.dl_linting.specs.Linting.{BlamesInput, BlamesSection, CodeStop, HasReadAll, IsChoice, LintsWords, OnCode, OnFile, OnHeld, OnInput, OnTable}
 use Rattle.dl_linting.specs.Linting.{Tells, TellsTable, section_in, whole}
 use Rattle.dl_linting.specs.RuleWords.{IsFirstNoRule, no_rule_in}
+use Rattle.dl_linting.specs.declared.section.Choice.{Choice}
 use Rattle.dl_linting.specs.declared.section.Wish.{Wish}
 
 -- ---- over a section
@@ -55,6 +61,17 @@ pub around_over : (P : Type 0) (result : Result LintedAround RunFault)
 around_over P (Ok linted) over read = over read
 around_over P (Err f) over read = absurd read
 
+-- with options that are known
+pub told_with : (refuses : ℕ → Type 0) (wish : Wish) (dialect known : Dialect) (strings s : Strings) (limit : ℕ) (bytes : List ℕ)
+    (left start now : Option (List ℕ)) (hears : List Damage → Type 0) (answer : Result LintedAround RunFault)
+    → dialect ≡ known → strings ≡ s → limit ≡ SECTION_LIMIT
+    → Tells refuses wish dialect strings limit bytes left start now hears answer
+    → Tells refuses wish known s SECTION_LIMIT bytes left start now hears answer
+told_with refuses wish dialect known strings s limit bytes left start now hears answer ordered in_options limited tells =
+    subst (λ (d : Dialect). Tells refuses wish d s SECTION_LIMIT bytes left start now hears answer) ordered
+    (subst (λ (z : Strings). Tells refuses wish dialect z SECTION_LIMIT bytes left start now hears answer) in_options
+    (subst (λ (l : ℕ). Tells refuses wish dialect strings l bytes left start now hears answer) limited tells))
+
 -- ---- over a file
 
 -- the findings were told with these options, over a reader of the line section
@@ -77,9 +94,8 @@ told_table refuses units fails path wish t start now left remaining hears s stri
       left = left;
       bytes = known read consumes;
       answer = answer;
-      done = subst (λ (d : Dialect). Tells refuses wish d s SECTION_LIMIT read left start now hears answer) ordered
-          (subst (λ (z : Strings). Tells refuses wish dialect z SECTION_LIMIT read left start now hears answer) in_options
-          (subst (λ (l : ℕ). Tells refuses wish dialect strings l read left start now hears answer) limited tells));
+      done = told_with refuses wish dialect (file_dialect units t) strings s limit read left start now hears answer ordered
+          in_options limited tells;
       ends = ends;
       undamaged = undamaged;
     }
@@ -104,7 +120,7 @@ table_wider refuses units fails wider path wish t start now hears result more (i
   undamaged = tells.undamaged;
 })
 
-pub file_wider : (refuses : ℕ → Type 0) (units : FileUnits) (fails wider : Error → Type 0) (path : Text) (wish : Wish) (f : List ℕ)
+file_wider : (refuses : ℕ → Type 0) (units : FileUnits) (fails wider : Error → Type 0) (path : Text) (wish : Wish) (f : List ℕ)
     (start now : Option (List ℕ)) (hears : List Damage → Type 0) (result : Result LintedAround FileStop)
     → ((e : Error) → fails e → wider e) → OnFile refuses units fails path wish f start now hears result
     → OnFile refuses units wider path wish f start now hears result
@@ -117,43 +133,66 @@ file_wider refuses units fails wider path wish f start now hears result more (in
       table_wider refuses units fails wider path wish t start now hears result more table,
     )
 
+-- ---- by where a file has code
+
+code_wider : (refuses : ℕ → Type 0) (fails wider : Error → Type 0) (f : List ℕ) (why : FileFault) → ((e : Error) → fails e → wider e)
+    → RefusesCode refuses fails f why → RefusesCode refuses wider f why
+code_wider refuses fails wider f (Open error) more is = more error is
+code_wider refuses fails wider f (Elf (Read error)) more is = more error is
+code_wider refuses fails wider f (Elf other) more is = is
+code_wider refuses fails wider f other more is = is
+
+code_stop_wider : (refuses : ℕ → Type 0) (fails wider : Error → Type 0) (path : Text) (f : List ℕ) (stop : FileStop)
+    → ((e : Error) → fails e → wider e) → CodeStop refuses fails path f stop → CodeStop refuses wider path f stop
+code_stop_wider refuses fails wider path f (File at refused) more (is, why) = (is, code_wider refuses fails wider f refused more why)
+code_stop_wider refuses fails wider path f other more is = absurd is
+
+pub on_code_wider : (refuses : ℕ → Type 0) (units : FileUnits) (fails wider : Error → Type 0) (path : Text) (choice : Choice) (f : List ℕ)
+    (start now : Option (List ℕ)) (hears : List Damage → Type 0) (result : Result LintedAround FileStop)
+    → ((e : Error) → fails e → wider e) → OnCode refuses units fails path choice f start now hears result
+    → OnCode refuses units wider path choice f start now hears result
+on_code_wider refuses units fails wider path choice f start now hears result more (inl (stop, is, why, written, untold)) =
+    inl (stop, is, code_stop_wider refuses fails wider path f stop more why, written, untold)
+on_code_wider refuses units fails wider path choice f start now hears result more (inr (code, is, live, are, wish, asks, does)) =
+    inr (code, is, live, are, wish, asks, file_wider refuses units fails wider path wish f start now hears result more does)
+
 -- ---- by the words
 
-pub words_on_input : (refuses : ℕ → Type 0) (held : Text → Option (List ℕ)) (fails : Text → Error → Type 0) (w : LintTexts) (wish : Wish)
+pub words_on_input : (refuses : ℕ → Type 0) (held : Text → Option (List ℕ)) (fails : Text → Error → Type 0) (w : LintTexts) (choice : Choice)
     (section : SectionWords) (bytes : List ℕ) (left start now : Option (List ℕ)) (hears : List Damage → Type 0)
-    (result : Result LintedAround Stop) → are_sizes w.units ≡ true → no_rule_in w ≡ None → IsWish w wish → w.file ≡ None
-    → section ≡ section_in w → OnInput refuses held fails section wish bytes left start now hears result
+    (result : Result LintedAround Stop) → are_sizes w.units ≡ true → no_rule_in w ≡ None → IsChoice w choice → w.file ≡ None
+    → section ≡ section_in w → OnInput refuses held fails section choice bytes left start now hears result
     → LintsWords refuses held fails w bytes left start now hears result
-words_on_input refuses held fails w wish section bytes left start now hears result sizes known is no_file said does =
+words_on_input refuses held fails w choice section bytes left start now hears result sizes known is no_file said does =
     inr (
       sizes,
       inr (
         known,
-        wish,
+        choice,
         is,
         rw no_file
-            (subst (λ (z : SectionWords). OnInput refuses held fails z wish bytes left start now hears result) said does),
+            (subst (λ (z : SectionWords). OnInput refuses held fails z choice bytes left start now hears result) said does),
       ),
     )
 
-pub words_on_named : (refuses : ℕ → Type 0) (held : Text → Option (List ℕ)) (fails : Text → Error → Type 0) (w : LintTexts) (wish : Wish)
+pub words_on_named : (refuses : ℕ → Type 0) (held : Text → Option (List ℕ)) (fails : Text → Error → Type 0) (w : LintTexts) (choice : Choice)
     (units : FileUnits) (path : Text) (left start now : Option (List ℕ)) (hears : List Damage → Type 0)
     (answer : Result LintedAround FileStop) (result : Result LintedAround Stop) → are_sizes w.units ≡ true → no_rule_in w ≡ None
-    → IsWish w wish → w.file ≡ Some path → units ≡ file_units w.units → result ≡ over_file answer
-    → ForBytes (held path) (λ f. OnHeld refuses units (fails path) path wish f start now hears answer)
+    → IsChoice w choice → w.file ≡ Some path → units ≡ file_units w.units → result ≡ over_file answer
+    → ForBytes (held path) (λ f. OnHeld refuses units (fails path) path choice f start now hears answer)
     → LintsWords refuses held fails w [] left start now hears result
-words_on_named refuses held fails w wish units path left start now hears answer result sizes known is named read told does =
+words_on_named refuses held fails w choice units path left start now hears answer result sizes known is named read told does =
     inr (
       sizes,
       inr (
         known,
-        wish,
+        choice,
         is,
         rw named (
           refl,
           answer,
           told,
-          subst (λ (u : FileUnits). ForBytes (held path) (λ f. OnHeld refuses u (fails path) path wish f start now hears answer)) read does,
+          subst (λ (u : FileUnits). ForBytes (held path) (λ f. OnHeld refuses u (fails path) path choice f start now hears answer)) read does,
         ),
       ),
     )

@@ -5,15 +5,15 @@ ghost use Rattle.dl_input.specs.Failing.{Blames};
 ghost use Rattle.dl_cmd.specs.Job.{lint_words_made};
 ghost use Rattle.dl_program.specs.Blaming.{BlamesWriter};
 ghost use Rattle.dl_program.specs.Held.{section_seen};
-ghost use Rattle.dl_linting.specs.Linting.{BlamesInput, LintsWords, section_in};
+ghost use Rattle.dl_linting.specs.Linting.{BlamesInput, LintsWords, form_of, section_in};
 
 use crate::over_file::on_named;
 use crate::over_input::on_input;
 use crate::rules::asked_rules;
-use crate::section::Wish;
+use crate::section::Choice;
 use dl_cmd::LintWords;
 use dl_input::Source;
-use dl_lint::{LintQuestion, LintedAround};
+use dl_lint::{FindingForm, LintedAround};
 use dl_memory::Memory;
 use dl_open::FileSource;
 use dl_output::Destination;
@@ -29,6 +29,17 @@ fn section<'a>(words: &LintWords<'a>) -> Section<'a>
         older: words.units.older,
         line_str: words.line_str,
         strings: words.strings,
+    }
+}
+
+/// The form in which findings are told.
+fn form_of(json: bool) -> FindingForm
+    ensures { result ≡ form_of json }
+{
+    if json {
+        FindingForm::Object
+    } else {
+        FindingForm::Line
     }
 }
 
@@ -60,18 +71,24 @@ pub fn tell_findings<'a, M: Memory, F: FileSource, R: Source, W: Destination, D:
         return Err(Stop::NotUnderstood);
     }
     let rules = asked_rules(words)?;
-    let wish = Wish {
-        question: LintQuestion {
-            rules,
-            json: words.json,
-        },
+    let choice = Choice {
+        rules,
+        form: form_of(words.json),
         keep_going: words.keep_going,
     };
     match words.file {
         Some(path) => {
             let units = units_of_file(words.units);
-            answer_over_file(on_named(memory, files, path, units, wish, output, damages))
+            answer_over_file(on_named(memory, files, path, units, choice, output, damages))
         }
-        None => on_input(memory, files, section(words), wish, input, output, damages),
+        None => on_input(
+            memory,
+            files,
+            section(words),
+            choice,
+            input,
+            output,
+            damages,
+        ),
     }
 }

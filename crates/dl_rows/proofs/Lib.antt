@@ -7,6 +7,7 @@ pub mod HeardLemmas
 pub mod ItemLemmas
 pub mod JoinLemmas
 pub mod Judged
+pub mod MadeTells
 pub mod OperandLemmas
 pub mod OperandRanges
 pub mod OperationFront
@@ -18,6 +19,7 @@ pub mod ProgramLaws
 pub mod ProgramSteps
 pub mod ProgramTells
 pub mod ProgramWalks
+pub mod QuietLemmas
 pub mod ReaderFeeds
 pub mod ReaderLemmas
 pub mod RegisterLemmas

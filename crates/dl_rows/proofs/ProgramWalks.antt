@@ -129,11 +129,11 @@ module _ {S : Type 0} {story : Story S} {order : Order} {h : Params} {header : H
   rest_bytes : AllBytes rest
   rest_bytes = bytes_back t.walked.done rest (rw t.walked.split at all)
 
-  -- whatever was taken before: more of the bytes is taken
-  pub tell_after : {new : Program} {tail : List ℕ} {new_s : S}
+  -- whatever was taken before: more of the bytes is taken, of which another story may be told
+  pub tell_after : {S' : Type 0} {other : Story S'} {new : Program} {tail : List ℕ} {new_s : S'}
       → ((v : List ℕ) (heard : List Item) → AllBytes rest → ProgramStands order h p v → story.hears s heard
-      → Telling story order h header v rest heard new tail new_s)
-      → Telling story order h header b bytes before new tail new_s
+      → Telling other order h header v rest heard new tail new_s)
+      → Telling other order h header b bytes before new tail new_s
   unfolding walk_join
   tell_after more =
       let u = more (b ++ t.walked.done) (before ++ items_after order h header b t.walked.done) rest_bytes t.walked.stands t.hears in
@@ -144,17 +144,17 @@ module _ {S : Type 0} {story : Story S} {order : Order} {h : Params} {header : H
       }
 
   -- the same, up to a stop
-  pub tells_after : {new : Program} (step : ProgramStep) {new_s : S}
+  pub tells_after : {S' : Type 0} {other : Story S'} {new : Program} (step : ProgramStep) {new_s : S'}
       → ((v : List ℕ) (heard : List Item) → AllBytes rest → ProgramStands order h p v → story.hears s heard
-      → Tells story order h header v rest heard step new new_s) → Tells story order h header b bytes before step new new_s
-  tells_after {new} step {new_s} more =
+      → Tells other order h header v rest heard step new new_s) → Tells other order h header b bytes before step new new_s
+  tells_after {other = other} {new} step {new_s} more =
       let u = more (b ++ t.walked.done) (before ++ items_after order h header b t.walked.done) rest_bytes t.walked.stands t.hears in
       record {
         rows = t.rows ++ u.rows;
         gives = given_join t.walked step u.rows new u.gives;
         taken = t.walked.done ++ u.taken;
         split = joined t.walked u.taken (left_by step) u.split;
-        sink = subst (λ (items : List Item). StandsAfter story new_s items step)
+        sink = subst (λ (items : List Item). StandsAfter other new_s items step)
             (heard_join order h header before b t.walked.done u.taken) u.sink;
       }
 

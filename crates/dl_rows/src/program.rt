@@ -1,11 +1,12 @@
 //! The line number program of a unit, from bytes that come in pieces. Sections 6.2.5.1 to 6.2.5.3.
 
-ghost use Rattle.std.specs.Prelude.{false, ◌≡◌, ◌≤◌, ◌↔◌, ◌==◌, not, ℕ, List, [], length, IfSome, IsTrue};
+ghost use Rattle.std.specs.Prelude.{false, ◌≡◌, ◌≤◌, ◌↔◌, ◌==◌, ◌++◌, not, ℕ, List, [], length, IfSome, IsTrue, Option};
 ghost use Rattle.dl_num.specs.Laws.{AllBytes};
 ghost use Rattle.dl_field.specs.Usable.{IsUsable};
 
 use crate::operation::Operation;
 use crate::operation_state::{OperationState, OperationStep, short_operation};
+use crate::quiet_run::{QuietRun, tell_run};
 use crate::registers::Registers;
 use crate::row::Row;
 use crate::sink::{Flow, ProgramSink, tell_operation};
@@ -32,8 +33,26 @@ pub enum Taken<'a> {
     Row(Row, &'a [u8]),
 }
 
+/// The run of these bytes up to where the others begin, with which they end.
+#[inline(always)]
+fn run_before<'a>(order: Order, params: &'a Params, bytes: &'a [u8], rest: &[u8]) -> QuietRun<'a>
+    requires { length rest.now ≤ length bytes.now }
+    ensures order { result.order ≡ order }
+    ensures params { result.params ≡ params.entry }
+    ensures bytes { (front : List ℕ) → bytes.entry.now ≡ front ++ rest.now → result.bytes.now ≡ front }
+{
+    QuietRun {
+        order,
+        params,
+        bytes: &bytes[..bytes.len() - rest.len()],
+    }
+}
+
 /// Of fewer bytes each operation is taken by itself, since a program in a local of its own costs more than it spares.
 const SHORT_PIECE: usize = 16;
+
+/// The most bytes that an operation of a run has.
+const QUIET_BYTES: usize = 10;
 
 /// Where a reader is in a program.
 #[derive(Clone, Copy)]
@@ -52,7 +71,7 @@ impl Program {
     ghost use Rattle.dl_rows.specs.Matrix.{matrix};
     ghost use Rattle.dl_rows.specs.OperationSpelt.{operations_in};
     ghost use Rattle.dl_rows.specs.LineUnit.{ends_open, rows_in};
-    ghost use Rattle.dl_rows.specs.Programs.{Finishes, ProgramStands, TakenTells, Tells};
+    ghost use Rattle.dl_rows.specs.Programs.{Finishes, HearsMade, ProgramStands, TakenTells, Tells};
     ghost use Rattle.dl_rows.specs.Sums.{FitsProgram, HasRange, registers_after};
     ghost use Rattle.dl_rows.specs.declared.operation_state.OperationState.TheVariants as phase;
 
@@ -168,7 +187,11 @@ impl Program {
             return Taken::UpTo(bytes);
         }
         let mut program = *self;
-        let taken = program.run(order, params, header, bytes, sink);
+        let taken = if sink.hears_runs() {
+            program.runs(order, params, header, bytes, sink)
+        } else {
+            program.run(order, params, header, bytes, sink)
+        };
         self.registers = program.registers;
         self.in_sequence = program.in_sequence;
         taken
@@ -206,6 +229,112 @@ impl Program {
             }
         }
         Taken::UpTo(bytes)
+    }
+
+    /// The same for a sink that is told quiet operations in runs.
+    #[inline(always)]
+    fn runs<'a, S: ProgramSink>(
+        &mut self,
+        order: Order,
+        params: &Params,
+        header: &Header,
+        mut bytes: &'a [u8],
+        sink: &mut S,
+    ) -> Taken<'a>
+        requires usable { IsUsable params.now }
+        requires between { self.old.phase ≡ phase.Start }
+        ensures left { TakenLeaves (length bytes.entry.now) result }
+        ensures phase { self.new.phase ≡ self.old.phase }
+        ensures begun { self.new.begun ≡ self.old.begun }
+        ensures told { (b : List ℕ) (before : List Item) (first : S) → FitsProgram params.now → AllBytes bytes.entry.now
+            → ProgramStands order params.now self.old b
+            → (S.story first).hears sink.old before
+            → TakenTells (S.story first) order params.now header.now b bytes.entry.now before result self.new sink.new }
+    {
+        let mut untold = bytes;
+        while let Some((operation, tail)) = short_operation(order, params, bytes) {
+            let last = &bytes[..bytes.len() - tail.len()];
+            let run = run_before(order, params, untold, bytes);
+            bytes = tail;
+            if operation.appends_row() {
+                untold = tail;
+                match self.tell_row(params, header, run, last, operation, sink) {
+                    Some(row) => return Taken::Row(row, tail),
+                    None => continue,
+                }
+            }
+            self.finish(params, operation);
+            if operation.is_quiet() && last.len() <= QUIET_BYTES {
+                continue;
+            }
+            untold = tail;
+            sink.operation_after(header, run, last, operation);
+        }
+        tell_run(sink, header, run_before(order, params, untold, bytes));
+        Taken::UpTo(bytes)
+    }
+
+    /// The same as `tell_one`, of an operation that appends a row. Each kind of these has a copy of its own: in one copy for all of
+    /// them the registers would go through memory.
+    #[inline(always)]
+    fn tell_row<S: ProgramSink>(
+        &mut self,
+        params: &Params,
+        header: &Header,
+        run: QuietRun<'_>,
+        bytes: &[u8],
+        operation: Operation,
+        sink: &mut S,
+    ) -> Option<Row>
+        requires usable { IsUsable params.now }
+        requires run { IsUsable run.params.now }
+        ensures phase { self.new.phase ≡ self.old.phase }
+        ensures begun { self.new.begun ≡ self.old.begun }
+        ensures told { (made : Option Row) × ((before : List Operation) → FitsProgram params.now → HasRange operation
+            → self.old.registers ≡ registers_after params.now before
+            → self.old.in_sequence ≡ ends_open (matrix params.now before)
+            → Finishes params.now before operation made self.new)
+            × ((first : S) → HearsMade (S.story first) sink.old sink.new run.entry.order run.entry.params.now run.entry.bytes.now
+            header.now bytes.now operation made result) }
+    {
+        match operation {
+            Operation::Special(_) => self.tell_one(params, header, run, bytes, operation, sink),
+            Operation::Copy => self.tell_one(params, header, run, bytes, operation, sink),
+            _ => self.tell_one(params, header, run, bytes, operation, sink),
+        }
+    }
+
+    /// Applies an operation of these bytes, and tells the sink the run before it, itself and the row that it appends. It answers
+    /// the row at which the sink stops.
+    #[inline(always)]
+    fn tell_one<S: ProgramSink>(
+        &mut self,
+        params: &Params,
+        header: &Header,
+        run: QuietRun<'_>,
+        bytes: &[u8],
+        operation: Operation,
+        sink: &mut S,
+    ) -> Option<Row>
+        requires usable { IsUsable params.now }
+        requires run { IsUsable run.params.now }
+        ensures phase { self.new.phase ≡ self.old.phase }
+        ensures begun { self.new.begun ≡ self.old.begun }
+        ensures told { (made : Option Row) × ((before : List Operation) → FitsProgram params.now → HasRange operation
+            → self.old.registers ≡ registers_after params.now before
+            → self.old.in_sequence ≡ ends_open (matrix params.now before)
+            → Finishes params.now before operation made self.new)
+            × ((first : S) → HearsMade (S.story first) sink.old sink.new run.entry.order run.entry.params.now run.entry.bytes.now
+            header.now bytes.now operation made result) }
+    {
+        let Some(row) = self.finish(params, operation) else {
+            sink.operation_after(header, run, bytes, operation);
+            return None;
+        };
+        match sink.row_after(header, run, bytes, operation, &row) {
+            Flow::On => None,
+            Flow::Stop => Some(row),
+        }
     }
 
     /// Applies the current operation, which is complete, and gives the row that it appends, if any.

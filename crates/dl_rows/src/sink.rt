@@ -4,6 +4,7 @@ ghost use Rattle.std.specs.Prelude.{◌≡◌, [], ◌∷◌, ◌++◌, ◌≤�
 ghost use Rattle.dl_rows.specs.Items.{Item, a_byte, an_operation};
 
 use crate::operation::Operation;
+use crate::quiet_run::QuietRun;
 use crate::row::Row;
 use dl_head::Header;
 
@@ -16,12 +17,11 @@ pub enum Flow {
     Stop,
 }
 
-/// What hears the program of a unit: its bytes in their order, each operation after its last byte, and the row that it
-/// appends after that.
-pub trait ProgramSink {
+/// What hears the operations of a program: its bytes in their order, and each operation after its last byte.
+pub trait OperationSink {
     ghost use Rattle.std.specs.Prelude.{List, ◌∷◌, ◌++◌, [], map};
-    ghost use Rattle.dl_rows.specs.Items.{Item, a_byte, an_operation, a_row};
-    ghost use Rattle.dl_rows.specs.Sinks.{Story, Heard};
+    ghost use Rattle.dl_rows.specs.Items.{Item, a_byte, an_operation};
+    ghost use Rattle.dl_rows.specs.Sinks.{Story};
 
     /// What is said of the sink, `first` being what it was at the beginning.
     ghost story: { Self → Story Self };
@@ -35,16 +35,59 @@ pub trait ProgramSink {
     fn operation(&mut self, header: &Header, operation: Operation)
         ensures { (first : Self) (items : List Item) → (story first).hears self.old items
             → (story first).hears self.new (items ++ an_operation header.now operation ∷ []) };
+}
+
+/// What hears the program of a unit, and the row that an operation appends after the operation.
+pub trait ProgramSink: OperationSink {
+    ghost use Rattle.std.specs.Prelude.{List, ◌∷◌, ◌++◌, [], map};
+    ghost use Rattle.dl_rows.specs.Items.{Item, a_byte, an_operation, a_row};
+    ghost use Rattle.dl_field.specs.Usable.{IsUsable};
+    ghost use Rattle.dl_rows.specs.Quiet.{IsQuietRun, SpeltOne, items_of_run};
+    ghost use Rattle.dl_rows.specs.Sinks.{Heard};
 
     /// The row that this operation appends, under the header of its unit.
     fn row(&mut self, header: &Header, row: &Row) -> Flow
-        ensures { (first : Self) (items : List Item) → (story first).hears self.old items
-            → Heard (story first) self.new (items ++ a_row header.now row.now ∷ []) result };
+        ensures { (first : Self) (items : List Item) → (Self.story first).hears self.old items
+            → Heard (Self.story first) self.new (items ++ a_row header.now row.now ∷ []) result };
+
+    /// Whether quiet operations are told it in runs, by `operation_after` and `row_after`, and not each by itself.
+    #[inline(always)]
+    fn hears_runs(&self) -> bool {
+        false
+    }
+
+    /// The bytes of a run, each operation of it after its last byte, and then the bytes of this operation and itself, which
+    /// appends no row.
+    fn operation_after(
+        &mut self,
+        header: &Header,
+        run: QuietRun<'_>,
+        bytes: &[u8],
+        operation: Operation,
+    )
+        requires { IsUsable run.params.now }
+        ensures { (first : Self) (items : List Item) (ss : List SpeltOne) → (Self.story first).hears self.old items
+            → IsQuietRun run.entry.order run.entry.params.now run.entry.bytes.now ss
+            → (Self.story first).hears self.new (items ++ (items_of_run header.now ss ++ (map a_byte bytes.now ++ an_operation header.now operation ∷ []))) };
+
+    /// The same, and the row that this operation appends.
+    fn row_after(
+        &mut self,
+        header: &Header,
+        run: QuietRun<'_>,
+        bytes: &[u8],
+        operation: Operation,
+        row: &Row,
+    ) -> Flow
+        requires { IsUsable run.params.now }
+        ensures { (first : Self) (items : List Item) (ss : List SpeltOne) → (Self.story first).hears self.old items
+            → IsQuietRun run.entry.order run.entry.params.now run.entry.bytes.now ss
+            → Heard (Self.story first) self.new (items ++ (items_of_run header.now ss ++ (map a_byte bytes.now ++ an_operation header.now operation ∷ a_row header.now row.now ∷ []))) result };
 }
 
 /// Tells a sink the operation that ends where the tail begins, with those of its bytes that stand before it.
 #[inline(always)]
-pub(crate) fn tell_operation<S: ProgramSink>(
+pub(crate) fn tell_operation<S: OperationSink>(
     sink: &mut S,
     header: &Header,
     bytes: &[u8],
@@ -64,7 +107,7 @@ pub(crate) fn tell_operation<S: ProgramSink>(
 #[derive(Drop)]
 pub(crate) struct EachRow;
 
-impl ProgramSink for EachRow {
+impl OperationSink for EachRow {
     ghost use Rattle.dl_rows.specs.Each.{each_row};
 
     ghost story = { λ first. each_row };
@@ -74,9 +117,30 @@ impl ProgramSink for EachRow {
 
     #[inline(always)]
     fn operation(&mut self, _header: &Header, _operation: Operation) {}
+}
 
+impl ProgramSink for EachRow {
     #[inline(always)]
     fn row(&mut self, _header: &Header, _row: &Row) -> Flow {
+        Flow::Stop
+    }
+
+    fn operation_after(
+        &mut self,
+        _header: &Header,
+        _run: QuietRun<'_>,
+        _bytes: &[u8],
+        _operation: Operation,
+    ) {}
+
+    fn row_after(
+        &mut self,
+        _header: &Header,
+        _run: QuietRun<'_>,
+        _bytes: &[u8],
+        _operation: Operation,
+        _row: &Row,
+    ) -> Flow {
         Flow::Stop
     }
 }

@@ -1,6 +1,6 @@
 -- What is said of a visitor where it is told of a section, and of one that was told of all that was read.
 use Rattle.std.specs.Prelude.{⊤, ◌≡◌, ◌⊎◌, ℕ, take, List, [], ◌∷◌, ◌++◌, Option, Some, None, Result, Ok, Err}
-use Rattle.std.specs.Prelude.{MatchResult}
+use Rattle.std.specs.Prelude.{Bool, MatchResult, if◌then◌else◌}
 use Rattle.std.specs.Io.KnownBytes.{Appends}
 use Rattle.dl_head.specs.declared.dialect.Dialect.{Dialect}
 use Rattle.dl_field.specs.HeaderData.{HeaderData}
@@ -58,6 +58,14 @@ abbrev pub Hears : {S A : Type 0} → Story S → (old new : S) (before after : 
 Hears {S} story old new before after more result =
     (first : S) (start : Option (List ℕ)) (visits : List Visit) → story.tells first old start before visits
     → MatchResult result (λ _. story.tells first new start after (visits ++ more))
+    (StopsIn story first new start after visits more)
+
+-- it is told more visits, up to one at which it stops, or none of them
+abbrev pub HearsAll : {S : Type 0} → Story S → (old new : S) (before after : Option (List ℕ)) (more : List Visit)
+    → Result Bool RunFault → Type 0
+HearsAll {S} story old new before after more result =
+    (first : S) (start : Option (List ℕ)) (visits : List Visit) → story.tells first old start before visits
+    → MatchResult result (λ told. story.tells first new start after (if told then visits ++ more else visits))
     (StopsIn story first new start after visits more)
 
 -- how it stands after a unit

@@ -42,7 +42,7 @@ pub fn end_around(end: &Result<Survey, RunFault>) -> End
 }
 
 /// How it ends where these units are damaged.
-fn damage_end(damaged: Option<DamagedUnits>) -> End
+pub fn damage_end(damaged: Option<DamagedUnits>) -> End
     ensures { result ≡ damage_end damaged }
 {
     match damaged {
@@ -52,7 +52,7 @@ fn damage_end(damaged: Option<DamagedUnits>) -> End
 }
 
 /// How it ends for this fault. Where it is none of a section, memory is to blame.
-fn fault_end(fault: RunFault) -> End
+pub fn fault_end(fault: RunFault) -> End
     ensures { result ≡ fault_end fault }
 {
     match fault {

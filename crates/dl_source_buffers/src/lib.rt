@@ -6,5 +6,7 @@ mod line_places;
 mod room;
 mod source_files;
 
+pub use end::{End, damage_end, fault_end};
 pub use line_places::{PlaceRecord, lines};
+pub use room::put;
 pub use source_files::{SourceRecord, sources};

@@ -1,9 +1,12 @@
 //! Findings around damaged units.
-use crate::sections::{USUAL, assert_findings, of_rows, options, unit};
+use crate::sections::{USUAL, asked, assert_findings, of_rows, options, unit};
+use crate::sequences::{FIRST, SECOND, of_sequences};
 use dl_head::FaultKind;
-use dl_lint::{LintQuestion, Rule, lint_around};
+use dl_lint::{Rule, Rules, lint_around};
 use dl_memory::System;
 use dl_sections::{Damage, DamageSink, RunFault};
+use std::alloc::Global;
+use std::process::Abort;
 use std::test::Fail;
 use test_support::{Sink, Source};
 
@@ -55,29 +58,66 @@ fn damaged(rt: HostRuntime) -> Result<(), Fail> {
         of_rows(),
         (BEFORE, Err(fault)),
     );
-    let mut input = Source::new(section.as_slice(), 16);
+    let mut text = Vec::from_slice(alloc, BEFORE.as_bytes())?;
+    text.extend_from_slice(AFTER.as_bytes())?;
+    assert_around(
+        &rt,
+        alloc,
+        section.as_slice(),
+        of_rows(),
+        DAMAGE,
+        (text.as_slice(), Rule::EmptySequence, 2),
+    );
+    Ok(())
+}
+
+/// Two units on both sides of the damaged one cover the same places, which is told of the section as a whole.
+#[test]
+fn overlap(rt: HostRuntime) -> Result<(), Fail> {
+    let alloc = rt.alloc();
+    let mut section = unit(alloc, &USUAL, FIRST)?;
+    section.extend_from_slice(unit(alloc, &USUAL, BAD)?.as_slice())?;
+    section.extend_from_slice(unit(alloc, &USUAL, SECOND)?.as_slice())?;
+    let damage = Damage {
+        offset: 88,
+        kind: FaultKind::ExtendedEmpty,
+    };
+    let text =
+        b"0x8a overlap: row 2 at 0x0000000000001018 ends a sequence that covers 0x0000000000001008, as one of the unit at 0x0 does\n";
+    assert_around(
+        &rt,
+        alloc,
+        section.as_slice(),
+        of_sequences(),
+        damage,
+        (text, Rule::Overlap, 1),
+    );
+    Ok(())
+}
+
+/// Asserts what `lint_around` writes of a section with this damage, and how many findings of this rule it counts.
+fn assert_around(
+    rt: &impl Abort,
+    alloc: Global,
+    section: &[u8],
+    rules: Rules,
+    damage: Damage,
+    wanted: (&[u8], Rule, u64),
+) {
+    let (text, rule, count) = wanted;
+    let mut input = Source::new(section, 16);
     let mut output = Sink::new(alloc, 1 << 20, 1 << 20);
     let mut damages = Hearer { damage: None };
-    let question = LintQuestion {
-        rules: of_rows(),
-        json: false,
-    };
-    let memory = System::new(alloc);
+    let question = asked(rules, false);
     let answered = lint_around(
-        &memory,
+        &System::new(alloc),
         &mut input,
         &mut output,
         &question,
         &options(),
         &mut damages,
     );
-    assert_eq!(rt;
-        answered.map(|linted| linted.counts.of(Rule::EmptySequence)),
-        Ok(2)
-    );
-    assert_eq!(rt; damages.damage, Some(DAMAGE));
-    let mut text = Vec::from_slice(alloc, BEFORE.as_bytes())?;
-    text.extend_from_slice(AFTER.as_bytes())?;
-    assert_eq!(rt; output.held.as_slice(), text.as_slice());
-    Ok(())
+    assert_eq!(rt; answered.map(|linted| linted.counts.of(rule)), Ok(count));
+    assert_eq!(rt; damages.damage, Some(damage));
+    assert_eq!(rt; output.held.as_slice(), text);
 }

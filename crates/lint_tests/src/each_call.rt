@@ -1,6 +1,6 @@
 //! A fault at each read, and an output that takes any number of bytes.
-use crate::sections::{USUAL, of_rows, options, unit};
-use dl_lint::{LintQuestion, lint};
+use crate::sections::{USUAL, asked, of_rows, options, unit};
+use dl_lint::lint;
 use dl_memory::System;
 use dl_sections::RunFault;
 use std::test::Fail;
@@ -15,10 +15,7 @@ const TEXT: &str =
 #[test]
 fn each_read(rt: HostRuntime) -> Result<(), Fail> {
     let section = unit(rt.alloc(), &USUAL, "00 01 01")?;
-    let question = LintQuestion {
-        rules: of_rows(),
-        json: false,
-    };
+    let question = asked(of_rows(), false);
     for before in 0..4usize {
         let mut input = Source::new(section.as_slice(), 11).with_fault(before, Fault::Fails);
         let mut output = Sink::new(rt.alloc(), 1 << 20, 1 << 20);
@@ -39,10 +36,7 @@ fn each_read(rt: HostRuntime) -> Result<(), Fail> {
 #[test]
 fn each_room(rt: HostRuntime) -> Result<(), Fail> {
     let section = unit(rt.alloc(), &USUAL, "00 01 01")?;
-    let question = LintQuestion {
-        rules: of_rows(),
-        json: false,
-    };
+    let question = asked(of_rows(), false);
     for room in [0, 1, 87, 88, 181] {
         let mut input = Source::new(section.as_slice(), 11);
         let mut output = Sink::new(rt.alloc(), room, 1 << 20);

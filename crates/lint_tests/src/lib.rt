@@ -12,4 +12,6 @@ mod rules;
 #[cfg(test)]
 mod sections;
 #[cfg(test)]
+mod sequences;
+#[cfg(test)]
 mod tables;

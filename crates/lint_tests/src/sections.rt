@@ -2,7 +2,7 @@
 ghost use Rattle.std.specs.Prelude.{◌≤◌};
 
 use dl_head::{AddressSize, Dialect, Older};
-use dl_lint::{LintQuestion, Linted, Rule, Rules, lint};
+use dl_lint::{FindingForm, LintQuestion, Linted, Rule, Rules, lint};
 use dl_memory::System;
 use dl_num::Order;
 use dl_sections::{Options, RunFault, SECTION_LIMIT};
@@ -181,31 +181,44 @@ pub fn assert_told(
     json: bool,
     wanted: (&str, Result<(Rule, u64), RunFault>),
 ) {
-    assert_over(rt, alloc, section, (rules, json), &options(), wanted);
+    let question = asked(rules, json);
+    assert_over(rt, alloc, section, &question, &options(), wanted);
 }
 
-/// The same with these options.
+/// These rules, where no file is known.
+pub fn asked<'a>(rules: Rules, json: bool) -> LintQuestion<'a> {
+    LintQuestion {
+        rules,
+        form: if json {
+            FindingForm::Object
+        } else {
+            FindingForm::Line
+        },
+        code: None,
+        ranges: &[],
+    }
+}
+
+/// The same of what is asked, with these options.
 pub fn assert_over(
     rt: &impl Abort,
     alloc: Global,
     section: &[u8],
-    asked: (Rules, bool),
+    question: &LintQuestion<'_>,
     options: &Options<'_>,
     wanted: (&str, Result<(Rule, u64), RunFault>),
 )
     requires { options.now.limit ≤ SECTION_LIMIT }
 {
-    let (rules, json) = asked;
     let (text, answer) = wanted;
     for most in [1, 7, 4096] {
         let mut input = Source::new(section, most);
         let mut output = Sink::new(alloc, 1 << 20, 1 << 20);
-        let question = LintQuestion { rules, json };
         let answered = lint(
             &System::new(alloc),
             &mut input,
             &mut output,
-            &question,
+            question,
             options,
         );
         assert_answer(rt, answered, answer);

@@ -1,7 +1,7 @@
 //! What the rules of tables find.
 use crate::sections::{
-    DUPLICATES, OLDER_DUPLICATES, OLDER_UNUSED, TEXTS, UNUSED, USUAL, assert_findings, assert_over,
-    assert_told, unit, with_strings,
+    DUPLICATES, OLDER_DUPLICATES, OLDER_UNUSED, TEXTS, UNUSED, USUAL, asked, assert_findings,
+    assert_over, assert_told, unit, with_strings,
 };
 use dl_lint::{Rule, Rules};
 use std::test::Fail;
@@ -63,7 +63,7 @@ fn texts(rt: HostRuntime) -> Result<(), Fail> {
         &rt,
         rt.alloc(),
         section.as_slice(),
-        (rules, false),
+        &asked(rules, false),
         &options,
         wanted,
     );
@@ -79,7 +79,7 @@ fn texts(rt: HostRuntime) -> Result<(), Fail> {
         &rt,
         rt.alloc(),
         section.as_slice(),
-        (rules, true),
+        &asked(rules, true),
         &options,
         wanted,
     );

@@ -1,7 +1,7 @@
 use Rattle.std.proofs.Common.{◌∙◌, ◌∷◌, [], ap}
 use Rattle.dl_findings.specs.declared.finding.Finding.{Finding}
-use Rattle.dl_lint.specs.Operations.{longest_number, seen}
-use Rattle.dl_lint.proofs.AdvanceLemmas.{is_long, not_long}
+use Rattle.dl_operation_rules.specs.Operations.{longest_number, seen}
+use Rattle.dl_lint.proofs.OperationLemmas.{is_long, not_long}
 use Rattle.dl_lint.proofs.operation_rules.long_number.Goals as goal
 
 pub returns-then-not-is_long : goal.returns-then-not-is_long

@@ -3,8 +3,9 @@ use Rattle.std.specs.Prelude.{if◌then◌else◌}
 use Rattle.dl_field.specs.declared.params.Params.{Params}
 use Rattle.dl_findings.specs.declared.finding.Finding.{Finding}
 use Rattle.dl_findings.specs.declared.finding.Found.TheVariants as found
-use Rattle.dl_lint.specs.OperationRules.{at_operation, is_unknown}
-use Rattle.dl_lint.specs.Operations.{seen}
+use Rattle.dl_operation_rules.specs.Judging.{is_unknown}
+use Rattle.dl_lint.specs.OperationRules.{at_operation}
+use Rattle.dl_operation_rules.specs.Operations.{seen}
 use Rattle.dl_lint.proofs.operation_rules.opcode_found.Goals as goal
 
 pub returns-then-not-is_unknown : goal.returns-then-not-is_unknown

@@ -2,8 +2,8 @@ use Rattle.std.proofs.Common.{◌∙◌, ◌∷◌, ℕ, [], ap}
 use Rattle.dl_findings.specs.declared.finding.Finding.{Finding}
 use Rattle.dl_findings.specs.declared.finding.Found.TheVariants as found
 use Rattle.dl_lint.specs.OperationRules.{at_operation}
-use Rattle.dl_lint.specs.Operations.{seen}
-use Rattle.dl_lint.proofs.AdvanceLemmas.{is_wrapped, not_wrapped}
+use Rattle.dl_operation_rules.specs.Operations.{seen}
+use Rattle.dl_lint.proofs.OperationLemmas.{is_wrapped, not_wrapped}
 use Rattle.dl_lint.proofs.operation_rules.wrapped_address.Goals as goal
 
 pub returns-then-not-wraps : goal.returns-then-not-wraps

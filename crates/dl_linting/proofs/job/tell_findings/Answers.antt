@@ -53,7 +53,7 @@ returns-in-Some-clause-ran g c = (
   Consumes-nil _,
   λ untold. words_on_named (g.M.Memory.refuses c.args.memory.now) (g.F.FileSource.held c.args.files.now)
       (g.F.FileSource.fails_with c.args.files.now) (lint_words_made c.args.words.now) _ _ c.in-Some.path.now _ _ _ _ c.on_named.result _
-      (sym c.are_sizes.ensures ∙ c.if-not-are_sizes.false) c.in_ok-rules.ensures.known (c.in_ok-rules.ensures.asked, refl, refl)
+      (sym c.are_sizes.ensures ∙ c.if-not-are_sizes.false) c.in_ok-rules.ensures.known (c.in_ok-rules.ensures.asked, c.form_of.ensures, refl)
       (ap (option_map (λ s. s.now)) c.in-Some.is) c.units_of_file-units.ensures c.answer_over_file.ensures
       (c.on_named.ensures.ran untold),
 )
@@ -77,7 +77,7 @@ returns-in-None-clause-ran g c =
       done.1,
       λ untold. words_on_input (g.M.Memory.refuses c.args.memory.now) (g.F.FileSource.held c.args.files.now)
           (g.F.FileSource.fails_with c.args.files.now) (lint_words_made c.args.words.now) _ (section_seen c.section.result) done.0 _ _ _ _ _
-          (sym c.are_sizes.ensures ∙ c.if-not-are_sizes.false) c.in_ok-rules.ensures.known (c.in_ok-rules.ensures.asked, refl, refl)
+          (sym c.are_sizes.ensures ∙ c.if-not-are_sizes.false) c.in_ok-rules.ensures.known (c.in_ok-rules.ensures.asked, c.form_of.ensures, refl)
           (ap (option_map (λ s. s.now)) c.in-None.is) c.section.ensures (done.2 untold),
     )
 

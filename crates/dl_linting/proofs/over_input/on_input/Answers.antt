@@ -1,11 +1,31 @@
-use Rattle.std.proofs.Common.{◌∙◌, [], inr, refl, subst, sym}
+use Rattle.std.proofs.Common.{◌∙◌, [], inl, inr, refl, subst, sym}
 use Rattle.std.proofs.KnownBytes.{Consumes-nil, Keeps-refl}
 use Rattle.dl_open.specs.Files.{FilesStop}
 use Rattle.dl_sections.proofs.BlameLemmas.{blames_where}
 use Rattle.dl_sections.specs.declared.fault.RunFault.{RunFault}
 use Rattle.dl_program.specs.Held.{section_seen}
 use Rattle.dl_program.proofs.BlameLemmas.{files_writer, same_stop, stopped_read, stopped_writer}
+use Rattle.dl_linting.proofs.LintingLemmas.{told_with}
 use Rattle.dl_linting.proofs.over_input.on_input.Goals as goal
+
+pub returns-in-Ok-clause-ran : goal.returns-in-Ok-clause-ran
+returns-in-Ok-clause-ran g c =
+    let ran = c.lint_section.ensures.ran in (
+      ran.0,
+      ran.1,
+      λ untold. inl (
+        _,
+        c.in-Ok.ensures,
+        c.lint_section.result,
+        c.stopped.ensures,
+        c.of_section-wish.result,
+        c.of_section-wish.ensures,
+        told_with (g.M.Memory.refuses c.args.memory.now) c.of_section-wish.result _ _ _ _ _ ran.0 _ _ _
+            (g.D.DamageSink.hears c.args.damages.now c.lint_section.new.damages) c.lint_section.result
+            (c.options-options.ensures.dialect ∙ c.dialect.ensures) c.options-options.ensures.strings
+            c.options-options.ensures.limit (ran.2 untold),
+      ),
+    )
 
 pub returns-in-Err-clause-ran : goal.returns-in-Err-clause-ran
 returns-in-Err-clause-ran g c = (

@@ -4,6 +4,7 @@ use Rattle.dl_lint.proofs.FilesLemmas.{files_quiet}
 use Rattle.dl_lint.proofs.KeptLemmas.{reached_quiet}
 use Rattle.dl_lint.proofs.LintingLemmas.{lints_nothing}
 use Rattle.dl_lint.proofs.OperationLemmas.{knows_on}
+use Rattle.dl_lint.proofs.SequenceLemmas.{sequences_quiet}
 use Rattle.dl_lint.proofs.linting.LinterVisitor.foreign.Goals as goal
 
 pub returns-clause-heard : goal.returns-clause-heard
@@ -12,4 +13,5 @@ returns-clause-heard g c first start visits linted =
     lints_nothing linted c.args.self.now.at c.args.self.now.operations (v ∷ []) refl refl
     (linted.reached ∙ sym (reached_quiet visits v refl refl refl refl refl))
     (knows_on c.args.self.now.operations visits v linted.knows)
-    (files_quiet first.report.rules visits v refl (λ n. refl) (λ h e. e) c.args.self.now.files.now refl linted.files)
+    (files_quiet first.report.question.now.rules visits v refl (λ n. refl) (λ h e. e) c.args.self.now.files.now refl linted.files)
+    (sequences_quiet first.report.question.now visits v refl refl refl c.args.self.now.sequences.now linted.sequences)

@@ -1,14 +1,15 @@
-use Rattle.std.proofs.Common.{◌≡◌, ◌∙◌, refl, ap}
+use Rattle.std.proofs.Common.{◌≡◌, ◌∙◌, refl, ap, ap₂}
 use Rattle.std.proofs.lemmas.Result.{err_from_is_err_and}
 use Rattle.dl_rows.specs.Items.{an_operation}
 use Rattle.dl_field.specs.declared.params.Params.{Params}
 use Rattle.dl_sections.specs.Section.{of_item}
 use Rattle.dl_look.specs.declared.place.Place.{Place}
-use Rattle.dl_lint.specs.Operations.{moved_by, reduced, seen}
+use Rattle.dl_operation_rules.specs.Operations.{moved_by, place_after, seen}
 use Rattle.dl_lint.specs.Linting.{strings_of}
 use Rattle.dl_lint.proofs.FilesLemmas.{files_quiet}
 use Rattle.dl_lint.proofs.LintingLemmas.{lints, loses}
 use Rattle.dl_lint.proofs.OperationLemmas.{knows_on}
+use Rattle.dl_lint.proofs.SequenceLemmas.{sequences_quiet}
 use Rattle.dl_lint.proofs.linting.LinterVisitor.operation.Goals as goal
 
 pub returns-in_err-tell_operation-clause-heard : goal.returns-in_err-tell_operation-clause-heard
@@ -29,11 +30,12 @@ returns-clause-heard g c first start visits linted =
     let at = c.args.self.now.operations.place in
     let moves : c.moved_by-moved.result ≡ moved_by h.params at o =
     c.moved_by-moved.ensures ∙ ap (λ (p : Params). moved_by p at o) c.params-params.ensures.value in
-    let place : c.place.result ≡ reduced h.params (moved_by h.params (seen visits).place o) =
-    c.place.ensures ∙ ap (λ (p : Params). reduced p c.moved_by-moved.result) c.params-params.ensures.value
-    ∙ ap (reduced h.params) moves ∙ ap (λ (a : Place). reduced h.params (moved_by h.params a o)) linted.knows.place in
+    let place : c.place_after-place.result ≡ place_after h.params (seen visits).place o =
+    c.place_after-place.ensures c.moved_by-moved.ensures
+    ∙ ap₂ (λ (p : Params) (a : Place). place_after p a o) c.params-params.ensures.value linted.knows.place in
     lints linted _ (g.W.Write.contents c.tell_operation.new.output) (of_item (an_operation h o))
     (c.in_ok-tell_operation.ensures.told (strings_of first) visits linted.reached linted.knows moves) refl refl refl refl
-    (c.with_operation-self.ensures visits h o linted.reached)
-    (knows_on _ visits (of_item (an_operation h o)) (c.with_operation.ensures (seen visits) h linted.knows place))
-    (files_quiet first.report.rules visits (of_item (an_operation h o)) refl (λ n. refl) (λ k e. e) c.args.self.now.files.now refl linted.files)
+    (c.operation-2.ensures visits h o linted.reached)
+    (knows_on _ visits (of_item (an_operation h o)) (c.operation.ensures (seen visits) h linted.knows place))
+    (files_quiet first.report.question.now.rules visits (of_item (an_operation h o)) refl (λ n. refl) (λ k e. e) c.args.self.now.files.now refl linted.files)
+    (sequences_quiet first.report.question.now visits (of_item (an_operation h o)) refl refl refl c.args.self.now.sequences.now linted.sequences)

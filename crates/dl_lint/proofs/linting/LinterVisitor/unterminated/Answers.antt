@@ -8,6 +8,7 @@ use Rattle.dl_lint.proofs.FilesLemmas.{files_quiet}
 use Rattle.dl_lint.proofs.KeptLemmas.{reached_quiet}
 use Rattle.dl_lint.proofs.LintingLemmas.{lints, loses}
 use Rattle.dl_lint.proofs.OperationLemmas.{knows_on}
+use Rattle.dl_lint.proofs.SequenceLemmas.{sequences_quiet}
 use Rattle.dl_lint.proofs.linting.LinterVisitor.unterminated.Goals as goal
 
 pub returns-in_err-tell-clause-heard : goal.returns-in_err-tell-clause-heard
@@ -28,4 +29,5 @@ returns-clause-heard g c first start visits linted =
     (c.no_end.ensures visits linted.reached) c.in_ok-tell.ensures.told) refl refl refl refl
     (linted.reached ∙ sym (reached_quiet visits of_open refl refl refl refl refl))
     (knows_on c.args.self.now.operations visits of_open linted.knows)
-    (files_quiet first.report.rules visits of_open refl (λ n. refl) (λ h e. e) c.args.self.now.files.now refl linted.files)
+    (files_quiet first.report.question.now.rules visits of_open refl (λ n. refl) (λ h e. e) c.args.self.now.files.now refl linted.files)
+    (sequences_quiet first.report.question.now visits of_open refl refl refl c.args.self.now.sequences.now linted.sequences)

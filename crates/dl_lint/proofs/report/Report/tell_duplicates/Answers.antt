@@ -12,7 +12,7 @@ use Rattle.dl_lint.proofs.report.Report.tell_duplicates.Goals as goal
 pub returns-then-not-contains-clause-told : goal.returns-then-not-contains-clause-told
 returns-then-not-contains-clause-told g c ordered =
     told_none (g.W.Write.contents c.args.output.now) c.args.self.now (duplicates_found c.args.unit c.args.header.now)
-    (no_duplicates c.args.self.now.rules c.args.unit c.args.header.now (sym c.contains.ensures ∙ c.if-not-contains.true))
+    (no_duplicates c.args.self.now.question.now.rules c.args.unit c.args.header.now (sym c.contains.ensures ∙ c.if-not-contains.true))
 
 pub loop-place-init : goal.loop-place-init
 loop-place-init g c =

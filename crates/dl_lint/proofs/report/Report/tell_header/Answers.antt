@@ -5,7 +5,7 @@ use Rattle.dl_sections.specs.Section.{Visit, of_header}
 use Rattle.dl_findings.specs.declared.finding.Finding.{Finding}
 use Rattle.dl_findings.specs.Chosen.{is_chosen}
 use Rattle.dl_findings.specs.declared.rule.Rule.TheVariants as rule
-use Rattle.dl_findings.specs.declared.rules.Rules.{Rules}
+use Rattle.dl_lint.specs.declared.question.LintQuestion.{LintQuestion}
 use Rattle.dl_print.specs.ValueText.{Strings}
 use Rattle.dl_table_rules.specs.TableFindings.{duplicates_found, missing_found}
 use Rattle.dl_lint.specs.Findings.{findings_at}
@@ -37,7 +37,7 @@ returns-in_err-tell_directories-clause-told g c s visits ends ordered =
     let h = c.args.header.now in
     let v = of_header unit c.args.lengths.now h in
     let old = g.W.Write.contents c.args.output.now in
-    let f0 = none_yet old c.args.self.now (findings_at s visits v) in
+    let f0 = none_yet old c.args.self.now (findings_at s c.args.self.now.question.now visits v) in
     rw (e.1, e.2) (lost f0 (directories_found unit h) (after_directories s visits v) refl
     (g.W.Write.contents c.tell_directories.new.output) c.tell_directories.new.self (directories_found unit h) refl _ (c.in_err-tell_directories.ensures.told))
 
@@ -48,12 +48,12 @@ returns-in_err-tell_missing-clause-told g c s visits ends ordered =
     let h = c.args.header.now in
     let v = of_header unit c.args.lengths.now h in
     let old = g.W.Write.contents c.args.output.now in
-    let f0 = none_yet old c.args.self.now (findings_at s visits v) in
+    let f0 = none_yet old c.args.self.now (findings_at s c.args.self.now.question.now visits v) in
     let f1 = more_told f0 (directories_found unit h) (after_directories s visits v) refl
     (g.W.Write.contents c.tell_directories.new.output) c.tell_directories.new.self (directories_found unit h) refl (c.in_ok-tell_directories.ensures.told) in
     rw (e.1, e.2) (lost f1 (missing_found s unit h) (after_missing visits v) refl
     (g.W.Write.contents c.tell_missing.new.output) c.tell_missing.new.self (missing_found s unit h) refl _ (c.in_err-tell_missing.ensures.told s
-    (λ is. ends (sym (ap (λ (r : Rules). is_chosen r rule.MissingText) f1.adds.rules) ∙ is))))
+    (λ is. ends (sym (ap (λ (q : LintQuestion). is_chosen q.rules rule.MissingText) f1.adds.question) ∙ is))))
 
 pub returns-in_err-tell_duplicates-clause-told : goal.returns-in_err-tell_duplicates-clause-told
 returns-in_err-tell_duplicates-clause-told g c s visits ends ordered =
@@ -62,15 +62,15 @@ returns-in_err-tell_duplicates-clause-told g c s visits ends ordered =
     let h = c.args.header.now in
     let v = of_header unit c.args.lengths.now h in
     let old = g.W.Write.contents c.args.output.now in
-    let f0 = none_yet old c.args.self.now (findings_at s visits v) in
+    let f0 = none_yet old c.args.self.now (findings_at s c.args.self.now.question.now visits v) in
     let f1 = more_told f0 (directories_found unit h) (after_directories s visits v) refl
     (g.W.Write.contents c.tell_directories.new.output) c.tell_directories.new.self (directories_found unit h) refl (c.in_ok-tell_directories.ensures.told) in
     let f2 = more_told f1 (missing_found s unit h) (after_missing visits v) refl
     (g.W.Write.contents c.tell_missing.new.output) c.tell_missing.new.self (missing_found s unit h) refl (c.in_ok-tell_missing.ensures.told s
-    (λ is. ends (sym (ap (λ (r : Rules). is_chosen r rule.MissingText) f1.adds.rules) ∙ is))) in
+    (λ is. ends (sym (ap (λ (q : LintQuestion). is_chosen q.rules rule.MissingText) f1.adds.question) ∙ is))) in
     rw (e.1, e.2) (lost f2 (duplicates_found unit h) (after_duplicates visits v) refl
     (g.W.Write.contents c.tell_duplicates.new.output) c.tell_duplicates.new.self (duplicates_found unit h) refl _ (c.in_err-tell_duplicates.ensures.told
-    (λ is. ordered (sym (ap (λ (r : Rules). is_chosen r rule.DuplicateFile) f2.adds.rules) ∙ is))))
+    (λ is. ordered (sym (ap (λ (q : LintQuestion). is_chosen q.rules rule.DuplicateFile) f2.adds.question) ∙ is))))
 
 pub returns-in_err-tell_any-clause-told : goal.returns-in_err-tell_any-clause-told
 returns-in_err-tell_any-clause-told g c s visits ends ordered =
@@ -79,15 +79,15 @@ returns-in_err-tell_any-clause-told g c s visits ends ordered =
     let h = c.args.header.now in
     let v = of_header unit c.args.lengths.now h in
     let old = g.W.Write.contents c.args.output.now in
-    let f0 = none_yet old c.args.self.now (findings_at s visits v) in
+    let f0 = none_yet old c.args.self.now (findings_at s c.args.self.now.question.now visits v) in
     let f1 = more_told f0 (directories_found unit h) (after_directories s visits v) refl
     (g.W.Write.contents c.tell_directories.new.output) c.tell_directories.new.self (directories_found unit h) refl (c.in_ok-tell_directories.ensures.told) in
     let f2 = more_told f1 (missing_found s unit h) (after_missing visits v) refl
     (g.W.Write.contents c.tell_missing.new.output) c.tell_missing.new.self (missing_found s unit h) refl (c.in_ok-tell_missing.ensures.told s
-    (λ is. ends (sym (ap (λ (r : Rules). is_chosen r rule.MissingText) f1.adds.rules) ∙ is))) in
+    (λ is. ends (sym (ap (λ (q : LintQuestion). is_chosen q.rules rule.MissingText) f1.adds.question) ∙ is))) in
     let f3 = more_told f2 (duplicates_found unit h) (after_duplicates visits v) refl
     (g.W.Write.contents c.tell_duplicates.new.output) c.tell_duplicates.new.self (duplicates_found unit h) refl (c.in_ok-tell_duplicates.ensures.told
-    (λ is. ordered (sym (ap (λ (r : Rules). is_chosen r rule.DuplicateFile) f2.adds.rules) ∙ is))) in
+    (λ is. ordered (sym (ap (λ (q : LintQuestion). is_chosen q.rules rule.DuplicateFile) f2.adds.question) ∙ is))) in
     rw (e.1, e.2) (lost f3 (padding_at visits v) (after_padding v) refl
     (g.W.Write.contents c.tell_any.new.output) c.tell_any.new.self (option_to_list c.padding.result) (c.padding.ensures visits h) _ (c.in_err-tell_any.ensures.told))
 
@@ -97,15 +97,15 @@ returns-clause-told g c s visits ends ordered =
     let h = c.args.header.now in
     let v = of_header unit c.args.lengths.now h in
     let old = g.W.Write.contents c.args.output.now in
-    let f0 = none_yet old c.args.self.now (findings_at s visits v) in
+    let f0 = none_yet old c.args.self.now (findings_at s c.args.self.now.question.now visits v) in
     let f1 = more_told f0 (directories_found unit h) (after_directories s visits v) refl
     (g.W.Write.contents c.tell_directories.new.output) c.tell_directories.new.self (directories_found unit h) refl (c.in_ok-tell_directories.ensures.told) in
     let f2 = more_told f1 (missing_found s unit h) (after_missing visits v) refl
     (g.W.Write.contents c.tell_missing.new.output) c.tell_missing.new.self (missing_found s unit h) refl (c.in_ok-tell_missing.ensures.told s
-    (λ is. ends (sym (ap (λ (r : Rules). is_chosen r rule.MissingText) f1.adds.rules) ∙ is))) in
+    (λ is. ends (sym (ap (λ (q : LintQuestion). is_chosen q.rules rule.MissingText) f1.adds.question) ∙ is))) in
     let f3 = more_told f2 (duplicates_found unit h) (after_duplicates visits v) refl
     (g.W.Write.contents c.tell_duplicates.new.output) c.tell_duplicates.new.self (duplicates_found unit h) refl (c.in_ok-tell_duplicates.ensures.told
-    (λ is. ordered (sym (ap (λ (r : Rules). is_chosen r rule.DuplicateFile) f2.adds.rules) ∙ is))) in
+    (λ is. ordered (sym (ap (λ (q : LintQuestion). is_chosen q.rules rule.DuplicateFile) f2.adds.question) ∙ is))) in
     let f4 = more_told f3 (padding_at visits v) (after_padding v) refl
     (g.W.Write.contents c.tell_any.new.output) c.tell_any.new.self (option_to_list c.padding.result) (c.padding.ensures visits h) (c.in_ok-tell_any.ensures.told) in
     told_last f4 (contents_found unit h) [] refl (g.W.Write.contents c.tell_contents.new.output) c.tell_contents.new.self

@@ -9,7 +9,7 @@ use Rattle.dl_lint.proofs.report.Report.tell_missing.Goals as goal
 pub returns-then-not-contains-clause-told : goal.returns-then-not-contains-clause-told
 returns-then-not-contains-clause-told g c s ends =
     told_none (g.W.Write.contents c.args.output.now) c.args.self.now (missing_found s c.args.unit c.args.header.now)
-    (no_missing c.args.self.now.rules c.args.unit s (sym c.contains.ensures ∙ c.if-not-contains.true) c.args.header.now)
+    (no_missing c.args.self.now.question.now.rules c.args.unit s (sym c.contains.ensures ∙ c.if-not-contains.true) c.args.header.now)
 
 pub returns-in_err-tell_missing_of-clause-told : goal.returns-in_err-tell_missing_of-clause-told
 returns-in_err-tell_missing_of-clause-told g c s ends =

@@ -14,7 +14,7 @@ returns-in_err-tell_any-clause-told g c s visits is knows moves =
     let h = c.args.header.now in
     let o = c.args.operation in
     let v = of_item (an_operation h o) in
-    let f0 = none_yet (g.W.Write.contents c.args.output.now) c.args.self.now (findings_at s visits v) in
+    let f0 = none_yet (g.W.Write.contents c.args.output.now) c.args.self.now (findings_at s c.args.self.now.question.now visits v) in
     rw (e.1, e.2) (lost f0 (long_number_at visits v)
     (wrapped_address_at visits v ++ (unknown_opcode_at visits v ++ [])) refl (g.W.Write.contents c.tell_any.new.output)
     c.tell_any.new.self (option_to_list c.long_number.result) (c.long_number.ensures visits h o is knows) _
@@ -26,7 +26,7 @@ returns-in_err-tell_any-2-clause-told g c s visits is knows moves =
     let h = c.args.header.now in
     let o = c.args.operation in
     let v = of_item (an_operation h o) in
-    let f0 = none_yet (g.W.Write.contents c.args.output.now) c.args.self.now (findings_at s visits v) in
+    let f0 = none_yet (g.W.Write.contents c.args.output.now) c.args.self.now (findings_at s c.args.self.now.question.now visits v) in
     let f1 = more_told f0 (long_number_at visits v) (wrapped_address_at visits v ++ (unknown_opcode_at visits v ++ [])) refl
     (g.W.Write.contents c.tell_any.new.output) c.tell_any.new.self (option_to_list c.long_number.result)
     (c.long_number.ensures visits h o is knows) c.in_ok-tell_any.ensures.told in
@@ -39,7 +39,7 @@ returns-clause-told g c s visits is knows moves =
     let h = c.args.header.now in
     let o = c.args.operation in
     let v = of_item (an_operation h o) in
-    let f0 = none_yet (g.W.Write.contents c.args.output.now) c.args.self.now (findings_at s visits v) in
+    let f0 = none_yet (g.W.Write.contents c.args.output.now) c.args.self.now (findings_at s c.args.self.now.question.now visits v) in
     let f1 = more_told f0 (long_number_at visits v) (wrapped_address_at visits v ++ (unknown_opcode_at visits v ++ [])) refl
     (g.W.Write.contents c.tell_any.new.output) c.tell_any.new.self (option_to_list c.long_number.result)
     (c.long_number.ensures visits h o is knows) c.in_ok-tell_any.ensures.told in

@@ -58,7 +58,7 @@ returns-in-Stop-clause-given g c b before first fits all s hears =
       gives = row_given turned o.1;
       taken = o.0;
       split = o.1;
-      sink = subst ((g.S.ProgramSink.story first).stops _) (items_told turned c.args.header.now heard)
+      sink = subst ((g.S.OperationSink.story first).stops _) (items_told turned c.args.header.now heard)
           (c.in-Stop.ensures first _ (c.tell_operation.ensures first heard o.0 told o.1));
     }))
 

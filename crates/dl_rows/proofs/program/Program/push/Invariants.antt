@@ -10,8 +10,8 @@ abbrev pub invariant-loop-bytes : goal.invariant-loop-bytes
 invariant-loop-bytes g l = record {
   fewer : length l.bytes ≤ length l.fn.bytes;
   tells : (b : List ℕ) (before : List Item) (first : g.row.S.Denot) → FitsProgram l.fn.params → AllBytes l.fn.bytes
-      → ProgramStands l.fn.order l.fn.params l.fn.self b → (g.S.ProgramSink.story first).hears l.fn.sink before
-      → Telling (g.S.ProgramSink.story first) l.fn.order l.fn.params l.fn.header b l.fn.bytes before l.self l.bytes l.sink;
+      → ProgramStands l.fn.order l.fn.params l.fn.self b → (g.S.OperationSink.story first).hears l.fn.sink before
+      → Telling (g.S.OperationSink.story first) l.fn.order l.fn.params l.fn.header b l.fn.bytes before l.self l.bytes l.sink;
 }
 
 abbrev pub decreases-loop-bytes : goal.decreases-loop-bytes

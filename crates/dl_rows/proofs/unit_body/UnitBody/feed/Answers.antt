@@ -8,7 +8,7 @@ use Rattle.dl_rows.proofs.unit_body.UnitBody.feed.Goals as goal
 
 pub returns-in-Row-clause-fed : goal.returns-in-Row-clause-fed
 returns-in-Row-clause-fed g c b before first is hears =
-    let t = tells_in {S = g.row.S.Denot} {story = g.S.ProgramSink.story first} is c.args.piece.now (sym c.params.ensures.value)
+    let t = tells_in {S = g.row.S.Denot} {story = g.S.OperationSink.story first} is c.args.piece.now (sym c.params.ensures.value)
     c.front-bytes.ensures (λ i lt. omega (arith, c.type_inv.piece i))
     (λ d fits bytes stands. c.in-Row.ensures.given d before first fits bytes stands hears) in
     let size = ap (λ (w : List ℕ). length w - length c.in-Row.tail.now) c.front-bytes.ensures in
@@ -21,7 +21,7 @@ returns-in-Row-clause-fed g c b before first is hears =
 
 pub returns-in-Refuses-clause-fed : goal.returns-in-Refuses-clause-fed
 returns-in-Refuses-clause-fed g c b before first is hears =
-    let t = tells_in {S = g.row.S.Denot} {story = g.S.ProgramSink.story first} is c.args.piece.now (sym c.params.ensures.value)
+    let t = tells_in {S = g.row.S.Denot} {story = g.S.OperationSink.story first} is c.args.piece.now (sym c.params.ensures.value)
     c.front-bytes.ensures (λ i lt. omega (arith, c.type_inv.piece i))
     (λ d fits bytes stands. c.in-Refuses.ensures.given d before first fits bytes stands hears) in
     let size = ap (λ (w : List ℕ). length w - length c.in-Refuses.tail.now) c.front-bytes.ensures in
@@ -36,7 +36,7 @@ returns-in-Refuses-clause-fed g c b before first is hears =
 
 pub returns-then-not-is_between-clause-fed : goal.returns-then-not-is_between-clause-fed
 returns-then-not-is_between-clause-fed g c b before first is hears =
-    let t = tells_in {S = g.row.S.Denot} {story = g.S.ProgramSink.story first} is c.args.piece.now (sym c.params.ensures.value)
+    let t = tells_in {S = g.row.S.Denot} {story = g.S.OperationSink.story first} is c.args.piece.now (sym c.params.ensures.value)
     c.front-bytes.ensures (λ i lt. omega (arith, c.type_inv.piece i))
     (λ d fits bytes stands. c.in-Nothing.ensures.given d before first fits bytes stands hears) in
     record {
@@ -52,7 +52,7 @@ returns-then-not-is_between-clause-fed g c b before first is hears =
 
 pub returns-else-self-eq0-clause-fed : goal.returns-else-self-eq0-clause-fed
 returns-else-self-eq0-clause-fed g c b before first is hears =
-    let t = tells_in {S = g.row.S.Denot} {story = g.S.ProgramSink.story first} is c.args.piece.now (sym c.params.ensures.value)
+    let t = tells_in {S = g.row.S.Denot} {story = g.S.OperationSink.story first} is c.args.piece.now (sym c.params.ensures.value)
     c.front-bytes.ensures (λ i lt. omega (arith, c.type_inv.piece i))
     (λ d fits bytes stands. c.in-Nothing.ensures.given d before first fits bytes stands hears) in
     let none = no_row_paused c.pause.result.event c.pause.ensures.pause in
@@ -74,6 +74,6 @@ returns-else-self-eq0-clause-fed g c b before first is hears =
       heard = heard_in is t (omega (arith, c.pause.ensures.used, ap length c.front-bytes.ensures)) (record {
         rows = none;
         late = no_opening_paused c.pause.result.event c.pause.ensures.pause;
-        sink = goes_on (g.S.ProgramSink.story first) c.push.new.sink (Ok c.pause.result) none;
+        sink = goes_on (g.S.OperationSink.story first) c.push.new.sink (Ok c.pause.result) none;
       });
     }

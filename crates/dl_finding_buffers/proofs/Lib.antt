@@ -1,0 +1,2 @@
+pub mod LintLemmas
+pub mod RecordLemmas

@@ -1,0 +1,2 @@
+pub mod AdvanceLemmas
+pub mod OperationLemmas

@@ -1,0 +1,104 @@
+-- What is kept of the bytes of an operation, and of the operations of a unit. No promise rests on this file.
+use Rattle.std.specs.Prelude.{⊤, ◌≡◌, ℕ, Bool, true, false, not, ◌==◌, ◌<◌, ◌+◌, ◌*◌, ◌^◌, max, nat_lt, if◌then◌else◌, List, fold}
+use Rattle.std.specs.Prelude.{Option, Some, None, slice_index_or}
+use Rattle.std.specs.List.{list_any}
+use Rattle.dl_field.specs.declared.params.Params.{Params}
+use Rattle.dl_look.specs.declared.place.Place.{Place}
+use Rattle.dl_rows.specs.declared.operation.Operation.{Operation}
+use Rattle.dl_findings.specs.Counting.{at_most_64_bits}
+use Rattle.dl_findings.specs.declared.finding.Opcode.{Opcode}
+use Rattle.dl_findings.specs.declared.finding.Opcode.TheVariants as opcode
+use Rattle.dl_operation_rules.specs.Judging.{is_advance, is_same}
+use Rattle.dl_operation_rules.specs.Operations.{UnitSeen, moved_by, moves, passed_over}
+use Rattle.dl_operation_rules.specs.declared.advance.Moved.{Moved}
+use Rattle.dl_operation_rules.specs.declared.advance.Step.{Step}
+use Rattle.dl_operation_rules.specs.declared.advance.Step.TheVariants as step
+use Rattle.dl_operation_rules.specs.declared.byte_set.ByteSet.{ByteSet}
+use Rattle.dl_operation_rules.specs.declared.operation_read.OpcodeRead.{OpcodeRead}
+use Rattle.dl_operation_rules.specs.declared.operation_read.OpcodeRead.TheVariants as read
+use Rattle.dl_operation_rules.specs.declared.operation_read.OperationRead.{OperationRead}
+use Rattle.dl_operation_rules.specs.declared.operations.Operations.{Operations}
+
+-- a zero byte begins an extended opcode: its length follows, in LEB128, and then its number
+abbrev pub opcode_with : OpcodeRead → ℕ → OpcodeRead
+opcode_with read.Unread b = if b == 0 then read.Length else read.Single b
+opcode_with read.Length b = if nat_lt b 128 then read.Number else read.Length
+opcode_with read.Number b = read.Extended b
+opcode_with known b = known
+
+-- the next byte is one of a number in LEB128
+abbrev pub is_in_number : OpcodeRead → Bool
+is_in_number read.Length = true
+is_in_number (read.Single b) = true
+is_in_number (read.Extended b) = b == 4
+is_in_number other = false
+
+-- more bytes say nothing
+abbrev pub is_settled : OpcodeRead → Bool
+is_settled (read.Extended b) = not (b == 4)
+is_settled other = false
+
+-- a byte has come
+abbrev pub has_begun : OpcodeRead → Bool
+has_begun read.Unread = false
+has_begun other = true
+
+abbrev pub known_opcode : OpcodeRead → Option Opcode
+known_opcode (read.Single b) = Some (opcode.Standard b)
+known_opcode (read.Extended b) = Some (opcode.Extended b)
+known_opcode other = None
+
+-- a byte of a number more
+abbrev pub counted : OperationRead → ℕ → OperationRead
+counted r b = record {
+  opcode = opcode_with r.opcode b;
+  begun = if nat_lt b 128 then 0 else at_most_64_bits (r.begun + 1);
+  longest = max r.longest (at_most_64_bits (r.begun + 1));
+}
+
+abbrev pub read_with : OperationRead → ℕ → OperationRead
+read_with r b = if is_in_number r.opcode then counted r b else record r { opcode = opcode_with r.opcode b }
+
+abbrev pub unread : OperationRead
+unread = record { opcode = read.Unread; begun = 0; longest = 0 }
+
+-- of the bytes of an operation
+abbrev pub operation_read : List ℕ → OperationRead
+operation_read bytes = fold read_with unread bytes
+
+abbrev pub has_byte : ByteSet → ℕ → Bool
+has_byte bytes b = slice_index_or bytes.has b false
+
+abbrev pub has_passed : Operations → Opcode → Bool
+has_passed operations (opcode.Standard b) = has_byte operations.standard b
+has_passed operations (opcode.Extended b) = has_byte operations.extended b
+
+-- they are what is seen
+pub record Knows (operations : Operations) (s : UnitSeen) : Type 0 where
+  pub read : operations.read ≡ operation_read s.bytes
+  pub place : operations.place ≡ s.place
+  pub passed : (o : Opcode) → has_passed operations o ≡ list_any (is_same o) s.opcodes
+
+-- ---- where an operation leads
+
+abbrev pub to : (address op_index : ℕ) → Moved
+to address op_index = record { address = address; op_index = op_index }
+
+-- to this address, which fits the size of one, with op_index as it is; and it isn't passed over
+pub record LeadsTo (p : Params) (at : Place) (o : Operation) (address : ℕ) : Type 0 where
+  pub moves : moves o ≡ true
+  pub moved : moved_by p at o ≡ to address at.op_index
+  pub fits : address < 2 ^ (8 * p.address_size)
+  pub known : (bytes : List ℕ) → passed_over o bytes ≡ None
+
+-- nowhere else; and it isn't passed over
+pub record Stays (o : Operation) : Type 0 where
+  pub moves : moves o ≡ false
+  pub advance : is_advance o ≡ false
+  pub known : (bytes : List ℕ) → passed_over o bytes ≡ None
+
+-- as far as it is plain
+abbrev pub StepIs : Params → Place → Operation → Step → Type 0
+StepIs p at o step.Stays = Stays o
+StepIs p at o (step.To address) = LeadsTo p at o address
+StepIs p at o step.Unclear = ⊤

@@ -1,0 +1,11 @@
+pub mod AloneLemmas
+pub mod BothLemmas
+pub mod CutPoints
+pub mod NoCodeLemmas
+pub mod OverlapLemmas
+pub mod OwnerLemmas
+pub mod Placed
+pub mod PlaceLemmas
+pub mod SequenceLemmas
+pub mod TouchLemmas
+pub mod WithoutLemmas
