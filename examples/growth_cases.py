@@ -51,8 +51,8 @@ def sections():
 def many_files():
     """Members of an archive, and files of a list, which are the same one."""
     small = elf(units(8))
-    for command in ("dump", "check"):
-        yield over_file("members", 200, [command, "elf"], lambda n: {"elf": inputs.archive(small["elf"], n)})
+    for command, status in (("dump", 0), ("check", 0), ("sources", 0), ("lint", 1)):
+        yield over_file("members", 200, [command, "elf"], lambda n: {"elf": inputs.archive(small["elf"], n)}, status)
     yield over_file("a list", 200, ["check", "--files-from", "list"], lambda n: {**small, "list": b"elf\n" * n})
 
 
@@ -103,6 +103,9 @@ def sequences():
         yield Case(f"{name}: addr - ADDRESS..", 3000, lambda n, made=made: Input(["addr", "-", *asked(n)], made(n)))
     yield Case("units: addr - ADDRESS..", 1500, lambda n: Input(["addr", "-", *asked(n, 64)], units(n)))
     yield over_file("sections of code", 1500, MAKE, inputs.code)
+    for name, made in [("sequences alike", inputs.alike), ("nested sequences", inputs.nested), ("stairs", inputs.stairs)]:
+        yield over_input(name, 3000, ["lint", "--rule", "overlap"], made, 1)
+    yield over_file("sections of code without sequences", 1500, ["lint", "--rule", "no-code", "elf"], lambda n: inputs.code(n, n), 1)
 
 
 def headers():

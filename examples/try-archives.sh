@@ -31,12 +31,13 @@ says() {
 }
 
 # of_members COMMAND ARCHIVE MEMBER..: what the command, of one word or several, prints of the members, which are files by their names too.
+# The status is 1 where it finds something.
 of_members() {
     local member words
     read -ra words <<< "$1"
     for member in "${@:3}"; do
         echo "$2($member):"
-        "$dwline" "${words[@]}" "$member"
+        "$dwline" "${words[@]}" "$member" 2> /dev/null || [ $? = 1 ]
     done
 }
 
@@ -56,17 +57,28 @@ ar rc empty.a
         [ $((size % 2)) = 0 ] || printf '\n'
     done
 } > bsd.a
-for command in dump check; do
+# A member that is no whole file, one whose file isn't there, and one with a unit that is damaged, of which the header's length is
+# too large: the others are gone through.
+head -c $(($(stat -c %s gcc.o) / 2)) gcc.o > half.o
+cp gcc.o gone.o
+ar rcS stops.a half.o gcc.o
+ar rcT unopened.a gone.o gcc.o
+rm gone.o
+lines=$((0x$(readelf -SW gcc.o | sed -n 's/.* \.debug_line  *PROGBITS  *[0-9a-f]*  *\([0-9a-f]*\) .*/\1/p')))
+cp gcc.o damaged.o
+printf '\377\377' | dd of=damaged.o bs=1 seek=$((lines + 8)) conv=notrunc status=none
+ar rc damaged.a damaged.o gcc.o
+for command in dump check sources "lint --rule overlap"; do
     for archive in lib.a thin.a bsd.a; do
-        of_members $command $archive gcc.o $long > wanted
+        of_members "$command" $archive gcc.o $long > wanted
         says 0 "" /dev/null $command $archive
     done
-    of_members $command lib.a gcc.o $long > wanted
+    of_members "$command" lib.a gcc.o $long > wanted
     says 0 $'lib.a: 2 members without a line table\n' /dev/null $command --verbose lib.a
     : > wanted
     says 0 "" /dev/null $command empty.a
     # Cut in a member, in the second header, and behind the magic.
-    of_members $command cut.a gcc.o > wanted
+    of_members "$command" cut.a gcc.o > wanted
     size=$(stat -c %s gcc.o)
     for end in $((68 + size + size % 2 + 62)) $((68 + size + size % 2 + 40)); do
         ar rc whole.a gcc.o gcc.o
@@ -78,10 +90,54 @@ for command in dump check; do
     head -c 40 lib.a > cut.a
     : > wanted
     says 1 $'dwline: cut.a: damaged archive\n' /dev/null $command cut.a
+    of_members "$command" stops.a half.o gcc.o > wanted
+    says 1 $'dwline: stops.a(half.o): damaged ELF file: section headers\n' /dev/null $command stops.a
+    of_members "$command" unopened.a gcc.o > wanted
+    says 3 $'dwline: unopened.a(gone.o): cannot open: No such file or directory (os error 2)\n' /dev/null $command unopened.a
+    for words in "$command" "$command --keep-going"; do
+        of_members "$words" damaged.a damaged.o gcc.o > wanted
+        says 1 $'dwline: damage at 0x8: header goes past the unit\n' /dev/null $words damaged.a
+    done
 done
 
-of_members "dump --header" lib.a gcc.o $long > wanted
-says 0 "" /dev/null dump --header lib.a
+for command in "dump --header" "dump --json" "sources --rows" "sources --md5" "sources --json" "sources --unit 0" "sources --keep-going"; do
+    of_members "$command" lib.a gcc.o $long > wanted
+    says 0 "" /dev/null $command lib.a
+done
+of_members "sources --unit 5" lib.a gcc.o $long > wanted
+says 1 $'dwline: no unit at this offset\ndwline: no unit at this offset\n' /dev/null sources --unit 5 lib.a
+
+# The findings of all members are counted in one line.
+counted=$'findings: duplicate-file=1 unused-file=2\n'
+for archive in lib.a thin.a bsd.a; do
+    for command in "lint" "lint --json" "lint --keep-going"; do
+        of_members "$command" $archive gcc.o $long > wanted
+        says 1 "$counted" /dev/null $command $archive
+    done
+done
+of_members "lint" lib.a gcc.o $long > wanted
+says 1 "${counted}lib.a: 2 members without a line table"$'\n' /dev/null lint --verbose lib.a
+# One of two members has a finding.
+for command in "lint --rule duplicate-file" "lint --no-rule unused-file"; do
+    of_members "$command" lib.a gcc.o $long > wanted
+    says 1 $'findings: duplicate-file=1\n' /dev/null $command lib.a
+done
+head -c $(($(stat -c %s lib.a) - 1)) lib.a > cut.a
+of_members "lint" cut.a gcc.o > wanted
+says 1 $'findings: unused-file=1\ndwline: cut.a: damaged archive\n' /dev/null lint cut.a
+of_members "lint" stops.a half.o gcc.o > wanted
+says 1 $'dwline: stops.a(half.o): damaged ELF file: section headers\nfindings: unused-file=1\n' /dev/null lint stops.a
+
+# Words that are wrong are told once, and before any member.
+: > wanted
+for archive in lib.a thin.a empty.a; do
+    for command in "lint --rule none" "lint --rule overlap --no-rule none" "lint --json --rule none"; do
+        says 2 $'dwline: none is no rule\n' /dev/null $command $archive
+    done
+    for command in "lint --address-size 3" "sources --address-size 3" "sources --unit none"; do
+        says 2 $'dwline: words not understood\n' /dev/null $command $archive
+    done
+done
 
 nl=$'\n'
 # alike MEMBER ARCHIVE INPUT WORD..: what `dwline WORD..` answers of a member, `@` among the words being its path, is what it answers
@@ -94,7 +150,7 @@ alike() {
 }
 
 # The line before the first member can't be written.
-for command in dump check; do
+for command in dump check sources lint; do
     status=0
     "$dwline" $command lib.a > /dev/full 2> errors || status=$?
     if [ $status = 3 ] && cmp -s errors <(echo "dwline: cannot write the output"); then
@@ -110,7 +166,7 @@ done
 printf '0\n0x1\n' > addresses
 for archive in lib.a thin.a bsd.a; do
     for member in gcc.o $long; do
-        for words in "dump @" "check @" "index -o - @" "addr @ 0 1 1000000" "find 0 @"; do
+        for words in "dump @" "check @" "sources @" "lint @" "lint --rule overlap @" "index -o - @" "addr @ 0 1 1000000" "find 0 @"; do
             read -ra words <<< "$words"
             alike $member $archive /dev/null "${words[@]}"
         done

@@ -18,7 +18,7 @@ pub struct Counts {
 
 impl Counts {
     /// Of no members.
-    pub(crate) fn none() -> Counts
+    pub fn none() -> Counts
         ensures worst { result.worst ≡ 0 }
         ensures passed_over { result.passed_over ≡ 0 }
     {
@@ -29,7 +29,7 @@ impl Counts {
     }
 
     /// Counts what came of a member; its fault where the line before it can't be written.
-    pub(crate) fn add(&mut self, step: Step) -> Result<(), WriteFault>
+    pub fn add(&mut self, step: Step) -> Result<(), WriteFault>
         ensures counted { Adds self.old self.new (step ∷ []) }
         ensures written { IfOk result (λ _. IsWritten step) }
         ensures fault { IfErr result (λ fault. step ≡ Unwritten fault) }

@@ -55,7 +55,7 @@ fn open_beside<F: FileSource>(files: &F, path: &str, name: &[u8]) -> io::Result<
 }
 
 /// The file of a member of this name, of the archive at a path, open to be read.
-pub(crate) fn file_of_member<'a, F: FileSource, S: ReadAt>(
+pub fn file_of_member<'a, F: FileSource, S: ReadAt>(
     files: &F,
     path: &str,
     archive: &'a S,

@@ -133,7 +133,7 @@ fn put_in_parentheses(path: &mut PathText, name: &[u8]) -> Result<(), TooLong>
 }
 
 /// The path of a member, of which the name is shown as text.
-pub(crate) fn path_of_member(archive: &str, name: &[u8]) -> Result<PathText, TooLong>
+pub fn path_of_member(archive: &str, name: &[u8]) -> Result<PathText, TooLong>
     ensures { MatchResult result (λ path. path.bytes ≡ member_path archive.now (readable name.now))
         (λ _. 8194 < length (member_path archive.now (readable name.now))) }
 {

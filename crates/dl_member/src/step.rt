@@ -68,10 +68,10 @@ fn print_path<W: Destination>(
     printer.put(output, b":\n")
 }
 
-/// Writes it.
+/// Writes the line before what is printed of the file under a path.
 // Apart from what is done then, so that the printer takes none of its stack.
 #[inline(never)]
-fn write_path<W: Destination>(output: &mut W, path: &str) -> Result<(), WriteFault>
+pub fn write_path<W: Destination>(output: &mut W, path: &str) -> Result<(), WriteFault>
     ensures written { MatchResult result
         (λ _. Appends (W.contents output.old) (W.contents output.new) (member_line path.now))
         (TellsOut (W.contents output.old) (W.contents output.new) (member_line path.now)) }
@@ -118,7 +118,7 @@ fn over_file<M: MapMemory, F: FileSource, S: ReadAt, W: Destination, T: MemberSi
 }
 
 /// Tells that the file at a path can't be opened.
-fn tell_unopened<T: MemberSink>(path: &str, error: io::Error, sink: &mut T) -> Step
+pub fn tell_unopened<T: MemberSink>(path: &str, error: io::Error, sink: &mut T) -> Step
     ensures step { result ≡ Done 3 }
     ensures told { T.tells sink.old sink.new (File path.entry (Open error)) }
 {

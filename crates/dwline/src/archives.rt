@@ -1,9 +1,10 @@
 //! Archives, and members of archives, as FILE.
 
 use crate::ending::{Ending, report};
+use crate::members::{MemberWork, walk_each};
 use dl_archive::archive_kind;
 use dl_cmd::Job;
-use dl_member::{MemberFault, WalkFault, split_member, walk_members};
+use dl_member::{MemberFault, WalkFault, Walked, split_member, walk_members};
 use dl_memory::System;
 use dl_open::{FileSource, Shown};
 use dl_program::{Stop, StopLines};
@@ -52,10 +53,14 @@ pub fn what_stands<'a>(rt: &HostRuntime, path: &'a str) -> Standing<'a> {
 
 /// Whether a job goes through the members of an archive.
 pub fn is_over_members(job: &Job<'_>) -> bool {
-    matches!(job, Job::Dump(_) | Job::Check { .. })
+    matches!(
+        job,
+        Job::Dump(_) | Job::Check { .. } | Job::Lint(_) | Job::Sources(_)
+    )
 }
 
-/// Does what a job says, which is `dump` or `check`, of each member of the archive at this path, and answers the worst status.
+/// Does what a job says, which is `dump`, `check`, `lint` or `sources`, of each member of the archive at this path, and answers the
+/// worst status.
 #[inline(never)]
 pub fn run_members(
     rt: &HostRuntime,
@@ -64,7 +69,24 @@ pub fn run_members(
     archive: &SystemFile,
     is_verbose: bool,
 ) -> u8 {
-    let walked = walk_members(
+    match walk(rt, job, path, archive) {
+        Ok(walked) => tell_walked(rt, path, walked, is_verbose),
+        Err(stop) => report(rt, Ending::Stop(stop)),
+    }
+}
+
+/// Does what a job says of each member of the archive at this path, and answers what came of them; the stop where the words of
+/// `lint` or `sources` are to blame.
+fn walk<'a>(
+    rt: &'a HostRuntime,
+    job: &'a Job<'a>,
+    path: &'a str,
+    archive: &'a SystemFile,
+) -> Result<Walked, Stop<'a>> {
+    if let Some(work) = MemberWork::of(job) {
+        return walk_each(rt, work, path, archive);
+    }
+    Ok(walk_members(
         &System::new(rt.alloc()),
         job,
         &SystemFiles { rt },
@@ -72,7 +94,11 @@ pub fn run_members(
         archive,
         &mut rt.stdout(),
         &mut StopLines::new(rt.stderr()),
-    );
+    ))
+}
+
+/// Tells how a walk over the members of the archive at this path ended, and answers the worst status.
+fn tell_walked(rt: &HostRuntime, path: &str, walked: Walked, is_verbose: bool) -> u8 {
     if is_verbose {
         let _ = writeln!(
             rt.stderr(),

@@ -3,7 +3,9 @@
 
 mod archives;
 mod ending;
+mod findings;
 mod indices;
+mod members;
 mod progress;
 mod running;
 mod sections;

@@ -4,7 +4,7 @@ use crate::ending::Ending;
 use crate::indices::{list_index, write_index};
 use dl_addr::WhichFound;
 use dl_cmd::{AddrWords, IndexWords, Job, LinesWords, LintWords, SourcesWords};
-use dl_linting::{FindingCounts, RULES, tell_findings, write_counts};
+use dl_linting::{FindingCounts, LintedAround, RULES, tell_findings, write_counts};
 use dl_locating::{find_lines, list_sources, locate};
 use dl_memory::System;
 use dl_open::{FileSource, FileUnits, units_not_read};
@@ -34,7 +34,7 @@ pub fn run_job<'a, F: FileSource>(
         Job::Addr(words) => run_addr(rt, files, words, path, read),
         Job::Index(words) => run_index(rt, files, words, path, read),
         Job::Lines(words) => run_lines(rt, files, words, path, read),
-        Job::Sources(words) => run_sources(rt, files, words),
+        Job::Sources(words) => Ok(run_sources(rt, files, words)?),
         Job::Lint(words) => run_lint(rt, files, words),
         Job::Dump(_) | Job::Check { .. } | Job::Find { .. } | Job::Copy { .. } => {
             run_work(rt, files, job, path, read)
@@ -112,11 +112,11 @@ fn run_lines<'a, F: FileSource>(
 }
 
 /// Lists the source files.
-fn run_sources<'a, F: FileSource>(
+pub fn run_sources<'a, F: FileSource>(
     rt: &HostRuntime,
     files: &F,
     words: &SourcesWords<'a>,
-) -> Result<u8, Ending<'a>> {
+) -> Result<u8, Stop<'a>> {
     let survey = list_sources(
         &System::new(rt.alloc()),
         words,
@@ -125,7 +125,7 @@ fn run_sources<'a, F: FileSource>(
         &mut rt.stdout(),
     )?;
     match survey.damaged {
-        Some(units) => Err(Ending::Stop(Stop::Damaged { units })),
+        Some(units) => Err(Stop::Damaged { units }),
         None => Ok(0),
     }
 }
@@ -140,30 +140,43 @@ fn has_any(counts: &FindingCounts) -> bool {
     false
 }
 
-/// Tells what in a line table misleads a debugger, and how many findings there are. The status is 1 where there is one.
-fn run_lint<'a, F: FileSource>(
+/// Tells what in a line table misleads a debugger.
+pub fn lint<'a, F: FileSource>(
     rt: &HostRuntime,
     files: &F,
     words: &LintWords<'a>,
-) -> Result<u8, Ending<'a>> {
+) -> Result<LintedAround, Stop<'a>> {
     let mut damages = StopLines::new(rt.stderr());
-    let linted = tell_findings(
+    tell_findings(
         &System::new(rt.alloc()),
         words,
         files,
         &mut rt.stdin(),
         &mut rt.stdout(),
         &mut damages,
-    )?;
-    let has_findings = has_any(&linted.counts);
-    if has_findings {
-        let _ = write_counts(&mut rt.stderr(), &linted.counts);
-    }
-    Ok(if has_findings || linted.survey.damaged.is_some() {
+    )
+}
+
+/// The status: 1 where there is a finding, and where a unit is damaged.
+pub fn lint_status(linted: &LintedAround) -> u8 {
+    if has_any(&linted.counts) || linted.survey.damaged.is_some() {
         1
     } else {
         0
-    })
+    }
+}
+
+/// Tells what in a line table misleads a debugger, and how many findings there are.
+fn run_lint<'a, F: FileSource>(
+    rt: &HostRuntime,
+    files: &F,
+    words: &LintWords<'a>,
+) -> Result<u8, Ending<'a>> {
+    let linted = lint(rt, files, words)?;
+    if has_any(&linted.counts) {
+        let _ = write_counts(&mut rt.stderr(), &linted.counts);
+    }
+    Ok(lint_status(&linted))
 }
 
 /// Does the work of the other commands.
