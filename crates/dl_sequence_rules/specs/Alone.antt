@@ -1,5 +1,4 @@
--- Which sequences share no place with another one, by their stretches in the order of their first places. No promise rests on this
--- file.
+-- Which sequences share no place with another one, by their stretches in order. No promise rests on this file.
 use Rattle.std.specs.Prelude.{◌≡◌, ◌≢◌, ℕ, ◌<◌, ◌≤◌, ◌&&◌, Bool, true, false, List, length, slice_index_or}
 use Rattle.dl_look.specs.declared.place.Place.{Place}
 use Rattle.dl_look.specs.Answer.{is_at_most, is_below}
