@@ -20,12 +20,12 @@ use Rattle.dl_lint.specs.Keeping.{KnowsFiles}
 use Rattle.dl_lint.specs.TableRules.{file_of, files_named}
 use Rattle.dl_lint.specs.declared.unit_files.UnitFiles.{UnitFiles}
 
-unit_offset-append : (n : ℕ) (a b : List Visit) → unit_offset n (a ++ b) ≡ unit_offset (unit_offset n a) b
+pub unit_offset-append : (n : ℕ) (a b : List Visit) → unit_offset n (a ++ b) ≡ unit_offset (unit_offset n a) b
 unit_offset-append n [] b = refl
 unit_offset-append n (of_header m l h ∷ a) b = unit_offset-append m a b
 unit_offset-append n (v ∷ a) b = unit_offset-append n a b
 
-named-push : (visits : List Visit) (v : Visit) → is_header v ≡ false
+pub named-push : (visits : List Visit) (v : Visit) → is_header v ≡ false
     → files_named (visits ++ v ∷ []) ≡ files_named visits ++ flat_map file_of (row_of v)
 named-push visits v other =
     ap (λ (unit : List Visit). flat_map file_of (flat_map row_of unit))

@@ -26,6 +26,12 @@ module _ (s : Strings) (q : LintQuestion) where
       ∙ ap (λ (l : List Visit). (here ++ findings_after s q (before ++ v ∷ []) a) ++ findings_after s q l b)
       (append_assoc before (v ∷ []) a)
 
+  -- where nothing is found at more
+  pub found_none : (visits more : List Visit) → findings_after s q visits more ≡ [] → findings_in s q (visits ++ more) ≡ findings_in s q visits
+  found_none visits more none =
+      findings-append [] visits more
+      ∙ ap (λ (l : List Finding). findings_in s q visits ++ l) none ∙ append-nil (findings_in s q visits)
+
   -- one visit more
   pub findings-push : (visits : List Visit) (v : Visit)
       → findings_in s q (visits ++ v ∷ []) ≡ findings_in s q visits ++ chosen q.rules (findings_at s q visits v)

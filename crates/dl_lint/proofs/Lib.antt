@@ -1,12 +1,13 @@
 pub mod KeptLemmas
 pub mod OperationLemmas
+pub mod PlainLemmas
+pub mod PlainGoing
+pub mod PlainRowsGoing
 pub mod FilesLemmas
 pub mod SequenceLemmas
 pub mod FindingLemmas
 pub mod TellLemmas
 pub mod LintingLemmas
-pub mod AtOnceLemmas
-pub mod RunLemmas
 pub mod SectionLemmas
 pub mod RowLemmas
 pub mod CommandLemmas

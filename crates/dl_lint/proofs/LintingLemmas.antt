@@ -28,18 +28,19 @@ use Rattle.dl_lint.specs.declared.linting.Linter.{Linter}
 use Rattle.dl_operation_rules.specs.declared.operations.Operations.{Operations}
 use Rattle.dl_lint.specs.declared.reached.Reached.{Reached}
 use Rattle.dl_lint.specs.declared.sequences_seen.SequencesSeen.{SequencesSeen}
+use Rattle.dl_lint.specs.declared.unit_files.UnitFiles.{UnitFiles}
 use Rattle.dl_findings.specs.Chosen.{is_chosen}
 use Rattle.dl_findings.specs.Counting.{Counts}
 use Rattle.dl_findings.specs.declared.rule.Rule.TheVariants as rule
 use Rattle.dl_table_rules.specs.Keeping.{AreEnds}
-use Rattle.dl_lint.specs.Findings.{chosen, findings_after, findings_at, findings_in}
+use Rattle.dl_lint.specs.Findings.{chosen, findings_at, findings_in}
 use Rattle.dl_findings.specs.FindingTold.{findings_text}
 use Rattle.dl_operation_rules.specs.Keeping.{Knows}
 use Rattle.dl_operation_rules.specs.Operations.{nothing_seen, seen}
 use Rattle.dl_lint.specs.Keeping.{KnowsFiles, KnowsSequences, reached_by}
 use Rattle.dl_lint.specs.Linting.{HasLinted, RefusesSome, WantsFiles, lint_story, strings_of, text_by}
 use Rattle.dl_lint.specs.Telling.{Tells, told_text}
-use Rattle.dl_lint.proofs.FindingLemmas.{findings-append, findings-push, text-append}
+use Rattle.dl_lint.proofs.FindingLemmas.{findings-push, text-append}
 use Rattle.dl_lint.proofs.FilesLemmas.{files_quiet}
 use Rattle.dl_lint.proofs.SequenceLemmas.{sequences_quiet}
 use Rattle.dl_lint.specs.Wanting.{RefusesAt}
@@ -112,14 +113,13 @@ module _ {M D : Type 0} {hears : D → D → List Damage → Type 0} {first old 
   )
 
   -- nothing is found at more visits
-  pub lints_nothing : (at : Reached) (operations : Operations) (more : List Visit) → findings_after s q visits more ≡ [] → damages_told more ≡ []
+  pub lints_nothing : (at : Reached) (operations : Operations) (named : UnitFiles) (more : List Visit)
+      → findings_in s q (visits ++ more) ≡ findings_in s q visits → damages_told more ≡ []
       → at ≡ reached_by (visits ++ more) → Knows operations (seen (visits ++ more))
-      → KnowsFiles q.rules old.files.now (visits ++ more) → KnowsSequences q old.sequences.now (visits ++ more)
-      → HasLinted hears first (record old { at = at; operations = operations }) start before (visits ++ more)
-  lints_nothing at operations more none quiet reached knows files sequences =
-      let same : findings_in s q visits ≡ findings_in s q (visits ++ more) =
-      sym (findings-append s q [] visits more ∙ ap (λ (l : List Finding). findings_in s q visits ++ l) none
-      ∙ append-nil (findings_in s q visits)) in
+      → KnowsFiles q.rules named (visits ++ more) → KnowsSequences q old.sequences.now (visits ++ more)
+      → HasLinted hears first (record old { at = at; operations = operations; files = record old.files { now = named } }) start before (visits ++ more)
+  lints_nothing at operations named more none quiet reached knows files sequences =
+      let same : findings_in s q visits ≡ findings_in s q (visits ++ more) = sym none in
       record {
         memory = linted.memory;
         question = linted.question;

@@ -24,7 +24,7 @@ use Rattle.dl_lint.specs.OperationRules.{at_operation, long_found, wrapped_found
 
 -- ---- visits
 
-seen-push : (visits : List Visit) (v : Visit) → seen (visits ++ v ∷ []) ≡ seen_with (seen visits) v
+pub seen-push : (visits : List Visit) (v : Visit) → seen (visits ++ v ∷ []) ≡ seen_with (seen visits) v
 seen-push visits v = fold-append seen_with nothing_seen visits (v ∷ [])
 
 -- one visit more

@@ -1,9 +1,11 @@
 -- What is kept of visits. No promise rests on this file.
-use Rattle.std.specs.Prelude.{◌≡◌, ℕ, ◌+◌, ◌^◌, ◌<◌, Bool, true, false, List, [], ◌∷◌, length, IfSome, MatchOption, Some, None}
+use Rattle.std.specs.Prelude.{◌≡◌, ℕ, ◌+◌, ◌-◌, ◌%◌, ◌^◌, ◌<◌, ◌≤◌, ◌==◌, ◌||◌, ◌⊎◌, Bool, true, false, if◌then◌else◌, List, [], ◌∷◌, length, IfSome, MatchOption, Some, None, is_none}
 use Rattle.dl_field.specs.HeaderData.{HeaderData}
 use Rattle.std.specs.List.{before_last, list_any}
 use Rattle.dl_rows.specs.declared.row.Row.{Row}
-use Rattle.dl_look.specs.Answer.{first_place, is_rising, last_place}
+use Rattle.dl_head.specs.Numbers.{file_numbered}
+use Rattle.dl_rows.specs.declared.plain_run.PlainRows.{PlainRows}
+use Rattle.dl_look.specs.Answer.{first_place, is_below, is_rising, last_place}
 use Rattle.dl_sections.specs.Copying.{offset_after as unit_offset}
 use Rattle.dl_sections.specs.Section.{Visit}
 use Rattle.dl_sections.specs.Visiting.{header_told}
@@ -11,6 +13,8 @@ use Rattle.dl_findings.specs.Chosen.{is_chosen}
 use Rattle.dl_findings.specs.declared.rule.Rule.TheVariants as rule
 use Rattle.dl_findings.specs.declared.rules.Rules.{Rules}
 use Rattle.dl_table_rules.specs.Keeping.{AreNamed}
+use Rattle.dl_table_rules.specs.Unused.{is_among}
+use Rattle.dl_operation_rules.specs.Operations.{at_address}
 use Rattle.dl_sequence_rules.specs.Keeping.{AreDead, IsAddressCoverage, IsCoverage}
 use Rattle.dl_sequence_rules.specs.SequenceFindings.{overlaps_after}
 use Rattle.dl_sequence_rules.specs.declared.ended.Ended.{Ended}
@@ -56,12 +60,51 @@ reached_by visits = record {
   sequence = sequence_of (sequence_told visits);
 }
 
--- those of an operation of so many bytes after a run of so many, where no other one has begun
-pub record AreAfter (at : Reached) (run bytes : ℕ) (o : Offsets) : Type 0 where
+-- ---- of a plain run
+
+-- those of the last operation, of so many bytes, of a run of so many, where no operation has begun before
+pub record AreOf (at : Reached) (bytes last : ℕ) (o : Offsets) : Type 0 where
   pub whole : at.begun ≡ at.next
-  pub begin : o.begin ≡ at.next + run
-  pub end : o.end ≡ o.begin + bytes
+  pub some : 1 ≤ bytes
+  pub end : o.end ≡ at.next + bytes
+  pub begin : o.begin + last ≡ o.end
   pub fits : o.end < 2 ^ 64
+
+-- a sequence with its rows, of which there are some
+abbrev pub with_rows : Sequence → PlainRows → Sequence
+with_rows s rows = record s {
+  has_begun = true;
+  first = if s.has_begun then s.first else at_address rows.first;
+  has_statement = s.has_statement || rows.has_statement;
+}
+
+-- what is kept after it
+abbrev pub after_run : Reached → Offsets → PlainRows → Reached
+after_run at o rows =
+    if rows.count == 0 then record at { operation = o.begin; begun = o.end; next = o.end } else record {
+      operation = o.begin;
+      begun = o.end;
+      next = o.end;
+      rows = at_most_64_bits (at.rows + rows.count);
+      last = at_address rows.last;
+      sequence = with_rows at.sequence rows;
+    }
+
+-- where its first row is no multiple of the least length of an instruction from the first one of its sequence, or the rule isn't
+-- known to find nothing
+abbrev pub first_of : Sequence → (address : ℕ) → ℕ
+first_of s address = if s.has_begun then s.first.address else address
+
+pub record FitsLength (least first address : ℕ) : Type 0 where
+  pub after : first ≤ address
+  pub whole : (address - first) % least ≡ 0
+
+-- the rules of rows find nothing at its rows
+pub record AreGoodRows (at : Reached) (h : HeaderData) (rows : PlainRows) : Type 0 where
+  pub files : (file : ℕ) → is_among rows.files.items file ≡ true → is_none (file_numbered h file) ≡ false
+  pub rises : at.sequence.has_begun ≡ true → is_below (at_address rows.first) at.last ≡ false
+  pub whole : (h.params.minimum_instruction_length ≤ 1)
+      ⊎ FitsLength h.params.minimum_instruction_length (first_of at.sequence rows.first) rows.first
 
 -- ---- of files
 

@@ -14,7 +14,7 @@ use crate::finishing::{Finishing, read_around};
 use crate::question::{LintQuestion, Linted, LintedAround};
 use crate::reached::{BEFORE_UNITS, Reached};
 use crate::report::Report;
-use crate::row_rules::{is_good_row, no_end};
+use crate::row_rules::{are_good_rows, no_end};
 use crate::sequences_seen::SequencesSeen;
 use crate::unit_files::UnitFiles;
 use dl_findings::{FindingCounts, Rule, Rules};
@@ -24,7 +24,7 @@ use dl_memory::{Memory, NoMemory};
 use dl_operation_rules::{Operations, moved_by, place_after};
 use dl_output::Destination;
 use dl_print::{Printer, WriteFault};
-use dl_rows::{Flow, Operation, QuietRun, Row};
+use dl_rows::{Flow, Operation, PlainRun, Row};
 use dl_sections::{
     AroundDamage, Damage, DamageSink, Options, RunFault, SECTION_LIMIT, Survey, Visitor,
     read_units, read_units_around,
@@ -99,7 +99,13 @@ impl<W: Destination, M: Memory, D: DamageSink> Visitor<W> for Linter<'_, M, D> {
     }
 
     fn row(&mut self, output: &mut W, header: &Header, row: &Row) -> Result<(), RunFault> {
-        self.one_row(output, header, row)
+        let unit = self.files.unit();
+        self.sequences
+            .row(self.memory, self.report.question, unit, &self.at, row)?;
+        self.report.tell_row(output, &self.at, header, row)?;
+        self.at.row(row);
+        self.files.row(row);
+        Ok(())
     }
 
     #[inline(always)]
@@ -107,50 +113,19 @@ impl<W: Destination, M: Memory, D: DamageSink> Visitor<W> for Linter<'_, M, D> {
         true
     }
 
-    #[inline(always)]
-    fn operation_after(
-        &mut self,
-        _output: &mut W,
-        header: &Header,
-        run: QuietRun<'_>,
-        bytes: &[u8],
-        operation: Operation,
-    ) -> Result<bool, WriteFault> {
-        let Some(offsets) = self.at.offsets_after(run.bytes, bytes) else {
-            return Ok(false);
+    fn plain_run(&mut self, header: &Header, run: &PlainRun<'_>) -> bool {
+        let Some(offsets) = self.at.offsets_of(run) else {
+            return false;
         };
-        if !self.operations.pass(header.params(), bytes, operation) {
-            return Ok(false);
+        if !are_good_rows(&self.at, header, &run.rows) {
+            return false;
         }
-        self.at.go_to(offsets);
-        Ok(true)
-    }
-
-    #[inline(always)]
-    fn row_after(
-        &mut self,
-        output: &mut W,
-        header: &Header,
-        run: QuietRun<'_>,
-        bytes: &[u8],
-        operation: Operation,
-        row: &Row,
-    ) -> Result<bool, RunFault> {
-        let Some(offsets) = self.at.offsets_after(run.bytes, bytes) else {
-            return Ok(false);
-        };
-        if !self.operations.pass(header.params(), bytes, operation) {
-            return Ok(false);
+        if !self.operations.lead(run.from, run.to) {
+            return false;
         }
-        self.at.go_to(offsets);
-        if row.end_sequence || !is_good_row(&self.at, header, row) {
-            let copy = *row;
-            self.one_row(output, header, &copy)?;
-            return Ok(true);
-        }
-        self.at.good_row(row);
-        self.files.row(row);
-        Ok(true)
+        self.at.go_through(offsets, &run.rows);
+        self.files.rows(run.rows.files.as_slice());
+        true
     }
 
     fn unterminated(&mut self, output: &mut W) -> Result<(), RunFault> {
@@ -171,36 +146,6 @@ impl<W: Destination, M: Memory, D: DamageSink> Visitor<W> for Linter<'_, M, D> {
 impl<W: Destination, M: Memory, D: DamageSink> AroundDamage<W> for Linter<'_, M, D> {
     fn damaged(&mut self, _unit: u64, damage: Damage) {
         self.damages.damaged(damage);
-    }
-}
-
-impl<M: Memory, D: DamageSink> Linter<'_, M, D> {
-    ghost use Rattle.std.specs.Prelude.{◌∷◌, []};
-    ghost use Rattle.dl_rows.specs.Items.{a_row};
-    ghost use Rattle.dl_sections.specs.Section.{of_item};
-    ghost use Rattle.dl_sections.specs.Visiting.{Hears};
-    ghost use Rattle.dl_lint.specs.Linting.{lint_story};
-
-    /// A row further on, by all rules.
-    #[cold]
-    #[inline(never)]
-    fn one_row<W: Destination>(
-        &mut self,
-        output: &mut W,
-        header: &Header,
-        row: &Row,
-    ) -> Result<(), RunFault>
-        ensures heard { Hears (lint_story M.refuses D.hears) self.old self.new (W.contents output.old) (W.contents output.new)
-            (of_item (a_row header.now row.now) ∷ []) result }
-        ensures blames_writer { BlamesWriter W.fails result }
-    {
-        let unit = self.files.unit();
-        self.sequences
-            .row(self.memory, self.report.question, unit, &self.at, row)?;
-        self.report.tell_row(output, &self.at, header, row)?;
-        self.at.row(row);
-        self.files.row(row);
-        Ok(())
     }
 }
 

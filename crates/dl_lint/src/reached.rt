@@ -6,7 +6,7 @@ ghost use Rattle.dl_lint.specs.Before.{program_offset};
 
 use dl_head::{Format, Header, HeaderLengths, Params};
 use dl_look::Place;
-use dl_rows::Row;
+use dl_rows::{PlainRows, PlainRun, Row};
 
 /// Where there is no row.
 const NOWHERE: Place = Place {
@@ -70,7 +70,7 @@ pub const BEFORE_UNITS: Reached = Reached {
     sequence: NOT_BEGUN,
 };
 
-/// Where an operation begins after operations that are over, and where it ends.
+/// Where an operation begins, and where it ends.
 #[derive(Clone, Copy)]
 pub struct Offsets {
     begin: u64,
@@ -81,7 +81,7 @@ impl Sequence {
     ghost use Rattle.std.specs.Prelude.{◌≡◌, ◌++◌, ◌∷◌, [], List, true};
     ghost use Rattle.dl_rows.specs.declared.row.Row.{Row};
     ghost use Rattle.dl_look.specs.Answer.{first_place};
-    ghost use Rattle.dl_lint.specs.Keeping.{sequence_of};
+    ghost use Rattle.dl_lint.specs.Keeping.{sequence_of, with_rows};
     ghost use Rattle.dl_lint.specs.RowRules.{falls_below};
 
     /// The place of the first row, where this one is the next.
@@ -121,6 +121,19 @@ impl Sequence {
             self.rising = false;
         }
     }
+
+    /// Rows more of a plain run, of which there are some and none falls.
+    #[inline(always)]
+    fn rows(&mut self, rows: &PlainRows)
+        ensures { self.new ≡ with_rows self.old rows.now }
+    {
+        if !self.has_begun {
+            self.has_begun = true;
+            self.first.address = rows.first;
+            self.first.op_index = 0;
+        }
+        self.has_statement |= rows.has_statement;
+    }
 }
 
 impl Reached {
@@ -132,7 +145,7 @@ impl Reached {
     ghost use Rattle.dl_rows.specs.declared.operation.Operation.{Operation};
     ghost use Rattle.dl_sections.specs.Section.{Visit, of_header, of_item};
     ghost use Rattle.dl_lint.specs.Before.{sequence_told};
-    ghost use Rattle.dl_lint.specs.Keeping.{AreAfter, reached_by};
+    ghost use Rattle.dl_lint.specs.Keeping.{AreOf, after_run, reached_by};
     ghost use Rattle.dl_lint.specs.RowRules.{falls_below};
 
     /// At the program of the unit at this offset that has this header.
@@ -167,28 +180,35 @@ impl Reached {
         self.begun = self.next;
     }
 
-    /// Where an operation of these bytes begins and ends after a run of others; None where bytes of one that isn't over came
-    /// before, or 64 bits don't hold that.
+    /// Where the last operation of a plain run begins and ends; None where bytes of one that isn't over came before, it has no
+    /// bytes, or 64 bits don't hold that.
     #[inline(always)]
-    pub fn offsets_after(&self, run: &[u8], bytes: &[u8]) -> Option<Offsets>
-        ensures { IfSome result (AreAfter self.now (length run.now) (length bytes.now)) }
+    pub fn offsets_of(&self, run: &PlainRun<'_>) -> Option<Offsets>
+        ensures { IfSome result (AreOf self.now (length run.now.bytes.now) run.now.last_bytes) }
     {
-        if self.begun != self.next {
+        if self.begun != self.next || run.bytes.is_empty() {
             return None;
         }
-        let begin = self.next.checked_add(run.len() as u64)?;
-        let end = begin.checked_add(bytes.len() as u64)?;
+        let end = self.next.checked_add(run.bytes.len() as u64)?;
+        let begin = end.checked_sub(run.last_bytes as u64)?;
         Some(Offsets { begin, end })
     }
 
-    /// Operations further on, the last of which has these offsets.
+    /// Operations further on, the last of which has these offsets, and the rows that they append.
     #[inline(always)]
-    pub fn go_to(&mut self, offsets: Offsets)
-        ensures { self.new ≡ record self.old { operation = offsets.begin; begun = offsets.end; next = offsets.end } }
+    pub fn go_through(&mut self, offsets: Offsets, rows: &PlainRows)
+        ensures { self.new ≡ after_run self.old offsets rows.now }
     {
         self.operation = offsets.begin;
         self.begun = offsets.end;
         self.next = offsets.end;
+        if rows.count == 0 {
+            return;
+        }
+        self.rows = self.rows.saturating_add(rows.count);
+        self.last.address = rows.last;
+        self.last.op_index = 0;
+        self.sequence.rows(rows);
     }
 
     /// Whether the place of a row is below that of the last row of its sequence.
@@ -219,17 +239,6 @@ impl Reached {
             let falls = self.falls_below(row);
             self.sequence.row(row, falls);
         }
-        self.count(row);
-    }
-
-    /// A row further on, which neither ends a sequence nor falls.
-    #[inline(always)]
-    pub fn good_row(&mut self, row: &Row)
-        ensures { (visits : List Visit) (h : HeaderData) → self.old ≡ reached_by visits → row.now.end_sequence ≡ false
-            → falls_below (sequence_told visits) row.now ≡ false
-            → self.new ≡ reached_by (visits ++ of_item (a_row h row.now) ∷ []) }
-    {
-        self.sequence.row(row, false);
         self.count(row);
     }
 

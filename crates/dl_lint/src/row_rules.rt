@@ -1,13 +1,15 @@
 //! What the rules find at a row, and at the end of a unit. Sections 6.2.2 to 6.2.5.
 
-ghost use Rattle.std.specs.Prelude.{◌≡◌, ◌∷◌, [], false, IsTrue, List, is_none, option_to_list, true};
+ghost use Rattle.std.specs.Prelude.{◌≡◌, ◌≤◌, ◌∷◌, ◌⊎◌, ℕ, [], false, IsTrue, List, is_none, option_to_list, true};
+ghost use Rattle.dl_look.specs.Answer.{is_below};
+ghost use Rattle.dl_table_rules.specs.Unused.{is_among};
 ghost use Rattle.dl_head.specs.Numbers.{file_numbered};
 ghost use Rattle.dl_print.specs.ValueText.{Strings};
 ghost use Rattle.dl_field.specs.HeaderData.{HeaderData};
 ghost use Rattle.dl_rows.specs.Items.{a_row};
 ghost use Rattle.dl_sections.specs.Section.{Visit, of_item, of_open};
 ghost use Rattle.dl_lint.specs.Before.{sequence_told};
-ghost use Rattle.dl_lint.specs.Keeping.{reached_by};
+ghost use Rattle.dl_lint.specs.Keeping.{AreGoodRows, FitsLength, first_of, reached_by};
 ghost use Rattle.dl_lint.specs.RowRules.{distance, empty_sequence_at, ends_nothing, falling_place_at, falls_below, file_index_at, found_if};
 ghost use Rattle.dl_lint.specs.Findings.{findings_at};
 ghost use Rattle.dl_lint.specs.RowRules.{ends_without_statement, first_address, is_split, is_wrapped};
@@ -19,7 +21,7 @@ use crate::reached::Reached;
 use dl_findings::{Finding, Found, RowSeen};
 use dl_head::Header;
 use dl_look::Place;
-use dl_rows::Row;
+use dl_rows::{PlainRows, Row};
 
 /// The greatest line that 32 bits hold.
 const GREATEST_LINE: u64 = 0xffff_ffff;
@@ -53,6 +55,64 @@ fn names_a_file(header: &Header, row: &Row) -> bool
     ensures { IsTrue result → names_no_file header.now row.now ≡ false }
 {
     row.end_sequence || has_file(header, row.file)
+}
+
+/// Whether that shows at once that no rule finds anything at the rows of a plain run that comes next.
+#[inline(always)]
+pub fn are_good_rows(at: &Reached, header: &Header, rows: &PlainRows) -> bool
+    ensures { IsTrue result → 1 ≤ rows.now.count → AreGoodRows at.now header.now rows.now }
+{
+    if rows.count == 0 {
+        return true;
+    }
+    let first = Place {
+        address: rows.first,
+        op_index: 0,
+    };
+    if at.sequence.has_begun && is_before(first, at.last) {
+        return false;
+    }
+    have_files(header, rows.files.as_slice()) && fits_length(at, header, rows.first)
+}
+
+/// Whether a place is below another one.
+#[inline(always)]
+fn is_before(place: Place, other: Place) -> bool
+    ensures { result ≡ is_below place other }
+{
+    place.address < other.address
+        || (place.address == other.address && place.op_index < other.op_index)
+}
+
+/// Whether there are files of these numbers.
+fn have_files(header: &Header, numbers: &[u64]) -> bool
+    ensures { IsTrue result → (number : ℕ) → is_among numbers.now number ≡ true → is_none (file_numbered header.now number) ≡ false }
+{
+    for number in numbers {
+        if !has_file(header, *number) {
+            return false;
+        }
+    }
+    true
+}
+
+/// Whether an address is a multiple of the least length of an instruction after the first one of its sequence, as far as that
+/// shows at once.
+#[inline(always)]
+fn fits_length(at: &Reached, header: &Header, address: u64) -> bool
+    ensures { IsTrue result → (header.now.params.minimum_instruction_length ≤ 1)
+        ⊎ FitsLength header.now.params.minimum_instruction_length (first_of at.now.sequence address) address }
+{
+    let least = header.params().minimum_instruction_length;
+    if least < 2 {
+        return true;
+    }
+    let first = if at.sequence.has_begun {
+        at.sequence.first.address
+    } else {
+        address
+    };
+    first <= address && (address - first) % u64::from(least) == 0
 }
 
 /// Whether there is a file of this number.

@@ -17,7 +17,7 @@ pub struct UnitFiles {
 }
 
 impl UnitFiles {
-    ghost use Rattle.std.specs.Prelude.{◌≡◌, ◌++◌, ◌∷◌, [], List, Some, None, IfOk, OnErr, length, option_to_list, true};
+    ghost use Rattle.std.specs.Prelude.{◌≡◌, ◌++◌, ◌∷◌, [], ℕ, List, Some, None, IfOk, OnErr, length, option_to_list, true};
     ghost use Rattle.dl_field.specs.HeaderData.{HeaderData};
     ghost use Rattle.dl_head.specs.declared.header.HeaderLengths.{HeaderLengths};
     ghost use Rattle.dl_memory.specs.Refusals.{IsRefused};
@@ -29,6 +29,7 @@ impl UnitFiles {
     ghost use Rattle.dl_findings.specs.declared.rule.Rule.TheVariants as rule;
     ghost use Rattle.dl_findings.specs.declared.rules.Rules.{Rules};
     ghost use Rattle.dl_table_rules.specs.TableFindings.{unused_found};
+    ghost use Rattle.dl_table_rules.specs.Keeping.{AreNamed};
     ghost use Rattle.dl_lint.specs.Keeping.{KnowsFiles};
     ghost use Rattle.dl_lint.specs.TableRules.{files_named};
 
@@ -80,6 +81,17 @@ impl UnitFiles {
     {
         if !row.end_sequence {
             self.named.name(row.file);
+        }
+    }
+
+    /// Rows further on that name these files and no others.
+    pub fn rows(&mut self, files: &[u64])
+        ensures unit { self.new.unit ≡ self.old.unit }
+        ensures named { (h : HeaderData) (before : List ℕ) → AreNamed self.old.named h before
+            → AreNamed self.new.named h (before ++ files.now) }
+    {
+        for file in files {
+            self.named.name(*file);
         }
     }
 

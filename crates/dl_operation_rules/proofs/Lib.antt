@@ -1,2 +1,3 @@
 pub mod AdvanceLemmas
 pub mod OperationLemmas
+pub mod PlainLemmas

@@ -1,35 +1,31 @@
 -- What is kept of operations, one thing more.
 use Rattle.std.proofs.Common.{◌≡◌, ◌∙◌, ℕ, List, [], ◌∷◌, ◌++◌, Bool, true, false, true≢false, refl, sym, ap, inl, inr}
 use Rattle.std.proofs.Common.{append-nil, arith, Option, Some, None, ap₂, take, drop, take-append-drop, length, ◌+◌, ◌≤◌}
-use Rattle.std.specs.Prelude.{◌&&◌, ◌*◌, ◌^◌, ◌==◌, ◌||◌, max, not, if◌then◌else◌, fold, nat_le, nat_lt, option_to_list}
+use Rattle.std.specs.Prelude.{◌==◌, ◌||◌, max, not, if◌then◌else◌, fold, nat_lt, option_to_list}
 use Rattle.std.specs.List.{list_any}
-use Rattle.std.proofs.lemmas.Bool.{cases_Bool, le-ltb, lt-leb}
-use Rattle.std.proofs.Math.Bool.{and-false}
-use Rattle.std.proofs.Math.Nat.{mod-eq_of_lt}
+use Rattle.std.proofs.lemmas.Bool.{cases_Bool}
 use Rattle.std.proofs.lemmas.List.Folds.{list_any-append}
 use Rattle.std.proofs.lemmas.List.{length-drop}
 use Rattle.std.proofs.lemmas.List.Sums.{fold-append}
 use Rattle.dl_num.specs.LebFront.{after_leb, leb_front}
 use Rattle.dl_look.specs.declared.place.Place.{Place}
 use Rattle.dl_field.specs.HeaderData.{HeaderData}
-use Rattle.dl_field.specs.declared.params.Params.{Params}
 use Rattle.dl_rows.specs.declared.operation.Operation.{Operation}
 use Rattle.dl_rows.specs.Items.{an_operation}
 use Rattle.dl_sections.specs.Section.{of_item}
 use Rattle.dl_findings.specs.Counting.{at_most_64_bits}
 use Rattle.dl_findings.specs.declared.finding.Opcode.{Opcode}
 use Rattle.dl_findings.specs.declared.finding.Opcode.TheVariants as opcode
-use Rattle.dl_operation_rules.specs.declared.advance.Moved.{Moved}
 use Rattle.dl_operation_rules.specs.declared.byte_set.ByteSet.{ByteSet}
 use Rattle.dl_operation_rules.specs.declared.operation_read.OpcodeRead.{OpcodeRead}
 use Rattle.dl_operation_rules.specs.declared.operation_read.OpcodeRead.TheVariants as read
 use Rattle.dl_operation_rules.specs.declared.operation_read.OperationRead.{OperationRead}
 use Rattle.dl_operation_rules.specs.declared.operations.Operations.{Operations}
-use Rattle.dl_operation_rules.specs.Judging.{IsGood, is_advance, is_same, wraps}
-use Rattle.dl_operation_rules.specs.Keeping.{Knows, LeadsTo, Stays, counted, has_byte, has_passed, is_in_number, is_settled, known_opcode, opcode_with}
-use Rattle.dl_operation_rules.specs.Keeping.{has_begun, operation_read, read_with, to, unread}
-use Rattle.dl_operation_rules.specs.Operations.{UnitSeen, extended_in, longest_after, longest_number, longest_operand, moved_by}
-use Rattle.dl_operation_rules.specs.Operations.{nothing_seen, opcode_in, passed_over, place_after, reduced, seen_with, with_bytes}
+use Rattle.dl_operation_rules.specs.Judging.{is_same}
+use Rattle.dl_operation_rules.specs.Keeping.{Knows, counted, has_byte, has_passed, is_in_number, is_settled, known_opcode, opcode_with}
+use Rattle.dl_operation_rules.specs.Keeping.{has_begun, operation_read, read_with, unread}
+use Rattle.dl_operation_rules.specs.Operations.{UnitSeen, extended_in, longest_after, longest_number, longest_operand}
+use Rattle.dl_operation_rules.specs.Operations.{nothing_seen, opcode_in, passed_over, place_after, seen_with, with_bytes}
 
 -- ---- opcodes
 
@@ -371,79 +367,6 @@ number_fits b w = elim (cases_Bool (b == 0)) [
   | inr other ↦ rw other (omega (arith, after_fits 0 w))
 ]
 
-few_in_number : (bytes : List ℕ) → length bytes ≤ 11 → longest_number bytes ≤ 10
+pub few_in_number : (bytes : List ℕ) → length bytes ≤ 11 → longest_number bytes ≤ 10
 few_in_number [] few = omega arith
 few_in_number (b ∷ w) few = omega (arith, number_fits b w, few)
-
--- a number in them isn't long
-pub few_bytes : (old : Operations) (s : UnitSeen) (bytes : List ℕ) → Knows old s → has_begun old.read.opcode ≡ false → length bytes ≤ 11
-    → nat_lt 10 (longest_number (s.bytes ++ bytes)) ≡ false
-few_bytes old s bytes knows none few =
-    let nothing : s.bytes ≡ [] = none_came s.bytes (ap (λ (r : OperationRead). has_begun r.opcode) (sym knows.read) ∙ none) in
-    rw nothing (le-ltb 10 (longest_number bytes) (few_in_number bytes few))
-
--- it is taken, where it leads to a place
-taken : (old : Operations) (s : UnitSeen) → Knows old s → (o : Operation) → ((bytes : List ℕ) → passed_over o bytes ≡ None)
-    → (bytes : List ℕ) → has_begun old.read.opcode ≡ false → (h : HeaderData) (place : Place) → place ≡ place_after h.params s.place o
-    → Knows (record old { place = place }) (seen_with (with_bytes s bytes) (of_item (an_operation h o)))
-taken old s knows o known bytes none h place led = record {
-  read = knows.read ∙ ap operation_read (none_came s.bytes (ap (λ (r : OperationRead). has_begun r.opcode) (sym knows.read) ∙ none));
-  place = led;
-  passed = λ code. same_passed old (record old { place = place }) refl refl code
-      ∙ more_none old old s (passed_over o (s.bytes ++ bytes)) knows (known (s.bytes ++ bytes)) refl code;
-}
-
--- ---- an operation that leads the registers to an address, of which no number is long
-
-abbrev at_place : ℕ → ℕ → Place
-at_place address op_index = record { address = address; op_index = op_index }
-
-module _ (old : Operations) (s : UnitSeen) (knows : Knows old s) (p : Params) (o : Operation) (address : ℕ)
-    (leads : LeadsTo p old.place o address) where
-  moved : moved_by p s.place o ≡ to address s.place.op_index
-  moved =
-      ap (λ (at : Place). moved_by p at o) (sym knows.place) ∙ leads.moved
-      ∙ ap (λ (at : Place). to address at.op_index) knows.place
-
-  within : wraps p (moved_by p s.place o) o ≡ false
-  within =
-      ap (λ (m : Moved). wraps p m o) moved
-      ∙ ap (λ (b : Bool). b && is_advance o) (lt-leb (2 ^ (8 * p.address_size)) address leads.fits)
-
-  -- the rules find nothing
-  pub leads_good : (bytes : List ℕ) → nat_lt 10 (longest_number (s.bytes ++ bytes)) ≡ false → IsGood p (with_bytes s bytes) o
-  leads_good bytes few = record {
-    short = few;
-    within = within;
-    known = leads.known (s.bytes ++ bytes);
-  }
-
-  place : at_place address old.place.op_index ≡ place_after p s.place o
-  place =
-      ap₂ at_place (sym (mod-eq_of_lt leads.fits)) (ap (λ (at : Place). at.op_index) knows.place)
-      ∙ ap (reduced p) (sym moved)
-      ∙ ap (λ (b : Bool). if b then reduced p (moved_by p s.place o) else s.place) (sym leads.moves)
-
-  -- and it is taken
-  pub leads_on : (bytes : List ℕ) → has_begun old.read.opcode ≡ false → (h : HeaderData) → h.params ≡ p
-      → Knows (record old { place = at_place address old.place.op_index })
-      (seen_with (with_bytes s bytes) (of_item (an_operation h o)))
-  leads_on bytes none h same =
-      taken old s knows o leads.known bytes none h (at_place address old.place.op_index)
-      (place ∙ ap (λ (q : Params). place_after q s.place o) (sym same))
-
--- or leaves them
-module _ (old : Operations) (s : UnitSeen) (knows : Knows old s) (p : Params) (o : Operation) (stays : Stays o) where
-  pub stays_good : (bytes : List ℕ) → nat_lt 10 (longest_number (s.bytes ++ bytes)) ≡ false → IsGood p (with_bytes s bytes) o
-  stays_good bytes few = record {
-    short = few;
-    within = ap (λ (b : Bool). nat_le (2 ^ (8 * p.address_size)) (moved_by p s.place o).address && b) stays.advance
-        ∙ and-false (nat_le (2 ^ (8 * p.address_size)) (moved_by p s.place o).address);
-    known = stays.known (s.bytes ++ bytes);
-  }
-
-  pub stays_on : (bytes : List ℕ) → has_begun old.read.opcode ≡ false → (h : HeaderData)
-      → Knows old (seen_with (with_bytes s bytes) (of_item (an_operation h o)))
-  stays_on bytes none h =
-      taken old s knows o stays.known bytes none h old.place
-      (knows.place ∙ ap (λ (b : Bool). if b then reduced h.params (moved_by h.params s.place o) else s.place) (sym stays.moves))

@@ -1,18 +1,13 @@
 -- What is kept of the bytes of an operation, and of the operations of a unit. No promise rests on this file.
-use Rattle.std.specs.Prelude.{⊤, ◌≡◌, ℕ, Bool, true, false, not, ◌==◌, ◌<◌, ◌+◌, ◌*◌, ◌^◌, max, nat_lt, if◌then◌else◌, List, fold}
+use Rattle.std.specs.Prelude.{◌≡◌, ℕ, Bool, true, false, not, ◌==◌, ◌+◌, max, nat_lt, if◌then◌else◌, List, fold}
 use Rattle.std.specs.Prelude.{Option, Some, None, slice_index_or}
 use Rattle.std.specs.List.{list_any}
-use Rattle.dl_field.specs.declared.params.Params.{Params}
-use Rattle.dl_look.specs.declared.place.Place.{Place}
-use Rattle.dl_rows.specs.declared.operation.Operation.{Operation}
 use Rattle.dl_findings.specs.Counting.{at_most_64_bits}
 use Rattle.dl_findings.specs.declared.finding.Opcode.{Opcode}
 use Rattle.dl_findings.specs.declared.finding.Opcode.TheVariants as opcode
-use Rattle.dl_operation_rules.specs.Judging.{is_advance, is_same}
-use Rattle.dl_operation_rules.specs.Operations.{UnitSeen, moved_by, moves, passed_over}
+use Rattle.dl_operation_rules.specs.Judging.{is_same}
+use Rattle.dl_operation_rules.specs.Operations.{UnitSeen}
 use Rattle.dl_operation_rules.specs.declared.advance.Moved.{Moved}
-use Rattle.dl_operation_rules.specs.declared.advance.Step.{Step}
-use Rattle.dl_operation_rules.specs.declared.advance.Step.TheVariants as step
 use Rattle.dl_operation_rules.specs.declared.byte_set.ByteSet.{ByteSet}
 use Rattle.dl_operation_rules.specs.declared.operation_read.OpcodeRead.{OpcodeRead}
 use Rattle.dl_operation_rules.specs.declared.operation_read.OpcodeRead.TheVariants as read
@@ -83,22 +78,3 @@ pub record Knows (operations : Operations) (s : UnitSeen) : Type 0 where
 
 abbrev pub to : (address op_index : ℕ) → Moved
 to address op_index = record { address = address; op_index = op_index }
-
--- to this address, which fits the size of one, with op_index as it is; and it isn't passed over
-pub record LeadsTo (p : Params) (at : Place) (o : Operation) (address : ℕ) : Type 0 where
-  pub moves : moves o ≡ true
-  pub moved : moved_by p at o ≡ to address at.op_index
-  pub fits : address < 2 ^ (8 * p.address_size)
-  pub known : (bytes : List ℕ) → passed_over o bytes ≡ None
-
--- nowhere else; and it isn't passed over
-pub record Stays (o : Operation) : Type 0 where
-  pub moves : moves o ≡ false
-  pub advance : is_advance o ≡ false
-  pub known : (bytes : List ℕ) → passed_over o bytes ≡ None
-
--- as far as it is plain
-abbrev pub StepIs : Params → Place → Operation → Step → Type 0
-StepIs p at o step.Stays = Stays o
-StepIs p at o (step.To address) = LeadsTo p at o address
-StepIs p at o step.Unclear = ⊤

@@ -86,6 +86,10 @@ moves o = false
 abbrev pub place_after : Params → Place → Operation → Place
 place_after p at o = if moves o then reduced p (moved_by p at o) else at
 
+-- the first operation of an instruction
+abbrev pub at_address : ℕ → Place
+at_address address = record { address = address; op_index = 0 }
+
 -- ---- what is seen of the current unit
 
 pub record UnitSeen : Type 0 where

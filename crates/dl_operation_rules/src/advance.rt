@@ -1,10 +1,9 @@
 //! Where operations lead the registers address and op_index. Sections 6.2.2 and 6.2.5.1.
 
-ghost use Rattle.std.specs.Prelude.{◌≡◌, ◌<◌, ◌≤◌, ◌*◌, ◌^◌, IfSome};
+ghost use Rattle.std.specs.Prelude.{◌≡◌, ◌≤◌, ◌*◌, ◌^◌};
 ghost use Rattle.dl_field.specs.Usable.{IsUsable};
 ghost use Rattle.dl_rows.specs.Matrix.{advance};
 ghost use Rattle.dl_rows.specs.declared.operation.Operation.TheVariants as op;
-ghost use Rattle.dl_operation_rules.specs.Keeping.{StepIs, to};
 ghost use Rattle.dl_operation_rules.specs.Operations.{advanced, moved_by, place_after, reduced};
 
 use dl_head::Params;
@@ -82,39 +81,6 @@ pub fn moved_by(params: &Params, at: Place, operation: Operation) -> Moved
     }
 }
 
-/// Where an operation leads the register address, where that is plain.
-#[derive(Clone, Copy)]
-pub enum Step {
-    /// It stays where it is, and so does op_index.
-    Stays,
-    /// To this address, which is below the end of those of its size; op_index stays as it is.
-    To(u64),
-    /// That isn't plain, or the operation is passed over.
-    Unclear,
-}
-
-/// Where an operation leads the register address.
-#[inline(always)]
-pub fn step_of(params: &Params, at: Place, operation: Operation) -> Step
-    requires { IsUsable params.now }
-    ensures { StepIs params.now at operation result }
-{
-    let address = match operation {
-        Operation::Special(opcode) => address_by(params, at, special_advance(params, opcode)),
-        Operation::AdvancePc(by) => address_by(params, at, by),
-        Operation::ConstAddPc => address_by(params, at, special_advance(params, 255)),
-        Operation::FixedAdvancePc(_) | Operation::Skipped => None,
-        Operation::SetAddress(_) | Operation::EndSequence if at.op_index != 0 => None,
-        Operation::SetAddress(address) => fitting(params, address),
-        Operation::EndSequence => fitting(params, 0),
-        _ => return Step::Stays,
-    };
-    match address {
-        Some(address) => Step::To(address),
-        None => Step::Unclear,
-    }
-}
-
 /// The registers address and op_index after an operation that leads them there from a place.
 pub fn place_after(params: &Params, at: Place, operation: Operation, moved: Moved) -> Place
     requires { IsUsable params.now }
@@ -128,32 +94,6 @@ pub fn place_after(params: &Params, at: Place, operation: Operation, moved: Move
         | Operation::SetAddress(_)
         | Operation::EndSequence => moved.place(params),
         _ => at,
-    }
-}
-
-/// The address after an operation advance, where each instruction has one operation and the address fits its size.
-#[inline(always)]
-fn address_by(params: &Params, at: Place, by: u64) -> Option<u64>
-    ensures moved { IfSome result (λ address. advanced params.now at by ≡ to address at.op_index) }
-    ensures fits { IfSome result (λ address. address < 2 ^ (8 * params.now.address_size)) }
-{
-    if params.maximum_operations_per_instruction != 1 || at.op_index != 0 {
-        return None;
-    }
-    let length = by.checked_mul(u64::from(params.minimum_instruction_length))?;
-    fitting(params, at.address.checked_add(length)?)
-}
-
-/// An address that fits addresses of eight bytes or four, where these are those of a unit.
-#[inline(always)]
-fn fitting(params: &Params, address: u64) -> Option<u64>
-    ensures same { IfSome result (λ same. same ≡ address) }
-    ensures fits { IfSome result (λ same. same < 2 ^ (8 * params.now.address_size)) }
-{
-    match params.address_size {
-        8 => Some(address),
-        4 if address <= 0xFFFF_FFFF => Some(address),
-        _ => None,
     }
 }
 

@@ -1,15 +1,10 @@
 //! What is kept of the operations of the current unit. Sections 6.2.2 and 6.2.5.1 to 6.2.5.3.
 
-use crate::advance::{Step, step_of};
 use crate::byte_set::ByteSet;
 use crate::operation_read::{OperationRead, UNREAD};
 use dl_findings::Opcode;
-use dl_head::Params;
 use dl_look::Place;
 use dl_rows::Operation;
-
-/// Of an operation of so few bytes no number in LEB128 is a long one.
-const FEW_BYTES: usize = 11;
 
 /// What is kept of the operations of the current unit.
 #[derive(Clone, Copy)]
@@ -27,14 +22,13 @@ pub struct Operations {
 impl Operations {
     ghost use Rattle.std.specs.Prelude.{◌≡◌, ◌++◌, [], IsFalse, IsTrue, true, if◌then◌else◌};
     ghost use Rattle.dl_field.specs.HeaderData.{HeaderData};
-    ghost use Rattle.dl_field.specs.Usable.{IsUsable};
     ghost use Rattle.dl_rows.specs.Items.{an_operation};
     ghost use Rattle.dl_sections.specs.Section.{of_item};
     ghost use Rattle.dl_findings.specs.Counting.{at_most_64_bits};
     ghost use Rattle.dl_findings.specs.declared.finding.Opcode.{Opcode as Code};
-    ghost use Rattle.dl_operation_rules.specs.Judging.{IsGood, is_same};
+    ghost use Rattle.dl_operation_rules.specs.Judging.{is_same};
     ghost use Rattle.dl_operation_rules.specs.Keeping.{Knows, has_passed};
-    ghost use Rattle.dl_operation_rules.specs.Operations.{UnitSeen, longest_number, nothing_seen, passed_over, place_after, seen_with, with_bytes};
+    ghost use Rattle.dl_operation_rules.specs.Operations.{UnitSeen, at_address, longest_number, nothing_seen, passed_over, place_after, seen_with};
 
     /// At the first operation of a unit.
     pub fn at_start() -> Operations
@@ -58,28 +52,19 @@ impl Operations {
         self.read = self.read.with_bytes(bytes);
     }
 
-    /// An operation further on whose bytes have all come at once, where that shows that the rules find nothing at it; else
-    /// it answers false.
+    /// Plain operations one after the other further on, which lead the register address from one address to another. It answers
+    /// false, and stays as it is, where bytes of the current operation have come or the registers are at another place.
     #[inline(always)]
-    pub fn pass(&mut self, params: &Params, bytes: &[u8], operation: Operation) -> bool
-        requires { IsUsable params.now }
-        ensures takes { (s : UnitSeen) (h : HeaderData) → Knows self.old s → h.params ≡ params.now → IsTrue result
-            → Knows self.new (seen_with (with_bytes s bytes.now) (of_item (an_operation h operation))) }
-        ensures good { (s : UnitSeen) → Knows self.old s → IsTrue result → IsGood params.now (with_bytes s bytes.now) operation }
-        ensures fresh { (s : UnitSeen) → Knows self.old s → IsTrue result → s.bytes ≡ [] }
+    pub fn lead(&mut self, from: u64, to: u64) -> bool
+        ensures starts { (s : UnitSeen) → Knows self.old s → IsTrue result → (s.bytes ≡ []) × (s.place ≡ at_address from) }
+        ensures takes { (s : UnitSeen) → Knows self.old s → IsTrue result → Knows self.new (record s { place = at_address to }) }
         ensures stays { IsFalse result → self.new ≡ self.old }
     {
-        if self.read.has_begun() || bytes.len() > FEW_BYTES {
+        if self.read.has_begun() || self.place.op_index != 0 || self.place.address != from {
             return false;
         }
-        match step_of(params, self.place, operation) {
-            Step::Stays => true,
-            Step::To(address) => {
-                self.place.address = address;
-                true
-            }
-            Step::Unclear => false,
-        }
+        self.place.address = to;
+        true
     }
 
     /// An operation further on, which leads the registers to this place.

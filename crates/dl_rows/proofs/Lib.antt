@@ -7,7 +7,6 @@ pub mod HeardLemmas
 pub mod ItemLemmas
 pub mod JoinLemmas
 pub mod Judged
-pub mod MadeTells
 pub mod OperandLemmas
 pub mod OperandRanges
 pub mod OperationFront
@@ -15,11 +14,13 @@ pub mod OperationLaws
 pub mod OwnVersions
 pub mod PhaseLemmas
 pub mod PlaceLemmas
+pub mod PlainLemmas
+pub mod RowsCounted
+pub mod PlainTells
 pub mod ProgramLaws
 pub mod ProgramSteps
 pub mod ProgramTells
 pub mod ProgramWalks
-pub mod QuietLemmas
 pub mod ReaderFeeds
 pub mod ReaderLemmas
 pub mod RegisterLemmas

@@ -19,9 +19,9 @@ use Rattle.dl_rows.specs.Matrix.{matrix, rows_after}
 use Rattle.dl_rows.specs.OperationSpelt.{good_one, operation_spelt, operations_in}
 use Rattle.dl_rows.specs.Phases.{StepIs}
 use Rattle.dl_rows.specs.LineUnit.{rows_in, ends_open}
-use Rattle.dl_rows.specs.Programs.{row_list, Finishes, ProgramStands, Unrefused, NothingGiven, RowGiven}
+use Rattle.dl_rows.specs.Programs.{row_list, Finishes, Finishing, ProgramStands, Unrefused, NothingGiven, RowGiven}
 use Rattle.dl_rows.specs.Programs.{BadGiven}
-use Rattle.dl_rows.specs.Sums.{FitsProgram, HasRange, registers_after}
+use Rattle.dl_rows.specs.Sums.{FitsProgram, HasRange}
 use Rattle.dl_rows.proofs.FirstLemmas.{split_front, nowhere_nil}
 use Rattle.dl_rows.proofs.ItemLemmas.{items_whole, items_within, row_appended}
 use Rattle.dl_rows.proofs.Judged.{judged}
@@ -72,13 +72,6 @@ pub record Turned (order : Order) (h : Params) (b u : List ℕ) (o : Operation) 
   pub unrefused : Unrefused order h b u
   pub items : (header : HeaderData)
       → items_after order h header b u ≡ map a_byte u ++ an_operation header o ∷ map (a_row header) (row_list row)
-
--- what a reader does at the end of an operation: its row, where it appends one, and what is kept
-abbrev pub Finishing : Params → Program → Operation → Option Row → Program → Type 0
-Finishing h old o row new =
-    (before : List Operation) → FitsProgram h → HasRange o → old.registers ≡ registers_after h before
-    → old.in_sequence ≡ ends_open (matrix h before)
-    → Finishes h before o row new
 
 module _ {order : Order} {h : Params} {p : Program} {b : List ℕ} (s : ProgramStands order h p b) where
   rows_here : rows_in order h b ≡ matrix h s.operations

@@ -214,7 +214,7 @@ ends_open-push (a ∷ []) r = refl
 ends_open-push (a ∷ b ∷ rows) r = ends_open-push (b ∷ rows) r
 
 -- an operation that appends no row leaves the registers as they are
-settled-plain : (h : Params) (o : Operation) (r : Registers) → appends_row o ≡ false → settled h o r ≡ r
+pub settled-plain : (h : Params) (o : Operation) (r : Registers) → appends_row o ≡ false → settled h o r ≡ r
 settled-plain h o r e = grind arith
 
 pub appends_none : (o : Operation) → ((b : ℕ) → o ≡ op.Special b → ⊥) → (o ≡ op.Copy → ⊥) → (o ≡ op.EndSequence → ⊥)

@@ -1,11 +1,12 @@
 -- The registers of the state machine, modulo 2^64. Sections 6.2.2 and 6.2.5. No promise rests on this file.
-use Rattle.std.specs.Prelude.{ℕ, ◌+◌, ◌-◌, ◌*◌, ◌/◌, ◌%◌, ◌^◌, ◌+ℤ◌, ℤ, pos, Bool, true, false, not}
+use Rattle.std.specs.Prelude.{ℕ, ◌+◌, ◌-◌, ◌*◌, ◌/◌, ◌%◌, ◌^◌, ◌+ℤ◌, ℤ, pos, Bool, true, false, not, Option, Some, None, if◌then◌else◌}
 use Rattle.std.specs.Int.{w64, cast_unsigned}
 use Rattle.dl_field.specs.declared.params.Params.{Params}
 use Rattle.dl_rows.specs.declared.registers.Registers.{Registers}
 use Rattle.dl_rows.specs.declared.row.Row.{Row}
 use Rattle.dl_rows.specs.declared.operation.Operation.{Operation}
 use Rattle.dl_rows.specs.declared.operation.Operation.TheVariants as op
+use Rattle.dl_rows.specs.Matrix.{appends_row, is_end}
 
 -- at the start of each sequence
 abbrev pub initial : Bool → Registers
@@ -76,3 +77,7 @@ row_of h r end = record {
   prologue_end = r.prologue_end;
   epilogue_begin = r.epilogue_begin;
 }
+
+-- the row that an operation appends, if any
+abbrev pub made_by : Params → Registers → Operation → Option Row
+made_by h r o = if appends_row o then Some (row_of h (applied h r o) (is_end o)) else None

@@ -5,8 +5,8 @@ mod front;
 pub mod laws;
 pub mod operation;
 mod operation_state;
+pub mod plain_run;
 mod program;
-pub mod quiet_run;
 pub mod reader;
 mod registers;
 pub mod row;
@@ -15,7 +15,7 @@ mod unit_body;
 
 pub use front::operation_at_front;
 pub use operation::Operation;
-pub use quiet_run::{QuietRun, tell_run};
+pub use plain_run::{PlainRows, PlainRun};
 pub use reader::{Event, Fed, Finish, Listener, Reader, Run};
 pub use row::Row;
 pub use sink::{Flow, OperationSink, ProgramSink};

@@ -42,39 +42,3 @@ pub enum Operation {
     /// Sections 6.2.5.2 and 6.2.5.3.
     Skipped,
 }
-
-impl Operation {
-    ghost use Rattle.std.specs.Prelude.{◌≡◌};
-    ghost use Rattle.dl_rows.specs.Matrix.{appends_row};
-    ghost use Rattle.dl_rows.specs.Quiet.{is_quiet};
-
-    /// Whether it appends a row.
-    #[inline(always)]
-    pub(crate) fn appends_row(self) -> bool
-        ensures { result ≡ appends_row self }
-    {
-        matches!(
-            self,
-            Operation::Special(_) | Operation::Copy | Operation::EndSequence
-        )
-    }
-
-    /// Whether it sets neither address nor op_index, appends no row, and isn't passed over.
-    #[inline(always)]
-    pub fn is_quiet(self) -> bool
-        ensures { result ≡ is_quiet self }
-    {
-        matches!(
-            self,
-            Operation::AdvanceLine(_)
-                | Operation::SetFile(_)
-                | Operation::SetColumn(_)
-                | Operation::NegateStatement
-                | Operation::SetBasicBlock
-                | Operation::SetPrologueEnd
-                | Operation::SetEpilogueBegin
-                | Operation::SetIsa(_)
-                | Operation::SetDiscriminator(_)
-        )
-    }
-}

@@ -1,6 +1,6 @@
 //! One operation of a line number program, from bytes that may end inside it. Sections 6.2.5.1 to 6.2.5.3.
 
-ghost use Rattle.std.specs.Prelude.{◌≡◌, ◌<◌, ◌≤◌, ◌-◌, ◌∷◌, ◌++◌, [], ℕ, List, length, IfSome, IfNone, slice_index};
+ghost use Rattle.std.specs.Prelude.{◌≡◌, ◌<◌, ◌≤◌, ◌+◌, ◌-◌, ◌∷◌, ◌++◌, [], ℕ, List, length, IfSome, IfNone, slice_index};
 ghost use Rattle.std.specs.Prelude.{Ok};
 ghost use Rattle.dl_num.specs.declared.fixed.Order.{Order};
 ghost use Rattle.dl_num.specs.Front.{SpellsFirst};
@@ -149,6 +149,7 @@ pub fn short_operation<'a>(
 ) -> Option<(Operation, &'a [u8])>
     requires { IsUsable params.now }
     ensures left { IfSome result (λ found. length found.1.now < length bytes.entry.now) }
+    ensures few { IfSome result (λ found. length bytes.entry.now ≤ length found.1.now + 11) }
     ensures operation { IfSome result (λ found. (front : List ℕ) × (bytes.entry.now ≡ front ++ found.1.now)
         × SpellsFirst (operation_spelt order params.now) front (Ok found.0)) }
 {
@@ -174,6 +175,7 @@ pub fn short_operation<'a>(
 /// after it.
 #[inline(always)]
 fn short_unsigned<'a>(opcode: UnsignedOpcode, bytes: &'a [u8]) -> Option<(Operation, &'a [u8])>
+    ensures few { IfSome result (λ found. length bytes.entry.now ≤ length found.1.now + 2) }
     ensures operation { (order : Order) (h : Params) → opcode_of opcode < h.opcode_base → IfSome result (λ found.
         (front : List ℕ) × (bytes.entry.now ≡ front ++ found.1.now)
         × SpellsFirst (operation_spelt order h) (opcode_of opcode ∷ front) (Ok found.0)) }
@@ -192,6 +194,7 @@ fn short_extended<'a>(
 ) -> Option<(Operation, &'a [u8])>
     requires { IsUsable params.now }
     ensures left { IfSome result (λ found. length found.1.now < length bytes.entry.now) }
+    ensures few { IfSome result (λ found. length bytes.entry.now ≤ length found.1.now + 10) }
     ensures operation { IfSome result (λ found. (front : List ℕ) × (bytes.entry.now ≡ front ++ found.1.now)
         × SpellsFirst (operation_spelt order params.now) (0 ∷ front) (Ok found.0)) }
 {

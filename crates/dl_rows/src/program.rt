@@ -6,12 +6,13 @@ ghost use Rattle.dl_field.specs.Usable.{IsUsable};
 
 use crate::operation::Operation;
 use crate::operation_state::{OperationState, OperationStep, short_operation};
-use crate::quiet_run::{QuietRun, tell_run};
 use crate::registers::Registers;
 use crate::row::Row;
 use crate::sink::{Flow, ProgramSink, tell_operation};
 use dl_head::{FaultKind, Header, Params};
 use dl_num::Order;
+
+mod plain;
 
 /// What bytes of a program give.
 #[derive(Clone, Copy)]
@@ -33,26 +34,8 @@ pub enum Taken<'a> {
     Row(Row, &'a [u8]),
 }
 
-/// The run of these bytes up to where the others begin, with which they end.
-#[inline(always)]
-fn run_before<'a>(order: Order, params: &'a Params, bytes: &'a [u8], rest: &[u8]) -> QuietRun<'a>
-    requires { length rest.now ≤ length bytes.now }
-    ensures order { result.order ≡ order }
-    ensures params { result.params ≡ params.entry }
-    ensures bytes { (front : List ℕ) → bytes.entry.now ≡ front ++ rest.now → result.bytes.now ≡ front }
-{
-    QuietRun {
-        order,
-        params,
-        bytes: &bytes[..bytes.len() - rest.len()],
-    }
-}
-
 /// Of fewer bytes each operation is taken by itself, since a program in a local of its own costs more than it spares.
 const SHORT_PIECE: usize = 16;
-
-/// The most bytes that an operation of a run has.
-const QUIET_BYTES: usize = 10;
 
 /// Where a reader is in a program.
 #[derive(Clone, Copy)]
@@ -71,8 +54,10 @@ impl Program {
     ghost use Rattle.dl_rows.specs.Matrix.{matrix};
     ghost use Rattle.dl_rows.specs.OperationSpelt.{operations_in};
     ghost use Rattle.dl_rows.specs.LineUnit.{ends_open, rows_in};
-    ghost use Rattle.dl_rows.specs.Programs.{Finishes, HearsMade, ProgramStands, TakenTells, Tells};
-    ghost use Rattle.dl_rows.specs.Sums.{FitsProgram, HasRange, registers_after};
+    ghost use Rattle.dl_rows.specs.PlainWalks.{MayBePlain};
+    ghost use Rattle.dl_rows.specs.Programs.{Finishes, ProgramStands, TakenTells, Tells};
+    ghost use Rattle.dl_rows.specs.Machine.{applied, made_by};
+    ghost use Rattle.dl_rows.specs.Sums.{FitsProgram, HasRange, registers_after, settled};
     ghost use Rattle.dl_rows.specs.declared.operation_state.OperationState.TheVariants as phase;
 
     /// At the first operation.
@@ -124,7 +109,8 @@ impl Program {
         mut bytes: &'a [u8],
         sink: &mut S,
     ) -> ProgramStep<'a>
-        requires { IsUsable params.now }
+        requires usable { IsUsable params.now }
+        requires params { header.now.params ≡ params.now }
         ensures left { GivenLeaves (length bytes.entry.now) result }
         ensures given { (b : List ℕ) (before : List Item) (first : S) → FitsProgram params.now → AllBytes bytes.entry.now
             → ProgramStands order params.now self.old b
@@ -175,7 +161,8 @@ impl Program {
         bytes: &'a [u8],
         sink: &mut S,
     ) -> Taken<'a>
-        requires { IsUsable params.now }
+        requires usable { IsUsable params.now }
+        requires params { header.now.params ≡ params.now }
         ensures left { TakenLeaves (length bytes.entry.now) result }
         ensures phase { self.new.phase ≡ self.old.phase }
         ensures told { (b : List ℕ) (before : List Item) (first : S) → FitsProgram params.now → AllBytes bytes.entry.now
@@ -187,10 +174,10 @@ impl Program {
             return Taken::UpTo(bytes);
         }
         let mut program = *self;
-        let taken = if sink.hears_runs() {
+        let taken = if sink.hears_runs() && plain::may_be_plain(params) {
             program.runs(order, params, header, bytes, sink)
         } else {
-            program.run(order, params, header, bytes, sink)
+            program.run(order, params, header, bytes, 0, sink)
         };
         self.registers = program.registers;
         self.in_sequence = program.in_sequence;
@@ -198,7 +185,7 @@ impl Program {
     }
 
     /// `short_operations` between operations, where the program stands in a local of its own, so that its registers
-    /// need no memory.
+    /// need no memory. It takes one, and more of them while more than so many bytes are left.
     #[inline(always)]
     fn run<'a, S: ProgramSink>(
         &mut self,
@@ -206,6 +193,7 @@ impl Program {
         params: &Params,
         header: &Header,
         mut bytes: &'a [u8],
+        left: usize,
         sink: &mut S,
     ) -> Taken<'a>
         requires usable { IsUsable params.now }
@@ -227,11 +215,14 @@ impl Program {
                     Flow::Stop => return Taken::Row(row, tail),
                 }
             }
+            if bytes.len() <= left {
+                break;
+            }
         }
         Taken::UpTo(bytes)
     }
 
-    /// The same for a sink that is told quiet operations in runs.
+    /// The same for a sink that hears plain runs, where each instruction has one operation.
     #[inline(always)]
     fn runs<'a, S: ProgramSink>(
         &mut self,
@@ -242,6 +233,8 @@ impl Program {
         sink: &mut S,
     ) -> Taken<'a>
         requires usable { IsUsable params.now }
+        requires params { header.now.params ≡ params.now }
+        requires single { MayBePlain params.now }
         requires between { self.old.phase ≡ phase.Start }
         ensures left { TakenLeaves (length bytes.entry.now) result }
         ensures phase { self.new.phase ≡ self.old.phase }
@@ -251,90 +244,20 @@ impl Program {
             → (S.story first).hears sink.old before
             → TakenTells (S.story first) order params.now header.now b bytes.entry.now before result self.new sink.new }
     {
-        let mut untold = bytes;
-        while let Some((operation, tail)) = short_operation(order, params, bytes) {
-            let last = &bytes[..bytes.len() - tail.len()];
-            let run = run_before(order, params, untold, bytes);
-            bytes = tail;
-            if operation.appends_row() {
-                untold = tail;
-                match self.tell_row(params, header, run, last, operation, sink) {
-                    Some(row) => return Taken::Row(row, tail),
-                    None => continue,
-                }
-            }
-            self.finish(params, operation);
-            if operation.is_quiet() && last.len() <= QUIET_BYTES {
+        while !bytes.is_empty() {
+            let mut ahead = *self;
+            let (run, rest) = ahead.plain_run(order, params, bytes);
+            if rest.len() < bytes.len() && sink.plain_run(header, &run) {
+                *self = ahead;
+                bytes = rest;
                 continue;
             }
-            untold = tail;
-            sink.operation_after(header, run, last, operation);
+            match self.run(order, params, header, bytes, rest.len(), sink) {
+                Taken::UpTo(tail) if tail.len() < bytes.len() => bytes = tail,
+                taken => return taken,
+            }
         }
-        tell_run(sink, header, run_before(order, params, untold, bytes));
         Taken::UpTo(bytes)
-    }
-
-    /// The same as `tell_one`, of an operation that appends a row. Each kind of these has a copy of its own: in one copy for all of
-    /// them the registers would go through memory.
-    #[inline(always)]
-    fn tell_row<S: ProgramSink>(
-        &mut self,
-        params: &Params,
-        header: &Header,
-        run: QuietRun<'_>,
-        bytes: &[u8],
-        operation: Operation,
-        sink: &mut S,
-    ) -> Option<Row>
-        requires usable { IsUsable params.now }
-        requires run { IsUsable run.params.now }
-        ensures phase { self.new.phase ≡ self.old.phase }
-        ensures begun { self.new.begun ≡ self.old.begun }
-        ensures told { (made : Option Row) × ((before : List Operation) → FitsProgram params.now → HasRange operation
-            → self.old.registers ≡ registers_after params.now before
-            → self.old.in_sequence ≡ ends_open (matrix params.now before)
-            → Finishes params.now before operation made self.new)
-            × ((first : S) → HearsMade (S.story first) sink.old sink.new run.entry.order run.entry.params.now run.entry.bytes.now
-            header.now bytes.now operation made result) }
-    {
-        match operation {
-            Operation::Special(_) => self.tell_one(params, header, run, bytes, operation, sink),
-            Operation::Copy => self.tell_one(params, header, run, bytes, operation, sink),
-            _ => self.tell_one(params, header, run, bytes, operation, sink),
-        }
-    }
-
-    /// Applies an operation of these bytes, and tells the sink the run before it, itself and the row that it appends. It answers
-    /// the row at which the sink stops.
-    #[inline(always)]
-    fn tell_one<S: ProgramSink>(
-        &mut self,
-        params: &Params,
-        header: &Header,
-        run: QuietRun<'_>,
-        bytes: &[u8],
-        operation: Operation,
-        sink: &mut S,
-    ) -> Option<Row>
-        requires usable { IsUsable params.now }
-        requires run { IsUsable run.params.now }
-        ensures phase { self.new.phase ≡ self.old.phase }
-        ensures begun { self.new.begun ≡ self.old.begun }
-        ensures told { (made : Option Row) × ((before : List Operation) → FitsProgram params.now → HasRange operation
-            → self.old.registers ≡ registers_after params.now before
-            → self.old.in_sequence ≡ ends_open (matrix params.now before)
-            → Finishes params.now before operation made self.new)
-            × ((first : S) → HearsMade (S.story first) sink.old sink.new run.entry.order run.entry.params.now run.entry.bytes.now
-            header.now bytes.now operation made result) }
-    {
-        let Some(row) = self.finish(params, operation) else {
-            sink.operation_after(header, run, bytes, operation);
-            return None;
-        };
-        match sink.row_after(header, run, bytes, operation, &row) {
-            Flow::On => None,
-            Flow::Stop => Some(row),
-        }
     }
 
     /// Applies the current operation, which is complete, and gives the row that it appends, if any.
@@ -361,6 +284,8 @@ impl Program {
         ensures phase { self.new.phase ≡ self.old.phase }
         ensures begun { self.new.begun ≡ self.old.begun }
         ensures row { IfSome result (λ row. 1 ≤ rows_of operation) }
+        ensures made { result ≡ made_by params.now self.old.registers operation }
+        ensures registers { self.new.registers ≡ settled params.now operation (applied params.now self.old.registers operation) }
         ensures finishes { (before : List Operation) → FitsProgram params.now → HasRange operation
             → self.old.registers ≡ registers_after params.now before
             → self.old.in_sequence ≡ ends_open (matrix params.now before)

@@ -10,14 +10,14 @@ use dl_head::Params;
 /// The registers of the line number state machine. Address and line wrap at 2^64.
 #[derive(Clone, Copy)]
 pub struct Registers {
-    address: u64,
-    file: u64,
-    line: u64,
+    pub address: u64,
+    pub file: u64,
+    pub line: u64,
     column: u64,
     isa: u64,
     discriminator: u64,
     op_index: u8,
-    is_stmt: bool,
+    pub is_stmt: bool,
     basic_block: bool,
     prologue_end: bool,
     epilogue_begin: bool,

@@ -4,7 +4,7 @@ ghost use Rattle.std.specs.Prelude.{◌≡◌, [], ◌∷◌, ◌++◌, ◌≤�
 ghost use Rattle.dl_rows.specs.Items.{Item, a_byte, an_operation};
 
 use crate::operation::Operation;
-use crate::quiet_run::QuietRun;
+use crate::plain_run::PlainRun;
 use crate::row::Row;
 use dl_head::Header;
 
@@ -39,10 +39,9 @@ pub trait OperationSink {
 
 /// What hears the program of a unit, and the row that an operation appends after the operation.
 pub trait ProgramSink: OperationSink {
-    ghost use Rattle.std.specs.Prelude.{List, ◌∷◌, ◌++◌, [], map};
-    ghost use Rattle.dl_rows.specs.Items.{Item, a_byte, an_operation, a_row};
-    ghost use Rattle.dl_field.specs.Usable.{IsUsable};
-    ghost use Rattle.dl_rows.specs.Quiet.{IsQuietRun, SpeltOne, items_of_run};
+    ghost use Rattle.std.specs.Prelude.{List, ◌∷◌, ◌++◌, [], if◌then◌else◌};
+    ghost use Rattle.dl_rows.specs.Items.{Item, a_row};
+    ghost use Rattle.dl_rows.specs.Plain.{IsPlainRun, PlainOne, items_of_plain};
     ghost use Rattle.dl_rows.specs.Sinks.{Heard};
 
     /// The row that this operation appends, under the header of its unit.
@@ -50,39 +49,22 @@ pub trait ProgramSink: OperationSink {
         ensures { (first : Self) (items : List Item) → (Self.story first).hears self.old items
             → Heard (Self.story first) self.new (items ++ a_row header.now row.now ∷ []) result };
 
-    /// Whether quiet operations are told it in runs, by `operation_after` and `row_after`, and not each by itself.
+    /// Whether it may hear plain runs as one, by `plain_run`.
     #[inline(always)]
     fn hears_runs(&self) -> bool {
         false
     }
 
-    /// The bytes of a run, each operation of it after its last byte, and then the bytes of this operation and itself, which
-    /// appends no row.
-    fn operation_after(
-        &mut self,
-        header: &Header,
-        run: QuietRun<'_>,
-        bytes: &[u8],
-        operation: Operation,
-    )
-        requires { IsUsable run.params.now }
-        ensures { (first : Self) (items : List Item) (ss : List SpeltOne) → (Self.story first).hears self.old items
-            → IsQuietRun run.entry.order run.entry.params.now run.entry.bytes.now ss
-            → (Self.story first).hears self.new (items ++ (items_of_run header.now ss ++ (map a_byte bytes.now ++ an_operation header.now operation ∷ []))) };
-
-    /// The same, and the row that this operation appends.
-    fn row_after(
-        &mut self,
-        header: &Header,
-        run: QuietRun<'_>,
-        bytes: &[u8],
-        operation: Operation,
-        row: &Row,
-    ) -> Flow
-        requires { IsUsable run.params.now }
-        ensures { (first : Self) (items : List Item) (ss : List SpeltOne) → (Self.story first).hears self.old items
-            → IsQuietRun run.entry.order run.entry.params.now run.entry.bytes.now ss
-            → Heard (Self.story first) self.new (items ++ (items_of_run header.now ss ++ (map a_byte bytes.now ++ an_operation header.now operation ∷ a_row header.now row.now ∷ []))) result };
+    /// Plain operations one after the other under the header of their unit, each with its bytes and its row. It may answer false
+    /// and have heard nothing; then it is told each by itself.
+    #[inline(always)]
+    fn plain_run(&mut self, _header: &Header, _run: &PlainRun<'_>) -> bool
+        ensures { (first : Self) (items : List Item) (ones : List PlainOne) → (Self.story first).hears self.old items
+            → IsPlainRun _header.now.params _run.now ones
+            → (Self.story first).hears self.new (if result then items ++ items_of_plain _header.now ones else items) }
+    {
+        false
+    }
 }
 
 /// Tells a sink the operation that ends where the tail begins, with those of its bytes that stand before it.
@@ -122,25 +104,6 @@ impl OperationSink for EachRow {
 impl ProgramSink for EachRow {
     #[inline(always)]
     fn row(&mut self, _header: &Header, _row: &Row) -> Flow {
-        Flow::Stop
-    }
-
-    fn operation_after(
-        &mut self,
-        _header: &Header,
-        _run: QuietRun<'_>,
-        _bytes: &[u8],
-        _operation: Operation,
-    ) {}
-
-    fn row_after(
-        &mut self,
-        _header: &Header,
-        _run: QuietRun<'_>,
-        _bytes: &[u8],
-        _operation: Operation,
-        _row: &Row,
-    ) -> Flow {
         Flow::Stop
     }
 }

@@ -145,7 +145,7 @@ pub use Rattle.dl_sections.specs.declared.passing_over.OtherVersions.{OtherVersi
 pub use Rattle.dl_sections.specs.declared.passing_over.PassedOver.{PassedOver}
 pub use Rattle.dl_sections.specs.declared.passing_over.VersionRange.{VersionRange}
 pub use Rattle.dl_sections.specs.declared.section.SectionUnits.{SectionUnits}
-pub use Rattle.dl_sections.specs.declared.section.Told.{Told}
+pub use Rattle.dl_sections.specs.declared.told.Told.{Told}
 pub use Rattle.dl_emit.specs.declared.fault.EmitFault.TheVariants as emit
 pub use Rattle.dl_rows.specs.declared.reader.Event.TheVariants as event
 pub use Rattle.dl_sections.specs.declared.fault.RunFault.TheVariants as fault

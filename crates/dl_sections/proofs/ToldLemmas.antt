@@ -10,8 +10,8 @@ use Rattle.dl_rows.proofs.ItemLemmas.{rows-append}
 use Rattle.dl_rows.specs.Reading.{row_answered, row_told}
 use Rattle.dl_sections.specs.Blaming.{BlamesWriter, IsBlamed}
 use Rattle.dl_sections.specs.Told.{GoesOnAs}
-use Rattle.dl_sections.specs.Visiting.{HearsAll}
-use Rattle.std.proofs.Common.{Bool, ap}
+use Rattle.dl_sections.specs.Visiting.{HearsRun}
+use Rattle.std.proofs.Common.{Bool, MutBor, ap, length}
 use Rattle.dl_sections.proofs.Names.event
 use Rattle.dl_sections.proofs.Names.fault
 
@@ -39,6 +39,20 @@ pub counts_row : (old_rows old_ends rows_now ends_now rows_new ends_new : ℕ) (
 counts_row old_rows old_ends rows_now ends_now rows_new ends_new items header r counts more_rows more_ends =
     rw (rows-append items (a_row header r ∷ []))
     (counts_more old_rows old_ends rows_now ends_now rows_new ends_new (rows_of_items items) r counts more_rows more_ends)
+
+-- what a run of them counts
+counts_run : (old_rows old_ends rows_now ends_now rows_new ends_new : ℕ) (items more : List Item) (n : ℕ)
+    → length (rows_of_items more) ≡ n → ends (rows_of_items more) ≡ 0
+    → Counted old_rows old_ends rows_now ends_now (rows_of_items items)
+    → rows_new ≡ min (rows_now + n) (2 ^ 64 - 1) → ends_new ≡ ends_now
+    → Counted old_rows old_ends rows_new ends_new (rows_of_items (items ++ more))
+counts_run old_rows old_ends rows_now ends_now rows_new ends_new items more n count no_end counts more_rows same_ends =
+    let size = length-append (rows_of_items items) (rows_of_items more) in
+    let ends_are = ends-append (rows_of_items items) (rows_of_items more) in
+    rw (rows-append items more) (record {
+      of_rows = λ small. omega (arith, counts.of_rows (omega (arith, small, size)), more_rows, small, size, count);
+      of_ends = λ small. omega (arith, counts.of_ends (omega (arith, small, ends_are)), same_ends, ends_are, no_end);
+    })
 
 -- ---- items, one after the other
 
@@ -146,51 +160,37 @@ module _ {W V : Type 0} (story : Story V) (Fails : Type 0) (contents : W → Opt
   goes_on_as first now items None none told = told
   goes_on_as first now items (Some f) none told = absurd cc
 
-  -- more was told together, up to what it stops at or all of it: no row is in it
-  pub told_quiet : (first now new : Told W V) (items more : List Item) (told : Bool) → rows_of_items more ≡ []
-      → GoesOnAs story Fails contents first now items None → is_some new.failed ≡ false
-      → new.output.ghost_name ≡ now.output.ghost_name → new.visitor.ghost_name ≡ now.visitor.ghost_name
-      → new.rows ≡ now.rows → new.sequences ≡ now.sequences
-      → HearsAll story now.visitor.now new.visitor.now (contents now.output.now) (contents new.output.now) (map of_item more) (Ok told) → told ≡ true
+  -- a run was told, which has so many rows and no end row
+  pub told_run : (first now new : Told W V) (items more : List Item) (told : Bool) (n : ℕ) → length (rows_of_items more) ≡ n
+      → ends (rows_of_items more) ≡ 0 → GoesOnAs story Fails contents first now items None → is_some new.failed ≡ false
+      → new.output ≡ now.output → new.visitor.ghost_name ≡ now.visitor.ghost_name
+      → new.rows ≡ min (now.rows + n) (2 ^ 64 - 1) → new.sequences ≡ now.sequences
+      → HearsRun story now.visitor.now new.visitor.now (map of_item more) told → told ≡ true
       → GoesOnAs story Fails contents first new (items ++ more) new.failed
-  told_quiet first now new items more told quiet before none output visitor rows sequences hears is =
+  told_run first now new items more told n count no_end before none output visitor rows sequences hears is =
       goes_on_as first new (items ++ more) new.failed none (
-        record {
-          of_rows = rw (rows-append items more, quiet, append-nil, rows) before.0.of_rows;
-          of_ends = rw (rows-append items more, quiet, append-nil, sequences) before.0.of_ends;
-        },
-        told_more first now new items more (Ok (tt {0})) before.1 output visitor (λ fst start visits tells. rw is at (hears fst start visits tells)) tt,
-      )
-
-  -- or this row alone
-  pub told_row : (first now new : Told W V) (items more : List Item) (told : Bool) (r : Row) → rows_of_items more ≡ r ∷ []
-      → GoesOnAs story Fails contents first now items None → is_some new.failed ≡ false
-      → new.output.ghost_name ≡ now.output.ghost_name → new.visitor.ghost_name ≡ now.visitor.ghost_name
-      → new.rows ≡ min (now.rows + 1) (2 ^ 64 - 1) → new.sequences ≡ min (now.sequences + cond r.end_sequence 1 0) (2 ^ 64 - 1)
-      → HearsAll story now.visitor.now new.visitor.now (contents now.output.now) (contents new.output.now) (map of_item more) (Ok told) → told ≡ true
-      → GoesOnAs story Fails contents first new (items ++ more) new.failed
-  told_row first now new items more told r row before none output visitor rows sequences hears is =
-      goes_on_as first new (items ++ more) new.failed none (
-        subst (λ (all : List Row). Counted first.rows first.sequences new.rows new.sequences all)
-            (sym (rows-append items more ∙ ap (λ (l : List Row). rows_of_items items ++ l) row))
-            (counts_more first.rows first.sequences now.rows now.sequences new.rows new.sequences (rows_of_items items) r before.0 rows sequences),
-        told_more first now new items more (Ok (tt {0})) before.1 output visitor (λ fst start visits tells. rw is at (hears fst start visits tells)) tt,
+        counts_run first.rows first.sequences now.rows now.sequences new.rows new.sequences items more n count no_end before.0 rows sequences,
+        told_more first now new items more (Ok (tt {0})) before.1 (ap (λ (o : MutBor W). o.ghost_name) output) visitor
+            (λ fst start visits tells. subst (λ (o : MutBor W). story.tells fst new.visitor.now start (contents o.now) (visits ++ map of_item more))
+            (sym output) (rw is at (hears fst start (contents now.output.now) visits tells))) tt,
       )
 
   -- or nothing was told
   pub told_nothing : (first now new : Told W V) (items : List Item) (more : List Visit) (told : Bool)
       → GoesOnAs story Fails contents first now items None → is_some new.failed ≡ false
-      → new.output.ghost_name ≡ now.output.ghost_name → new.visitor.ghost_name ≡ now.visitor.ghost_name
+      → new.output ≡ now.output → new.visitor.ghost_name ≡ now.visitor.ghost_name
       → new.rows ≡ now.rows → new.sequences ≡ now.sequences
-      → HearsAll story now.visitor.now new.visitor.now (contents now.output.now) (contents new.output.now) more (Ok told) → told ≡ false
+      → HearsRun story now.visitor.now new.visitor.now more told → told ≡ false
       → GoesOnAs story Fails contents first new items new.failed
   told_nothing first now new items more told before none output visitor rows sequences hears is =
       goes_on_as first new items new.failed none (
         record { of_rows = rw rows before.0.of_rows; of_ends = rw sequences before.0.of_ends },
         record {
-          output = output ∙ before.1.output;
+          output = ap (λ (o : MutBor W). o.ghost_name) output ∙ before.1.output;
           visitor = visitor ∙ before.1.visitor;
-          hears = λ fst start visits tells. rw is at (hears fst start (visits ++ map of_item items) (before.1.hears fst start visits tells));
+          hears = λ fst start visits tells.
+              subst (λ (o : MutBor W). story.tells fst new.visitor.now start (contents o.now) (visits ++ map of_item items)) (sym output)
+              (rw is at (hears fst start (contents now.output.now) (visits ++ map of_item items) (before.1.hears fst start visits tells)));
           blames = tt;
         },
       )

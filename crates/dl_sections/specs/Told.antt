@@ -12,7 +12,7 @@ use Rattle.dl_rows.specs.ReaderAnswers.{FedAfter}
 use Rattle.dl_rows.specs.Reading.{opening_answered, row_answered}
 use Rattle.dl_sections.specs.declared.fault.RunFault.{RunFault}
 use Rattle.dl_sections.specs.declared.fault.RunFault.TheVariants as fault
-use Rattle.dl_sections.specs.declared.section.Told.{Told}
+use Rattle.dl_sections.specs.declared.told.Told.{Told}
 use Rattle.dl_sections.specs.declared.section.SectionUnits.{SectionUnits}
 use Rattle.dl_sections.specs.Blaming.{BlamesWriter}
 use Rattle.dl_sections.specs.Section.{of_item}

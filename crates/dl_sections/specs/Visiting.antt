@@ -60,13 +60,11 @@ Hears {S} story old new before after more result =
     → MatchResult result (λ _. story.tells first new start after (visits ++ more))
     (StopsIn story first new start after visits more)
 
--- it is told more visits, up to one at which it stops, or none of them
-abbrev pub HearsAll : {S : Type 0} → Story S → (old new : S) (before after : Option (List ℕ)) (more : List Visit)
-    → Result Bool RunFault → Type 0
-HearsAll {S} story old new before after more result =
-    (first : S) (start : Option (List ℕ)) (visits : List Visit) → story.tells first old start before visits
-    → MatchResult result (λ told. story.tells first new start after (if told then visits ++ more else visits))
-    (StopsIn story first new start after visits more)
+-- it is told more visits, or none of them, and prints nothing
+abbrev pub HearsRun : {S : Type 0} → Story S → (old new : S) (more : List Visit) → Bool → Type 0
+HearsRun {S} story old new more told =
+    (first : S) (start held : Option (List ℕ)) (visits : List Visit) → story.tells first old start held visits
+    → story.tells first new start held (if told then visits ++ more else visits)
 
 -- how it stands after a unit
 abbrev pub GoesOn : {S : Type 0} → Story S → (first new : S) (start now : Option (List ℕ)) (visits : List Visit) → Flow

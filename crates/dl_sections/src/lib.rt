@@ -16,6 +16,7 @@ mod passing_over;
 mod reporting;
 mod section;
 mod strings;
+mod told;
 
 pub use around::{AroundDamage, Damage, DamagedUnits, Survey, read_units_around};
 pub use around_in_memory::{UnitSinkAround, read_section_around};

@@ -9,9 +9,6 @@ ghost use Rattle.dl_num.specs.declared.fixed.Order.{Order};
 ghost use Rattle.std.specs.Io.KnownBytes.{Appends, Consumes};
 ghost use Rattle.dl_head.specs.Header.{unit_len};
 ghost use Rattle.std.specs.Prelude.{option_map};
-ghost use Rattle.dl_field.specs.Usable.{IsUsable};
-ghost use Rattle.dl_rows.specs.Items.{Item, a_byte, an_operation};
-ghost use Rattle.dl_rows.specs.Quiet.{IsQuietRun, SpeltOne, items_of_run};
 ghost use Rattle.dl_rows.specs.LineUnit.{IsUnit, ends_open, unit_rows};
 ghost use Rattle.dl_rows.specs.Progress.{taken_of};
 ghost use Rattle.dl_rows.specs.Reading.{IsPause};
@@ -28,13 +25,12 @@ ghost use Rattle.dl_sections.specs.GoingOn.{BeginsAt};
 use crate::around::Damage;
 use crate::fault::RunFault;
 use crate::options::{Options, SECTION_LIMIT};
+use crate::told::Told;
 use dl_head::{Dialect, Fault, Header, HeaderLengths};
 use dl_input::{Input, Source};
 use dl_output::Destination;
 use dl_print::{Summary, WriteFault};
-use dl_rows::{
-    Event, Fed, Flow, Operation, OperationSink, ProgramSink, QuietRun, Reader, Row, tell_run,
-};
+use dl_rows::{Event, Fed, Flow, Operation, PlainRun, Reader, Row};
 use std::alloc::Global;
 use std::mem;
 
@@ -44,13 +40,12 @@ use std::mem;
 /// An `Err` stops the reading, and is what `read_units` answers.
 pub trait Visitor<W: Destination> {
     ghost use Rattle.std.specs.Prelude.{◌++◌, ◌∷◌, [], map};
-    ghost use Rattle.dl_field.specs.Usable.{IsUsable};
     ghost use Rattle.dl_rows.specs.Items.{a_byte, a_row, an_operation};
-    ghost use Rattle.dl_rows.specs.Quiet.{IsQuietRun, SpeltOne, items_of_run};
+    ghost use Rattle.dl_rows.specs.Plain.{IsPlainRun, PlainOne, items_of_plain};
     ghost use Rattle.dl_rows.specs.declared.sink.Flow.{Flow};
     ghost use Rattle.dl_sections.specs.Section.{of_header, of_version, of_item, of_open, of_end};
     ghost use Rattle.dl_sections.specs.Blaming.{BlamesWriter};
-    ghost use Rattle.dl_sections.specs.Visiting.{Story, Hears, HearsAll, HearsEnd, Settles, as_run};
+    ghost use Rattle.dl_sections.specs.Visiting.{Story, Hears, HearsEnd, HearsRun, Settles, as_run};
 
     /// What is said of the visitor and of what it prints.
     ghost story: { Story Self };
@@ -96,51 +91,20 @@ pub trait Visitor<W: Destination> {
             (of_item (a_row header.now row.now) ∷ []) result }
         ensures blames_writer { BlamesWriter W.fails result };
 
-    /// Whether operations that are quiet are told in runs, by `operation_after` and `row_after`, and not each by itself.
+    /// Whether it may hear plain runs as one, by `plain_run`.
     #[inline(always)]
     fn hears_runs(&self) -> bool {
         false
     }
 
-    /// The bytes of a run, each operation of it after its last byte, and then the bytes of this operation and itself, which
-    /// appends no row, under the header of the current unit. A visitor may answer false and have heard nothing; then `bytes` and
-    /// `operation` tell it.
+    /// Plain operations one after the other under the header of the current unit, each with its bytes and its row. A visitor may
+    /// answer false and have heard nothing; then `bytes`, `operation` and `row` tell it.
     #[inline(always)]
-    fn operation_after(
-        &mut self,
-        _output: &mut W,
-        _header: &Header,
-        _run: QuietRun<'_>,
-        _bytes: &[u8],
-        _operation: Operation,
-    ) -> Result<bool, WriteFault>
-        requires { IsUsable _run.params.now }
-        ensures heard { (ss : List SpeltOne) → IsQuietRun _run.entry.order _run.entry.params.now _run.entry.bytes.now ss
-            → HearsAll story self.old self.new (W.contents _output.old) (W.contents _output.new)
-            (map of_item (items_of_run _header.now ss ++ (map a_byte _bytes.now ++ an_operation _header.now _operation ∷ []))) (as_run result) }
-        ensures blames_writer { BlamesWriter W.fails (as_run result) }
+    fn plain_run(&mut self, _header: &Header, _run: &PlainRun<'_>) -> bool
+        ensures heard { (ones : List PlainOne) → IsPlainRun _header.now.params _run.now ones
+            → HearsRun story self.old self.new (map of_item (items_of_plain _header.now ones)) result }
     {
-        Ok(false)
-    }
-
-    /// The same, and the row that this operation appends.
-    #[inline(always)]
-    fn row_after(
-        &mut self,
-        _output: &mut W,
-        _header: &Header,
-        _run: QuietRun<'_>,
-        _bytes: &[u8],
-        _operation: Operation,
-        _row: &Row,
-    ) -> Result<bool, RunFault>
-        requires { IsUsable _run.params.now }
-        ensures heard { (ss : List SpeltOne) → IsQuietRun _run.entry.order _run.entry.params.now _run.entry.bytes.now ss
-            → HearsAll story self.old self.new (W.contents _output.old) (W.contents _output.new)
-            (map of_item (items_of_run _header.now ss ++ (map a_byte _bytes.now ++ an_operation _header.now _operation ∷ a_row _header.now _row.now ∷ []))) result }
-        ensures blames_writer { BlamesWriter W.fails result }
-    {
-        Ok(false)
+        false
     }
 
     /// The current unit is whole, and its last row isn't an end row.
@@ -161,194 +125,6 @@ pub trait Visitor<W: Destination> {
         ensures settled { (flow : Flow) → Settles story self.old self.new
             (W.contents output.old) (W.contents output.new) flow result }
         ensures blames_writer { BlamesWriter W.fails result };
-}
-
-/// Tells a visitor the program of a unit, and counts its rows. Once the visitor stopped it is told nothing more.
-#[derive(Drop)]
-struct Told<'a, W, V> {
-    output: &'a mut W,
-    visitor: &'a mut V,
-    /// End rows and rows.
-    sequences: u64,
-    rows: u64,
-    /// Why the visitor stopped.
-    failed: Option<RunFault>,
-}
-
-impl<W: Destination, V: Visitor<W>> OperationSink for Told<'_, W, V> {
-    ghost use Rattle.dl_sections.specs.Told.{told_story};
-
-    ghost story = { told_story V.story W.fails W.contents };
-
-    #[inline(always)]
-    fn bytes(&mut self, bytes: &[u8]) {
-        if self.failed.is_some() {
-            return;
-        }
-        if let Err(fault) = self.visitor.bytes(self.output, bytes) {
-            self.failed = Some(RunFault::from(fault));
-        }
-    }
-
-    #[inline(always)]
-    fn operation(&mut self, header: &Header, operation: Operation) {
-        if self.failed.is_some() {
-            return;
-        }
-        if let Err(fault) = self.visitor.operation(self.output, header, operation) {
-            self.failed = Some(RunFault::from(fault));
-        }
-    }
-}
-
-impl<W: Destination, V: Visitor<W>> ProgramSink for Told<'_, W, V> {
-    #[inline(always)]
-    fn row(&mut self, header: &Header, row: &Row) -> Flow {
-        self.tell_row(header, row)
-    }
-
-    #[inline(always)]
-    fn hears_runs(&self) -> bool {
-        self.visitor.hears_runs()
-    }
-
-    #[inline(always)]
-    fn operation_after(
-        &mut self,
-        header: &Header,
-        run: QuietRun<'_>,
-        bytes: &[u8],
-        operation: Operation,
-    ) {
-        if self.failed.is_some() {
-            return;
-        }
-        match self
-            .visitor
-            .operation_after(self.output, header, run, bytes, operation)
-        {
-            Ok(true) => {}
-            Ok(false) => tell_after(self, header, run, bytes, operation),
-            Err(fault) => self.failed = Some(RunFault::from(fault)),
-        }
-    }
-
-    #[inline(always)]
-    fn row_after(
-        &mut self,
-        header: &Header,
-        run: QuietRun<'_>,
-        bytes: &[u8],
-        operation: Operation,
-        row: &Row,
-    ) -> Flow {
-        if self.failed.is_some() {
-            return Flow::Stop;
-        }
-        match self
-            .visitor
-            .row_after(self.output, header, run, bytes, operation, row)
-        {
-            Ok(true) => {
-                self.count(row);
-                Flow::On
-            }
-            Ok(false) => self.tell_each(header, run, bytes, operation, *row),
-            Err(fault) => {
-                self.failed = Some(fault);
-                Flow::Stop
-            }
-        }
-    }
-}
-
-/// Tells a sink the bytes of a run, each operation of it after its last byte, and then those of an operation and itself.
-#[cold]
-#[inline(never)]
-fn tell_after<S: OperationSink>(
-    sink: &mut S,
-    header: &Header,
-    run: QuietRun<'_>,
-    bytes: &[u8],
-    operation: Operation,
-)
-    requires { IsUsable run.params.now }
-    ensures { (first : S) (items : List Item) (ss : List SpeltOne) → (S.story first).hears sink.old items
-        → IsQuietRun run.entry.order run.entry.params.now run.entry.bytes.now ss
-        → (S.story first).hears sink.new (items ++ (items_of_run header.now ss ++ (map a_byte bytes.now ++ an_operation header.now operation ∷ []))) }
-{
-    tell_run(sink, header, run);
-    sink.bytes(bytes);
-    sink.operation(header, operation);
-}
-
-impl<W: Destination, V: Visitor<W>> Told<'_, W, V> {
-    ghost use Rattle.std.specs.Prelude.{List, ◌∷◌, ◌++◌, [], map};
-    ghost use Rattle.dl_field.specs.Usable.{IsUsable};
-    ghost use Rattle.dl_rows.specs.Items.{Item, a_byte, a_row, an_operation};
-    ghost use Rattle.dl_rows.specs.Quiet.{IsQuietRun, SpeltOne, items_of_run};
-    ghost use Rattle.dl_rows.specs.Sinks.{Heard};
-    ghost use Rattle.dl_sections.specs.declared.section.Told.{Told as ToldItems};
-    ghost use Rattle.dl_sections.specs.Told.{told_story};
-
-    /// A run, an operation and the row that it appends, each by itself.
-    #[cold]
-    #[inline(never)]
-    fn tell_each(
-        &mut self,
-        header: &Header,
-        run: QuietRun<'_>,
-        bytes: &[u8],
-        operation: Operation,
-        row: Row,
-    ) -> Flow
-        requires { IsUsable run.params.now }
-        ensures { (first : ToldItems W V) (items : List Item) (ss : List SpeltOne)
-            → (told_story V.story W.fails W.contents first).hears self.old items
-            → IsQuietRun run.entry.order run.entry.params.now run.entry.bytes.now ss
-            → Heard (told_story V.story W.fails W.contents first) self.new (items ++ (items_of_run header.now ss ++ (map a_byte bytes.now ++ an_operation header.now operation ∷ a_row header.now row ∷ []))) result }
-    {
-        tell_after(self, header, run, bytes, operation);
-        self.tell_row(header, &row)
-    }
-
-    /// The row that the last operation appends.
-    #[inline(always)]
-    fn tell_row(&mut self, header: &Header, row: &Row) -> Flow
-        ensures { (first : ToldItems W V) (items : List Item) → (told_story V.story W.fails W.contents first).hears self.old items
-            → Heard (told_story V.story W.fails W.contents first) self.new (items ++ a_row header.now row.now ∷ []) result }
-    {
-        if self.failed.is_some() {
-            return Flow::Stop;
-        }
-        match self.visitor.row(self.output, header, row) {
-            Ok(()) => {
-                self.count(row);
-                Flow::On
-            }
-            Err(fault) => {
-                self.failed = Some(fault);
-                Flow::Stop
-            }
-        }
-    }
-}
-
-impl<W, V> Told<'_, W, V> {
-    ghost use Rattle.std.specs.Prelude.{◌≡◌, ◌+◌, cond};
-    ghost use Rattle.dl_print.specs.Counts.{add};
-
-    /// One row more.
-    #[inline(always)]
-    fn count(&mut self, row: &Row)
-        ensures { self.new ≡ record self.old {
-          rows = add self.old.rows 1;
-          sequences = add self.old.sequences (cond row.now.end_sequence 1 0);
-        } }
-    {
-        self.rows = self.rows.saturating_add(1);
-        self.sequences = self.sequences.saturating_add(u64::from(row.end_sequence));
-    }
 }
 
 /// Where a reader is in a section.

@@ -1,6 +1,6 @@
 use Rattle.std.proofs.Common.{true, false, refl, sym, ap, ◌∙◌}
-use Rattle.dl_rows.specs.Machine.{cleared}
-use Rattle.dl_rows.proofs.RegisterLemmas.{appends_none, finishes_with_row, finishes_without, settled_special}
+use Rattle.dl_rows.specs.Machine.{applied, cleared}
+use Rattle.dl_rows.proofs.RegisterLemmas.{appends_none, finishes_with_row, finishes_without, settled-plain, settled_special}
 use Rattle.dl_rows.proofs.program.Program.finish.Goals as goal
 
 pub returns-in-Special-clause-finishes : goal.returns-in-Special-clause-finishes
@@ -21,6 +21,10 @@ returns-in_default c = record {
   phase = refl;
   begun = refl;
   row = tt;
+  made = rw (appends_none c.args.operation c.in_default.not-Special c.in_default.not-Copy c.in_default.not-EndSequence) refl;
+  registers = c.apply.ensures
+      ∙ sym (settled-plain c.args.params.now c.args.operation (applied c.args.params.now c.args.self.now.registers c.args.operation)
+      (appends_none c.args.operation c.in_default.not-Special c.in_default.not-Copy c.in_default.not-EndSequence));
   finishes = λ before fits range registers was. finishes_without fits range
       (appends_none c.args.operation c.in_default.not-Special c.in_default.not-Copy c.in_default.not-EndSequence)
       (rw registers at c.apply.ensures) was;

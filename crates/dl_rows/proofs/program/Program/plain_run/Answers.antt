@@ -1,0 +1,69 @@
+use Rattle.std.proofs.Common.{[], ◌≡◌, ◌∙◌, ◌-◌, ◌++◌, ℕ, List, ap, append_assoc, arith, length, length-append, refl, subst, sym}
+use Rattle.dl_rows.specs.Plain.{Along, along_from}
+use Rattle.dl_rows.specs.PlainWalks.{IsRunAt, IsSingle}
+use Rattle.dl_rows.specs.Programs.{ProgramStands}
+use Rattle.dl_rows.specs.declared.program.Program.{Program}
+use Rattle.dl_rows.specs.declared.program.plain.PlainWalk.{PlainWalk}
+use Rattle.dl_rows.proofs.PlainTells.{SoFar, far_more, far_none, run_of, single_here}
+use Rattle.dl_rows.proofs.ProgramTells.{front_taken}
+use Rattle.dl_rows.proofs.program.Program.plain_run.Goals.{in-Some+then-not-take, in_default}
+use Rattle.dl_rows.proofs.program.Program.plain_run.Goals as goal
+
+pub loop-operation-init : goal.loop-operation-init
+loop-operation-init c =
+    let along = c.new-walk.ensures.along in
+    let same = sym c.new-walk.ensures.program in
+    record {
+      phase = sym (ap (λ (p : Program). p.phase) same);
+      begun = sym (ap (λ (p : Program). p.begun) same);
+      room = omega (arith, ap (λ (p : Along). length p.files) along);
+      count = omega (arith, ap (λ (p : Along). p.count) along);
+      front = ([], refl);
+      far = λ b header fits all stands. far_none c.args.bytes.now _ along
+          (subst (λ (p : Program). IsSingle c.args.params.now p) same (single_here c.requires.single stands))
+          (subst (λ (p : Program). ProgramStands c.args.order c.args.params.now p b) same stands);
+    }
+
+pub loop-operation-preserved : goal.loop-operation-preserved
+loop-operation-preserved c =
+    let o = c.in-Some.ensures.operation in
+    let was = c.loop-operation.invariant in
+    let f = was.front in
+    let tail = c.in-Some.tail.now in
+    let takes = c.take.ensures.takes c.if-not-take.false in
+    let size : length c.loop-operation.rest.now - length tail ≡ length o.0 = omega (arith, ap length o.1, length-append o.0 tail) in
+    record {
+      phase = takes.phase ∙ was.phase;
+      begun = takes.begun ∙ was.begun;
+      room = c.take.ensures.room;
+      count = omega (arith, c.take.ensures.count, c.in-Some.ensures.left, was.count);
+      front = (f.0 ++ o.0, f.1 ∙ ap (λ (l : List ℕ). f.0 ++ l) o.1 ∙ sym (append_assoc f.0 o.0 tail));
+      far = λ b header fits all stands.
+          subst (λ (n : ℕ). SoFar c.args.order c.args.params.now header b c.args.bytes.now
+          (along_from c.args.self.now.registers.address c.args.self.now.registers.file) c.take.new.self (f.0 ++ o.0) n tail) (sym size)
+          (far_more (was.far b header fits all stands) fits all (was.phase ∙ c.requires.between) o.0 tail o.1 o.2
+          (omega (arith, c.in-Some.ensures.few, size, c.in-Some.ensures.left)) takes);
+    }
+
+pub returns-clause-split : goal.returns-clause-split
+returns-clause-split c =
+    let f = c.loop-operation.invariant.front in
+    let rest = c.loop-operation.rest.now in
+    let is = c.end-run.ensures.bytes ∙ front_taken c.args.bytes.now f.0 rest f.1 in
+    f.1 ∙ ap (λ (l : List ℕ). l ++ rest) (sym is)
+
+pub returns-clause-run : goal.returns-clause-run
+returns-clause-run c b header fits all stands =
+    let was = c.loop-operation.invariant in
+    let f = was.front in
+    let same : c.match-short_operation.walk ≡ c.loop-operation.walk = elim c.match-short_operation.branch [
+      | in-Some+then-not-take w ↦ w.walk-is ∙ w.take.ensures.stays w.if-not-take.true
+      | in_default w ↦ w.walk-is
+    ] in
+    let is = c.end-run.ensures.bytes ∙ front_taken c.args.bytes.now f.0 c.loop-operation.rest.now f.1 in
+    let far = subst (λ (w : PlainWalk). SoFar c.args.order c.args.params.now header b c.args.bytes.now
+    (along_from c.args.self.now.registers.address c.args.self.now.registers.file) w f.0 c.loop-operation.last_bytes c.loop-operation.rest.now)
+    (sym same) (was.far b header fits all stands) in
+    subst (λ (p : Program). IsRunAt c.args.order c.args.params.now header b c.args.bytes.now p c.end-run.result.1 c.loop-operation.rest.now)
+    (sym c.end-run.ensures.program)
+    (run_of c.end-run.result.1 c.requires.single is c.end-run.ensures.last_bytes c.end-run.ensures.from c.end-run.ensures.comes far)

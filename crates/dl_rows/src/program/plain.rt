@@ -1,0 +1,269 @@
+//! The plain run at the front of bytes of a program. Sections 6.2.2 and 6.2.5.1 to 6.2.5.3.
+
+ghost use Rattle.std.specs.Prelude.{◌≡◌, ◌<◌, ◌≤◌, ◌-◌, ◌+◌, ◌^◌, ◌*◌, ◌++◌, ℕ, List, length, true, IsTrue, IsFalse};
+ghost use Rattle.dl_field.specs.Usable.{IsUsable};
+ghost use Rattle.dl_field.specs.HeaderData.{HeaderData};
+ghost use Rattle.dl_num.specs.Laws.{AllBytes};
+ghost use Rattle.dl_rows.specs.Matrix.{advance};
+ghost use Rattle.dl_rows.specs.Plain.{ComesTo, along_from};
+ghost use Rattle.dl_rows.specs.PlainWalks.{IsRunAt, MayBePlain, TakesPlain, along_of, is_move, is_row, is_still};
+ghost use Rattle.dl_rows.specs.Programs.{ProgramStands};
+ghost use Rattle.dl_rows.specs.Sums.{FitsProgram};
+ghost use Rattle.dl_rows.specs.declared.operation.Operation.TheVariants as op;
+ghost use Rattle.dl_rows.specs.declared.operation_state.OperationState.TheVariants as phase;
+
+use super::Program;
+use crate::operation::Operation;
+use crate::operation_state::short_operation;
+use crate::plain_run::{PlainRows, PlainRun, RUN_FILES};
+use dl_head::Params;
+use dl_num::Order;
+
+/// The greatest line of a row of a run.
+const GREATEST_LINE: u64 = 0xffff_ffff;
+
+/// The greatest number of bytes that the smallest instruction of a program with runs has.
+const GREATEST_LENGTH: u8 = 16;
+
+/// The greatest operand of DW_LNS_advance_pc in a run.
+const GREATEST_ADVANCE: u64 = 0xffff_ffff;
+
+/// Where a reader is in a plain run.
+#[derive(Drop)]
+pub struct PlainWalk {
+    program: Program,
+    rows: PlainRows,
+    /// Whether a row has named the current file.
+    is_named: bool,
+}
+
+/// Whether programs of these params have plain runs.
+#[inline(always)]
+pub(super) fn may_be_plain(params: &Params) -> bool
+    ensures { IsTrue result → MayBePlain params.now }
+{
+    params.maximum_operations_per_instruction == 1
+        && params.minimum_instruction_length <= GREATEST_LENGTH
+}
+
+/// The greatest address of this size.
+pub fn greatest_address(params: &Params) -> u64
+    requires { IsUsable params.now }
+    ensures { result + 1 ≡ 2 ^ (8 * params.now.address_size) }
+{
+    match params.address_size {
+        1 => 0xff,
+        2 => 0xffff,
+        4 => 0xffff_ffff,
+        _ => 0xffff_ffff_ffff_ffff,
+    }
+}
+
+impl PlainWalk {
+    /// Before the first operation.
+    fn new(program: Program) -> PlainWalk
+        ensures program { result.program ≡ program }
+        ensures along { along_of result ≡ along_from program.registers.address program.registers.file }
+    {
+        PlainWalk {
+            program,
+            rows: PlainRows::none(),
+            is_named: false,
+        }
+    }
+
+    /// Takes an operation that may follow; else it answers false, and stays as it is. Each kind of operation has a copy of its
+    /// own, so that the registers stay in registers.
+    #[inline(always)]
+    fn take(&mut self, params: &Params, greatest: u64, operation: Operation) -> bool
+        requires usable { IsUsable params.now }
+        requires greatest { greatest + 1 ≡ 2 ^ (8 * params.now.address_size) }
+        requires least { params.now.minimum_instruction_length ≤ 16 }
+        requires count { self.old.rows.count + 1 < 2 ^ 64 }
+        requires room { length self.old.rows.files.items < 16 }
+        ensures stays { IsFalse result → self.new ≡ self.old }
+        ensures takes { IsTrue result → TakesPlain params.now self.old operation self.new }
+        ensures room { length self.new.rows.files.items < 16 }
+        ensures count { self.new.rows.count ≤ self.old.rows.count + 1 }
+    {
+        match operation {
+            Operation::Special(_) => self.take_row(params, greatest, operation),
+            Operation::Copy => self.take_row(params, greatest, operation),
+            Operation::AdvancePc(by) if by > GREATEST_ADVANCE => false,
+            Operation::AdvancePc(_) => self.take_advance(params, greatest, operation),
+            Operation::ConstAddPc => self.take_advance(params, greatest, operation),
+            Operation::SetAddress(address) => self.take_address(params, greatest, address),
+            Operation::SetFile(file) => self.take_file(params, file),
+            Operation::EndSequence | Operation::FixedAdvancePc(_) | Operation::Skipped => false,
+            _ => {
+                self.take_quiet(params, operation);
+                true
+            }
+        }
+    }
+}
+
+impl PlainWalk {
+    /// Takes an operation that appends a row and ends no sequence.
+    #[inline(always)]
+    fn take_row(&mut self, params: &Params, greatest: u64, operation: Operation) -> bool
+        requires usable { IsUsable params.now }
+        requires greatest { greatest + 1 ≡ 2 ^ (8 * params.now.address_size) }
+        requires count { self.old.rows.count + 1 < 2 ^ 64 }
+        requires least { params.now.minimum_instruction_length ≤ 16 }
+        requires kind { is_row operation ≡ true }
+        ensures stays { IsFalse result → self.new ≡ self.old }
+        ensures takes { IsTrue result → TakesPlain params.now self.old operation self.new }
+        ensures files { self.new.rows.files ≡ self.old.rows.files }
+        ensures count { self.new.rows.count ≤ self.old.rows.count + 1 }
+    {
+        let mut next = self.program;
+        next.finish(params, operation);
+        let address = next.registers.address;
+        if address < self.program.registers.address || greatest < address {
+            return false;
+        }
+        if GREATEST_LINE < next.registers.line {
+            return false;
+        }
+        self.rows.add(address, next.registers.is_stmt);
+        self.is_named = true;
+        self.program = next;
+        true
+    }
+
+    /// Takes DW_LNS_advance_pc or DW_LNS_const_add_pc.
+    #[inline(always)]
+    fn take_advance(&mut self, params: &Params, greatest: u64, operation: Operation) -> bool
+        requires usable { IsUsable params.now }
+        requires greatest { greatest + 1 ≡ 2 ^ (8 * params.now.address_size) }
+        requires least { params.now.minimum_instruction_length ≤ 16 }
+        requires kind { is_move operation ≡ true }
+        requires advance { advance params.now operation < 2 ^ 32 }
+        ensures stays { IsFalse result → self.new ≡ self.old }
+        ensures takes { IsTrue result → TakesPlain params.now self.old operation self.new }
+        ensures rows { self.new.rows ≡ self.old.rows }
+    {
+        let mut next = self.program;
+        next.finish(params, operation);
+        let address = next.registers.address;
+        if address < self.program.registers.address || greatest < address {
+            return false;
+        }
+        self.program = next;
+        true
+    }
+
+    /// Takes DW_LNE_set_address, where the run has no row.
+    #[inline(always)]
+    fn take_address(&mut self, params: &Params, greatest: u64, address: u64) -> bool
+        requires usable { IsUsable params.now }
+        requires greatest { greatest + 1 ≡ 2 ^ (8 * params.now.address_size) }
+        ensures stays { IsFalse result → self.new ≡ self.old }
+        ensures takes { IsTrue result → TakesPlain params.now self.old (op.SetAddress address) self.new }
+        ensures rows { self.new.rows ≡ self.old.rows }
+    {
+        if self.rows.count != 0 || greatest < address {
+            return false;
+        }
+        self.program.finish(params, Operation::SetAddress(address));
+        true
+    }
+
+    /// Takes DW_LNS_set_file, where the run has room for one more.
+    #[inline(always)]
+    fn take_file(&mut self, params: &Params, file: u64) -> bool
+        requires usable { IsUsable params.now }
+        requires room { length self.old.rows.files.items < 16 }
+        ensures room { length self.new.rows.files.items < 16 }
+        ensures stays { IsFalse result → self.new ≡ self.old }
+        ensures takes { IsTrue result → TakesPlain params.now self.old (op.SetFile file) self.new }
+        ensures count { self.new.rows.count ≡ self.old.rows.count }
+    {
+        if self.is_named {
+            if self.rows.files.len() + 1 >= RUN_FILES {
+                return false;
+            }
+            self.rows.files.push(self.program.registers.file);
+            self.is_named = false;
+        }
+        self.program.finish(params, Operation::SetFile(file));
+        true
+    }
+
+    /// Takes an operation that neither moves the address, sets the file nor appends a row.
+    #[inline(always)]
+    fn take_quiet(&mut self, params: &Params, operation: Operation)
+        requires usable { IsUsable params.now }
+        requires kind { is_still operation ≡ true }
+        ensures takes { TakesPlain params.now self.old operation self.new }
+        ensures rows { self.new.rows ≡ self.old.rows }
+    {
+        self.program.finish(params, operation);
+    }
+
+    /// The run of these bytes, which it took from this address on.
+    #[inline(always)]
+    fn end<'a>(self, bytes: &'a [u8], last_bytes: usize, from: u64) -> (Program, PlainRun<'a>)
+        requires { length self.rows.files.items < 16 }
+        ensures program { result.0 ≡ self.program }
+        ensures bytes { result.1.bytes.now ≡ bytes.entry.now }
+        ensures last_bytes { result.1.last_bytes ≡ last_bytes }
+        ensures from { result.1.from ≡ from }
+        ensures comes { ComesTo result.1 (along_of self) }
+    {
+        let to = self.program.registers.address;
+        let mut rows = self.rows;
+        if self.is_named {
+            rows.files.push(self.program.registers.file);
+        }
+        (
+            self.program,
+            PlainRun {
+                bytes,
+                last_bytes,
+                from,
+                to,
+                rows,
+            },
+        )
+    }
+}
+
+impl Program {
+    /// Takes operations as long as they make a plain run, between operations. It answers the run and the bytes after it.
+    #[inline(never)]
+    pub(super) fn plain_run<'a>(
+        &mut self,
+        order: Order,
+        params: &Params,
+        bytes: &'a [u8],
+    ) -> (PlainRun<'a>, &'a [u8])
+        requires usable { IsUsable params.now }
+        requires between { self.old.phase ≡ phase.Start }
+        requires single { MayBePlain params.now }
+        ensures phase { self.new.phase ≡ self.old.phase }
+        ensures begun { self.new.begun ≡ self.old.begun }
+        ensures split { bytes.entry.now ≡ result.0.bytes.now ++ result.1.now }
+        ensures run { (b : List ℕ) (header : HeaderData) → FitsProgram params.now → AllBytes bytes.entry.now
+            → ProgramStands order params.now self.old b
+            → IsRunAt order params.now header b bytes.entry.now self.new result.0 result.1.now }
+    {
+        let from = self.registers.address;
+        let greatest = greatest_address(params);
+        let mut walk = PlainWalk::new(*self);
+        let mut last_bytes = 0;
+        let mut rest = bytes;
+        while let Some((operation, tail)) = short_operation(order, params, rest) {
+            let size = rest.len() - tail.len();
+            if !walk.take(params, greatest, operation) {
+                break;
+            }
+            last_bytes = size;
+            rest = tail;
+        }
+        let (program, run) = walk.end(&bytes[..bytes.len() - rest.len()], last_bytes, from);
+        *self = program;
+        (run, rest)
+    }
+}
