@@ -377,7 +377,7 @@ reached_is s q h visits now p ss run offsets g bytes last comes are =
     begins (one ∷ done) any some is = is ∙ sym any
 
 -- what rows find nothing at is known of those of the run
-pub finds_of : (h : HeaderData) (at : Reached) (p : Along) (run : PlainRun) → ComesTo run p → AreGoodRows at h run.rows → FindsNothing h at p
+pub finds_of : (h : HeaderData) (at : Reached) (p : Along) (run : PlainRun) → ComesTo run p → AreGoodRows at h run → FindsNothing h at p
 finds_of h at p run comes good = record {
   files = λ file is. good.files file (ap (λ (l : List ℕ). is_among l file) comes.files ∙ is);
   rises = λ begun. subst (λ (a : ℕ). is_below (at_address a) at.last ≡ false) comes.first (good.rises begun);

@@ -5,6 +5,7 @@ use Rattle.std.specs.List.{before_last, list_any}
 use Rattle.dl_rows.specs.declared.row.Row.{Row}
 use Rattle.dl_head.specs.Numbers.{file_numbered}
 use Rattle.dl_rows.specs.declared.plain_run.PlainRows.{PlainRows}
+use Rattle.dl_rows.specs.declared.plain_run.PlainRun.{PlainRun}
 use Rattle.dl_look.specs.Answer.{first_place, is_below, is_rising, last_place}
 use Rattle.dl_sections.specs.Copying.{offset_after as unit_offset}
 use Rattle.dl_sections.specs.Section.{Visit}
@@ -100,11 +101,11 @@ pub record FitsLength (least first address : ℕ) : Type 0 where
   pub whole : (address - first) % least ≡ 0
 
 -- the rules of rows find nothing at its rows
-pub record AreGoodRows (at : Reached) (h : HeaderData) (rows : PlainRows) : Type 0 where
-  pub files : (file : ℕ) → is_among rows.files.items file ≡ true → is_none (file_numbered h file) ≡ false
-  pub rises : at.sequence.has_begun ≡ true → is_below (at_address rows.first) at.last ≡ false
+pub record AreGoodRows (at : Reached) (h : HeaderData) (run : PlainRun) : Type 0 where
+  pub files : (file : ℕ) → is_among run.files.now file ≡ true → is_none (file_numbered h file) ≡ false
+  pub rises : at.sequence.has_begun ≡ true → is_below (at_address run.rows.first) at.last ≡ false
   pub whole : (h.params.minimum_instruction_length ≤ 1)
-      ⊎ FitsLength h.params.minimum_instruction_length (first_of at.sequence rows.first) rows.first
+      ⊎ FitsLength h.params.minimum_instruction_length (first_of at.sequence run.rows.first) run.rows.first
 
 -- ---- of files
 

@@ -113,18 +113,18 @@ impl<W: Destination, M: Memory, D: DamageSink> Visitor<W> for Linter<'_, M, D> {
         true
     }
 
-    fn plain_run(&mut self, header: &Header, run: &PlainRun<'_>) -> bool {
+    fn plain_run(&mut self, header: &Header, run: &PlainRun<'_, '_>) -> bool {
         let Some(offsets) = self.at.offsets_of(run) else {
             return false;
         };
-        if !are_good_rows(&self.at, header, &run.rows) {
+        if !are_good_rows(&self.at, header, run) {
             return false;
         }
         if !self.operations.lead(run.from, run.to) {
             return false;
         }
         self.at.go_through(offsets, &run.rows);
-        self.files.rows(run.rows.files.as_slice());
+        self.files.rows(run.files);
         true
     }
 

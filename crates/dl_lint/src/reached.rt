@@ -183,7 +183,7 @@ impl Reached {
     /// Where the last operation of a plain run begins and ends; None where bytes of one that isn't over came before, it has no
     /// bytes, or 64 bits don't hold that.
     #[inline(always)]
-    pub fn offsets_of(&self, run: &PlainRun<'_>) -> Option<Offsets>
+    pub fn offsets_of(&self, run: &PlainRun<'_, '_>) -> Option<Offsets>
         ensures { IfSome result (AreOf self.now (length run.now.bytes.now) run.now.last_bytes) }
     {
         if self.begun != self.next || run.bytes.is_empty() {

@@ -21,7 +21,7 @@ use crate::reached::Reached;
 use dl_findings::{Finding, Found, RowSeen};
 use dl_head::Header;
 use dl_look::Place;
-use dl_rows::{PlainRows, Row};
+use dl_rows::{PlainRun, Row};
 
 /// The greatest line that 32 bits hold.
 const GREATEST_LINE: u64 = 0xffff_ffff;
@@ -59,20 +59,20 @@ fn names_a_file(header: &Header, row: &Row) -> bool
 
 /// Whether that shows at once that no rule finds anything at the rows of a plain run that comes next.
 #[inline(always)]
-pub fn are_good_rows(at: &Reached, header: &Header, rows: &PlainRows) -> bool
-    ensures { IsTrue result → 1 ≤ rows.now.count → AreGoodRows at.now header.now rows.now }
+pub fn are_good_rows(at: &Reached, header: &Header, run: &PlainRun<'_, '_>) -> bool
+    ensures { IsTrue result → 1 ≤ run.now.rows.count → AreGoodRows at.now header.now run.now }
 {
-    if rows.count == 0 {
+    if run.rows.count == 0 {
         return true;
     }
     let first = Place {
-        address: rows.first,
+        address: run.rows.first,
         op_index: 0,
     };
     if at.sequence.has_begun && is_before(first, at.last) {
         return false;
     }
-    have_files(header, rows.files.as_slice()) && fits_length(at, header, rows.first)
+    have_files(header, run.files) && fits_length(at, header, run.rows.first)
 }
 
 /// Whether a place is below another one.

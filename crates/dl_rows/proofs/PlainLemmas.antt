@@ -1,5 +1,5 @@
 -- Operations of a plain run: where they lead, and what is made of them.
-use Rattle.std.proofs.Common.{◌≡◌, ◌∙◌, ◌+◌, ◌*◌, ◌/◌, ◌%◌, ◌^◌, ◌<◌, ◌≤◌, ◌-◌, ◌==◌, ◌||◌, ℕ, Bool, true, false, Option, None, ap, arith, refl, sym}
+use Rattle.std.proofs.Common.{List, ◌≡◌, ◌∙◌, ◌+◌, ◌*◌, ◌/◌, ◌%◌, ◌^◌, ◌<◌, ◌≤◌, ◌-◌, ◌==◌, ◌||◌, ℕ, Bool, true, false, Option, None, ap, arith, refl, sym}
 use Rattle.std.proofs.Math.Nat.{div-le_self, div-one, mod-one, mod-eq_of_lt}
 use Rattle.std.proofs.lemmas.Nat.{mul-le}
 use Rattle.std.specs.Prelude.{if◌then◌else◌}
@@ -91,13 +91,13 @@ pub record TakesRow (h : Params) (w : PlainWalk) (o : Operation) (new : Program)
   pub line : new.registers.line < 2 ^ 32
   pub least : h.minimum_instruction_length ≤ 16
 
-module _ (h : Params) (w : PlainWalk) (new : Program) (made : Option Row) where
+module _ (h : Params) (w : PlainWalk) (new : Program) (made : Option Row) (files : List ℕ) where
   abbrev r : Registers
   r = w.program.registers
 
   pub row_taken : (o : Operation) → is_row o ≡ true → TakesRow h w o new made → HasRange o → IsSingle h w.program
-      → IsPlain h (along_of w) o made
-      × (along_of (record { program = new; rows = rows_with w.rows new.registers; is_named = true }) ≡ along_with h (along_of w) o made)
+      → IsPlain h (along_of w files) o made
+      × (along_of (record { program = new; rows = rows_with w.rows new.registers; is_named = true }) files ≡ along_with h (along_of w files) o made)
   row_taken (op.Special b) is t range single =
       let o = op.Special b in
       let s = applied h r o in
@@ -110,8 +110,8 @@ module _ (h : Params) (w : PlainWalk) (new : Program) (made : Option Row) where
       let within : led h r.address o < 2 ^ (8 * h.address_size) = rw to at fits in
       let row = row_fits h s (led h r.address o) to within (single_index r.op_index by h.maximum_operations_per_instruction single.one) line in (
         rw t.made_is (record { plain = refl; fits = λ quiet. within; row = (refl, row) }),
-        rw (t.registers, t.made_is) (ap (λ (a : ℕ). rows_at (along_of w) a s.address s.is_stmt) to
-            ∙ ap (λ (a : ℕ). rows_at (along_of w) (led h r.address o) a s.is_stmt) (to ∙ sym row.address)),
+        rw (t.registers, t.made_is) (ap (λ (a : ℕ). rows_at (along_of w files) a s.address s.is_stmt) to
+            ∙ ap (λ (a : ℕ). rows_at (along_of w files) (led h r.address o) a s.is_stmt) (to ∙ sym row.address)),
       )
   row_taken op.Copy is t range single =
       let o = op.Copy in
@@ -121,8 +121,8 @@ module _ (h : Params) (w : PlainWalk) (new : Program) (made : Option Row) where
       let within : led h r.address o < 2 ^ (8 * h.address_size) = rw to at fits in
       let row = row_fits h r (led h r.address o) to within single.first line in (
         rw t.made_is (record { plain = refl; fits = λ quiet. within; row = (refl, row) }),
-        rw (t.registers, t.made_is) (ap (λ (a : ℕ). rows_at (along_of w) a r.address r.is_stmt) to
-            ∙ ap (λ (a : ℕ). rows_at (along_of w) (led h r.address o) a r.is_stmt) (to ∙ sym row.address)),
+        rw (t.registers, t.made_is) (ap (λ (a : ℕ). rows_at (along_of w files) a r.address r.is_stmt) to
+            ∙ ap (λ (a : ℕ). rows_at (along_of w files) (led h r.address o) a r.is_stmt) (to ∙ sym row.address)),
       )
   row_taken other is t range single = absurd cc
 
@@ -143,8 +143,8 @@ module _ (h : Params) (w : PlainWalk) (new : Program) (made : Option Row) where
       → new.registers ≡ settled h o (applied h w.program.registers o) → r.address ≤ new.registers.address
       → new.registers.address < 2 ^ (8 * h.address_size) → 2 ^ (8 * h.address_size) ≤ 2 ^ 64
       → h.minimum_instruction_length ≤ 16 → advance h o < 2 ^ 32 → IsSingle h w.program
-      → IsPlain h (along_of w) o made
-      × (along_of (record { program = new; rows = w.rows; is_named = w.is_named }) ≡ along_with h (along_of w) o made)
+      → IsPlain h (along_of w files) o made
+      × (along_of (record { program = new; rows = w.rows; is_named = w.is_named }) files ≡ along_with h (along_of w files) o made)
   advance_taken (op.AdvancePc n) is none registers rises fits size least few single =
       let s = applied h r (op.AdvancePc n) in
       let up : r.address ≤ s.address = rw registers at rises in
@@ -153,7 +153,7 @@ module _ (h : Params) (w : PlainWalk) (new : Program) (made : Option Row) where
       advanced_to h r n s.address single.one single.first least few refl up (omega (arith, in_size, size)) in
       let within : led h r.address (op.AdvancePc n) < 2 ^ (8 * h.address_size) = rw to at in_size in (
         rw none (record { plain = refl; fits = λ quiet. within; row = refl }),
-        rw (registers, none) (ap (λ (a : ℕ). record (along_of w) { address = a }) to),
+        rw (registers, none) (ap (λ (a : ℕ). record (along_of w files) { address = a }) to),
       )
   advance_taken op.ConstAddPc is none registers rises fits size least few single =
       let s = applied h r op.ConstAddPc in
@@ -163,7 +163,7 @@ module _ (h : Params) (w : PlainWalk) (new : Program) (made : Option Row) where
       advanced_to h r ((255 - h.opcode_base) / h.line_range) s.address single.one single.first least few refl up (omega (arith, in_size, size)) in
       let within : led h r.address op.ConstAddPc < 2 ^ (8 * h.address_size) = rw to at in_size in (
         rw none (record { plain = refl; fits = λ quiet. within; row = refl }),
-        rw (registers, none) (ap (λ (a : ℕ). record (along_of w) { address = a }) to),
+        rw (registers, none) (ap (λ (a : ℕ). record (along_of w files) { address = a }) to),
       )
   advance_taken other is none registers rises fits size least few single = absurd cc
 
@@ -204,20 +204,20 @@ still h r (op.SetDiscriminator n) is = record { none = refl; settled_is = refl; 
 still h r other is = absurd cc
 
 -- what an operation that isn't an advance or a row leaves as it is
-pub still_taken : (h : Params) (w : PlainWalk) (o : Operation) (new : Program) (made : Option Row) → is_still o ≡ true
+pub still_taken : (h : Params) (w : PlainWalk) (o : Operation) (new : Program) (made : Option Row) (files : List ℕ) → is_still o ≡ true
     → made ≡ made_by h w.program.registers o → new.registers ≡ settled h o (applied h w.program.registers o)
     → (IsSingle h w.program → IsSingle h new)
-    × IsPlain h (along_of w) o made
-    × (along_of (record { program = new; rows = w.rows; is_named = w.is_named }) ≡ along_with h (along_of w) o made)
-still_taken h w o new made is made_is registers =
+    × IsPlain h (along_of w files) o made
+    × (along_of (record { program = new; rows = w.rows; is_named = w.is_named }) files ≡ along_with h (along_of w files) o made)
+still_taken h w o new made files is made_is registers =
     let r = w.program.registers in
     let q = still h r o is in
     let none : made ≡ None = made_is ∙ q.none in
     let regs : new.registers ≡ applied h r o = registers ∙ q.settled_is in (
       λ single. record { one = single.one; first = ap (λ (s : Registers). s.op_index) regs ∙ q.op_index ∙ single.first },
       rw none (record { plain = q.plain w.rows.count; fits = λ loud. (let both : true ≡ false = sym q.quiet ∙ loud in absurd cc); row = q.no_row }),
-      rw (none, q.no_file (record (along_of w) { address = led h r.address o }))
-          (ap (λ (a : ℕ). record (along_of w) { address = a; file = new.registers.file })
+      rw (none, q.no_file (record (along_of w files) { address = led h r.address o }))
+          (ap (λ (a : ℕ). record (along_of w files) { address = a; file = new.registers.file })
           (ap (λ (s : Registers). s.address) regs ∙ q.address ∙ q.led_is)
-          ∙ ap (λ (f : ℕ). record (along_of w) { address = led h r.address o; file = f }) (ap (λ (s : Registers). s.file) regs ∙ q.file)),
+          ∙ ap (λ (f : ℕ). record (along_of w files) { address = led h r.address o; file = f }) (ap (λ (s : Registers). s.file) regs ∙ q.file)),
     )

@@ -1,5 +1,5 @@
 -- A plain run so far, and one operation more.
-use Rattle.std.proofs.Common.{◌≡◌, ◌∙◌, ◌≤◌, ℕ, List, [], ◌∷◌, ◌++◌, length, map, Option, Some, None, Ok, ap, arith, append_assoc, append-nil, refl, sym, subst}
+use Rattle.std.proofs.Common.{Bor, ◌≡◌, ◌∙◌, ◌≤◌, ℕ, List, [], ◌∷◌, ◌++◌, length, map, Option, Some, None, Ok, ap, arith, append_assoc, append-nil, refl, sym, subst}
 use Rattle.std.proofs.lemmas.List.Concat.{flat_map-append}
 use Rattle.std.proofs.Math.Nat.{mod-one}
 use Rattle.std.specs.List.{after_last}
@@ -23,7 +23,7 @@ use Rattle.dl_rows.specs.Matrix.{is_end, last_part, moves, parts}
 use Rattle.dl_rows.specs.OperationSpelt.{operation_spelt}
 use Rattle.dl_rows.specs.Plain.{Along, ArePlain, ComesTo, IsPlain, IsPlainRun, PlainOne, along, along_from, along_with, items_of_plain, items_of_plain_one, last_length, plain_bytes}
 use Rattle.dl_rows.specs.PlainWalks.{IsRunAt, IsSingle, MayBePlain, TakesPlain, along_of, plain_story}
-use Rattle.dl_rows.specs.Programs.{Finishing, ProgramStands, TakenTells, Telling}
+use Rattle.dl_rows.specs.Programs.{Finishing, ProgramStands, TakenTells, Telling, Tells}
 use Rattle.dl_rows.specs.Sinks.{Story}
 use Rattle.dl_rows.specs.Sums.{FitsProgram, HasRange}
 use Rattle.dl_rows.proofs.Judged.{judged}
@@ -64,13 +64,13 @@ items_push header ss s =
 
 -- these operations, which the bytes in front spell
 pub record SoFar (order : Order) (h : Params) (header : HeaderData) (b bytes : List ℕ) (start : Along) (walk : PlainWalk)
-    (front : List ℕ) (last : ℕ) (rest : List ℕ) : Type 0 where
+    (files front : List ℕ) (last : ℕ) (rest : List ℕ) : Type 0 where
   pub ones : List PlainOne
   pub single : IsSingle h walk.program
   pub spelt : front ≡ plain_bytes ones
   pub last_is : last ≡ last_length ones
   pub plain : ArePlain h start ones
-  pub along_is : along_of walk ≡ along h start ones
+  pub along_is : along_of walk files ≡ along h start ones
   pub told : Telling (plain_story header) order h header b bytes [] walk.program rest ones
 
 range_whole : (order : Order) {h : Params} {o : Operation} (front tail : List ℕ) → FitsProgram h → AllBytes (front ++ tail)
@@ -98,11 +98,11 @@ told_one {header = header} {o = o} v w tail ones heard (Some row) is fits all st
     ∙ ap (λ (l : List Item). l ++ items_of_plain_one header one) is ∙ sym (items_push header ones one))
 
 module _ {order : Order} {h : Params} {header : HeaderData} {b bytes : List ℕ} {start : Along} {walk new : PlainWalk}
-    {front : List ℕ} {last : ℕ} {rest : List ℕ} {o : Operation} where
-  pub far_more : SoFar order h header b bytes start walk front last rest → FitsProgram h → AllBytes bytes
+    {files named front : List ℕ} {last : ℕ} {rest : List ℕ} {o : Operation} where
+  pub far_more : SoFar order h header b bytes start walk files front last rest → FitsProgram h → AllBytes bytes
       → walk.program.phase ≡ phase.Start → (w tail : List ℕ) → rest ≡ w ++ tail
-      → SpellsFirst (operation_spelt order h) w (Ok o) → length w ≤ 11 → TakesPlain h walk o new
-      → SoFar order h header b bytes start new (front ++ w) (length w) tail
+      → SpellsFirst (operation_spelt order h) w (Ok o) → length w ≤ 11 → TakesPlain h walk files o new named
+      → SoFar order h header b bytes start new named (front ++ w) (length w) tail
   far_more far fits all at w tail e first few takes =
       let one : PlainOne = record { bytes = w; operation = o; row = takes.made } in
       let told = tell_after far.told all (λ v heard bytes stands heard_is.
@@ -121,8 +121,8 @@ module _ {order : Order} {h : Params} {header : HeaderData} {b bytes : List ℕ}
       }
 
 -- nothing taken yet
-pub far_none : {order : Order} {h : Params} {header : HeaderData} {b : List ℕ} {walk : PlainWalk} (bytes : List ℕ) (start : Along) → along_of walk ≡ start
-    → IsSingle h walk.program → ProgramStands order h walk.program b → SoFar order h header b bytes start walk [] 0 bytes
+pub far_none : {order : Order} {h : Params} {header : HeaderData} {b : List ℕ} {walk : PlainWalk} (bytes : List ℕ) (start : Along) → along_of walk [] ≡ start
+    → IsSingle h walk.program → ProgramStands order h walk.program b → SoFar order h header b bytes start walk [] [] 0 bytes
 far_none bytes start is single stands = record {
   ones = [];
   single = single;
@@ -142,9 +142,9 @@ single_here {h = h} may stands = record {
 }
 
 -- the run of these operations
-pub run_of : {order : Order} {h : Params} {header : HeaderData} {b bytes : List ℕ} {walk : PlainWalk} {front : List ℕ} {last from file : ℕ} {rest : List ℕ}
-    (run : PlainRun) → MayBePlain h → run.bytes.now ≡ front → run.last_bytes ≡ last → run.from ≡ from → ComesTo run (along_of walk)
-    → SoFar order h header b bytes (along_from from file) walk front last rest → IsRunAt order h header b bytes walk.program run rest
+pub run_of : {order : Order} {h : Params} {header : HeaderData} {b bytes : List ℕ} {walk : PlainWalk} {files front : List ℕ} {last from file : ℕ} {rest : List ℕ}
+    (run : PlainRun) → MayBePlain h → run.bytes.now ≡ front → run.last_bytes ≡ last → run.from ≡ from → ComesTo run (along_of walk files)
+    → SoFar order h header b bytes (along_from from file) walk files front last rest → IsRunAt order h header b bytes walk.program run rest
 run_of {h = h} {bytes = bytes} {from = from} {file = file} {rest = rest} run may is last_is from_is comes far = record {
   ones = far.ones;
   is = record {
@@ -181,3 +181,44 @@ taken_after t all (taken.Row row tail) new new_s more = tells_after t all (given
 -- under the params of a header
 pub plain_under : {h k : Params} {run : PlainRun} {ones : List PlainOne} → h ≡ k → IsPlainRun k run ones → IsPlainRun h run ones
 plain_under {run = run} {ones} same is = subst (λ (h : Params). IsPlainRun h run ones) (sym same) is
+
+-- ---- a front of bytes
+
+-- what is told of a front of bytes is told of these
+pub telling_longer : {S : Type 0} {story : Story S} {order : Order} {h : Params} {header : HeaderData} {b front whole : List ℕ}
+    {before : List Item} {p : Program} {left : List ℕ} {s : S} (rest : List ℕ) → whole ≡ front ++ rest → Telling story order h header b front before p left s
+    → Telling story order h header b whole before p (left ++ rest) s
+telling_longer {left = left} rest is t = record {
+  rows = t.rows;
+  walked = record {
+    done = t.walked.done;
+    split = is ∙ ap (λ (l : List ℕ). l ++ rest) t.walked.split ∙ append_assoc t.walked.done left rest;
+    stands = t.walked.stands;
+    grown = t.walked.grown;
+    unrefused = t.walked.unrefused;
+  };
+  hears = t.hears;
+}
+
+-- up to a row at which the sink stops
+pub tells_longer : {S : Type 0} {story : Story S} {order : Order} {h : Params} {header : HeaderData} {b front whole : List ℕ}
+    {before : List Item} {new : Program} {s : S} (row : Row) (left tail : Bor (List ℕ)) (rest : List ℕ) → whole ≡ front ++ rest → tail.now ≡ left.now ++ rest
+    → Tells story order h header b front before (given.Row row left) new s
+    → Tells story order h header b whole before (given.Row row tail) new s
+tells_longer row left tail rest is more t = record {
+  rows = t.rows;
+  gives = record {
+    front = t.gives.front;
+    last = t.gives.last;
+    split = is ∙ ap (λ (l : List ℕ). l ++ rest) t.gives.split
+        ∙ append_assoc (t.gives.front ++ t.gives.last ∷ []) left.now rest
+        ∙ ap (λ (l : List ℕ). (t.gives.front ++ t.gives.last ∷ []) ++ l) (sym more);
+    stands = t.gives.stands;
+    before = t.gives.before;
+    grown = t.gives.grown;
+    unrefused = t.gives.unrefused;
+  };
+  taken = t.taken;
+  split = is ∙ ap (λ (l : List ℕ). l ++ rest) t.split ∙ append_assoc t.taken left.now rest ∙ ap (λ (l : List ℕ). t.taken ++ l) (sym more);
+  sink = t.sink;
+}

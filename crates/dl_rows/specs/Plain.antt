@@ -139,7 +139,7 @@ pub record ComesTo (run : PlainRun) (p : Along) : Type 0 where
   pub first : run.rows.first ≡ p.first
   pub last : run.rows.last ≡ p.last
   pub has_statement : run.rows.has_statement ≡ p.has_statement
-  pub files : run.rows.files.items ≡ files_of p
+  pub files : run.files.now ≡ files_of p
 
 -- a run of these
 pub record IsPlainRun (h : Params) (run : PlainRun) (ss : List PlainOne) : Type 0 where

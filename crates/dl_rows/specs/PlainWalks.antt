@@ -38,13 +38,13 @@ is_still (op.SetIsa n) = true
 is_still (op.SetDiscriminator n) = true
 is_still o = false
 
--- what the operations of a run have come to
-abbrev pub along_of : PlainWalk → Along
-along_of w = record {
+-- what the operations of a run have come to; files: those that rows named before the current one
+abbrev pub along_of : PlainWalk → (files : List ℕ) → Along
+along_of w files = record {
   address = w.program.registers.address;
   file = w.program.registers.file;
   is_named = w.is_named;
-  files = w.rows.files.items;
+  files = files;
   count = w.rows.count;
   first = w.rows.first;
   last = w.rows.last;
@@ -62,14 +62,14 @@ pub record IsSingle (h : Params) (p : Program) : Type 0 where
   pub first : p.registers.op_index ≡ 0
 
 -- an operation is taken that may follow
-pub record TakesPlain (h : Params) (old : PlainWalk) (o : Operation) (new : PlainWalk) : Type 0 where
+pub record TakesPlain (h : Params) (old : PlainWalk) (files : List ℕ) (o : Operation) (new : PlainWalk) (named : List ℕ) : Type 0 where
   pub made : Option Row
   pub phase : new.program.phase ≡ old.program.phase
   pub begun : new.program.begun ≡ old.program.begun
   pub finishes : Finishing h old.program o made new.program
   pub single : IsSingle h old.program → IsSingle h new.program
-  pub plain : HasRange o → IsSingle h old.program → IsPlain h (along_of old) o made
-  pub along : HasRange o → IsSingle h old.program → along_of new ≡ along_with h (along_of old) o made
+  pub plain : HasRange o → IsSingle h old.program → IsPlain h (along_of old files) o made
+  pub along : HasRange o → IsSingle h old.program → along_of new named ≡ along_with h (along_of old files) o made
 
 -- what is told of the operations of a run
 abbrev pub plain_story : HeaderData → Story (List PlainOne)

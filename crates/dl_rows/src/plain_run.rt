@@ -1,9 +1,7 @@
 //! Operations one after the other that lead the registers on plainly, with the rows that they append. Sections 6.2.2 and 6.2.5.1 to
 //! 6.2.5.3.
 
-ghost use Rattle.std.specs.Prelude.{◌≡◌, ◌+◌, ◌<◌, ◌^◌, [], ◌==◌, ◌||◌, false, if◌then◌else◌};
-
-use arrayvec::ArrayVec;
+ghost use Rattle.std.specs.Prelude.{◌≡◌, ◌+◌, ◌<◌, ◌^◌, ◌==◌, ◌||◌, if◌then◌else◌};
 
 /// How many files the rows of a run name, at most.
 pub(crate) const RUN_FILES: usize = 16;
@@ -11,8 +9,8 @@ pub(crate) const RUN_FILES: usize = 16;
 /// Operations one after the other, where each instruction has one operation. None of them ends a sequence, is passed over, is
 /// DW_LNS_fixed_advance_pc, leads the address past what its size holds, or sets it after a row of the run. The lines of their
 /// rows are below 2^32.
-#[derive(Drop)]
-pub struct PlainRun<'a> {
+#[derive(Clone, Copy)]
+pub struct PlainRun<'a, 'f> {
     /// Their bytes.
     pub bytes: &'a [u8],
     /// How many bytes the last of them has.
@@ -23,10 +21,12 @@ pub struct PlainRun<'a> {
     pub to: u64,
     /// The rows that they append.
     pub rows: PlainRows,
+    /// The files that these rows name.
+    pub files: &'f [u64],
 }
 
 /// What the rows of a run come to.
-#[derive(Drop)]
+#[derive(Clone, Copy)]
 pub struct PlainRows {
     /// How many there are.
     pub count: u64,
@@ -36,28 +36,17 @@ pub struct PlainRows {
     pub last: u64,
     /// Whether one of them is a statement.
     pub has_statement: bool,
-    /// The files that they name.
-    pub files: ArrayVec<u64, 16>,
 }
 
-impl PlainRows {
-    /// Before the first.
-    pub(crate) fn none() -> PlainRows
-        ensures count { result.count ≡ 0 }
-        ensures first { result.first ≡ 0 }
-        ensures last { result.last ≡ 0 }
-        ensures has_statement { result.has_statement ≡ false }
-        ensures files { result.files.items ≡ [] }
-    {
-        PlainRows {
-            count: 0,
-            first: 0,
-            last: 0,
-            has_statement: false,
-            files: ArrayVec::new(),
-        }
-    }
+/// Before the first.
+pub(crate) const NO_ROWS: PlainRows = PlainRows {
+    count: 0,
+    first: 0,
+    last: 0,
+    has_statement: false,
+};
 
+impl PlainRows {
     /// A row more.
     #[inline(always)]
     pub(crate) fn add(&mut self, address: u64, is_stmt: bool)

@@ -1,6 +1,6 @@
 //! The line number program of a unit, from bytes that come in pieces. Sections 6.2.5.1 to 6.2.5.3.
 
-ghost use Rattle.std.specs.Prelude.{false, ◌≡◌, ◌≤◌, ◌↔◌, ◌==◌, ◌++◌, not, ℕ, List, [], length, IfSome, IsTrue, Option};
+ghost use Rattle.std.specs.Prelude.{false, ◌≡◌, ◌≤◌, ◌+◌, ◌↔◌, ◌==◌, ◌++◌, not, ℕ, List, [], length, IfSome, IsTrue, Option};
 ghost use Rattle.dl_num.specs.Laws.{AllBytes};
 ghost use Rattle.dl_field.specs.Usable.{IsUsable};
 
@@ -9,6 +9,7 @@ use crate::operation_state::{OperationState, OperationStep, short_operation};
 use crate::registers::Registers;
 use crate::row::Row;
 use crate::sink::{Flow, ProgramSink, tell_operation};
+use arrayvec::ArrayVec;
 use dl_head::{FaultKind, Header, Params};
 use dl_num::Order;
 
@@ -32,6 +33,28 @@ pub enum Taken<'a> {
     UpTo(&'a [u8]),
     /// Up to the operation of this row, at which the sink stopped, and the bytes after it.
     Row(Row, &'a [u8]),
+}
+
+/// The bytes after so many.
+#[inline(always)]
+fn bytes_after(bytes: &[u8], taken: usize) -> &[u8]
+    requires { taken ≤ length bytes.now }
+    ensures size { length result.now + taken ≡ length bytes.now }
+    ensures rest { (front rest : List ℕ) → bytes.entry.now ≡ front ++ rest → length front ≡ taken → result.now ≡ rest }
+{
+    &bytes[taken..]
+}
+
+/// How many bytes the operation has that these begin with, where it is a short one; else 0.
+#[inline(always)]
+fn first_size(order: Order, params: &Params, bytes: &[u8]) -> usize
+    requires { IsUsable params.now }
+    ensures { result ≤ length bytes.now }
+{
+    match short_operation(order, params, bytes) {
+        Some((_, tail)) => bytes.len() - tail.len(),
+        None => 0,
+    }
 }
 
 /// Of fewer bytes each operation is taken by itself, since a program in a local of its own costs more than it spares.
@@ -177,7 +200,7 @@ impl Program {
         let taken = if sink.hears_runs() && plain::may_be_plain(params) {
             program.runs(order, params, header, bytes, sink)
         } else {
-            program.run(order, params, header, bytes, 0, sink)
+            program.run(order, params, header, bytes, sink)
         };
         self.registers = program.registers;
         self.in_sequence = program.in_sequence;
@@ -185,7 +208,7 @@ impl Program {
     }
 
     /// `short_operations` between operations, where the program stands in a local of its own, so that its registers
-    /// need no memory. It takes one, and more of them while more than so many bytes are left.
+    /// need no memory.
     #[inline(always)]
     fn run<'a, S: ProgramSink>(
         &mut self,
@@ -193,7 +216,6 @@ impl Program {
         params: &Params,
         header: &Header,
         mut bytes: &'a [u8],
-        left: usize,
         sink: &mut S,
     ) -> Taken<'a>
         requires usable { IsUsable params.now }
@@ -214,9 +236,6 @@ impl Program {
                     Flow::On => {}
                     Flow::Stop => return Taken::Row(row, tail),
                 }
-            }
-            if bytes.len() <= left {
-                break;
             }
         }
         Taken::UpTo(bytes)
@@ -245,19 +264,53 @@ impl Program {
             → TakenTells (S.story first) order params.now header.now b bytes.entry.now before result self.new sink.new }
     {
         while !bytes.is_empty() {
+            let mut files = ArrayVec::new();
             let mut ahead = *self;
-            let (run, rest) = ahead.plain_run(order, params, bytes);
+            let (run, rest) = ahead.plain_run(order, params, bytes, &mut files);
             if rest.len() < bytes.len() && sink.plain_run(header, &run) {
                 *self = ahead;
                 bytes = rest;
                 continue;
             }
-            match self.run(order, params, header, bytes, rest.len(), sink) {
+            match self.singly(order, params, header, bytes, run.bytes.len(), sink) {
                 Taken::UpTo(tail) if tail.len() < bytes.len() => bytes = tail,
                 taken => return taken,
             }
         }
         Taken::UpTo(bytes)
+    }
+
+    /// Takes each operation of a run of so many bytes by itself, or the next operation where it has none.
+    #[inline(always)]
+    fn singly<'a, S: ProgramSink>(
+        &mut self,
+        order: Order,
+        params: &Params,
+        header: &Header,
+        bytes: &'a [u8],
+        size: usize,
+        sink: &mut S,
+    ) -> Taken<'a>
+        requires usable { IsUsable params.now }
+        requires between { self.old.phase ≡ phase.Start }
+        requires size { size ≤ length bytes.now }
+        ensures left { TakenLeaves (length bytes.entry.now) result }
+        ensures phase { self.new.phase ≡ self.old.phase }
+        ensures begun { self.new.begun ≡ self.old.begun }
+        ensures told { (b : List ℕ) (before : List Item) (first : S) → FitsProgram params.now → AllBytes bytes.entry.now
+            → ProgramStands order params.now self.old b
+            → (S.story first).hears sink.old before
+            → TakenTells (S.story first) order params.now header.now b bytes.entry.now before result self.new sink.new }
+    {
+        let end = if size > 0 {
+            size
+        } else {
+            first_size(order, params, bytes)
+        };
+        match self.run(order, params, header, &bytes[..end], sink) {
+            Taken::UpTo(left) => Taken::UpTo(bytes_after(bytes, end - left.len())),
+            Taken::Row(row, left) => Taken::Row(row, bytes_after(bytes, end - left.len())),
+        }
     }
 
     /// Applies the current operation, which is complete, and gives the row that it appends, if any.

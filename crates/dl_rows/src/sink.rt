@@ -58,7 +58,7 @@ pub trait ProgramSink: OperationSink {
     /// Plain operations one after the other under the header of their unit, each with its bytes and its row. It may answer false
     /// and have heard nothing; then it is told each by itself.
     #[inline(always)]
-    fn plain_run(&mut self, _header: &Header, _run: &PlainRun<'_>) -> bool
+    fn plain_run(&mut self, _header: &Header, _run: &PlainRun<'_, '_>) -> bool
         ensures { (first : Self) (items : List Item) (ones : List PlainOne) → (Self.story first).hears self.old items
             → IsPlainRun _header.now.params _run.now ones
             → (Self.story first).hears self.new (if result then items ++ items_of_plain _header.now ones else items) }

@@ -100,7 +100,7 @@ pub trait Visitor<W: Destination> {
     /// Plain operations one after the other under the header of the current unit, each with its bytes and its row. A visitor may
     /// answer false and have heard nothing; then `bytes`, `operation` and `row` tell it.
     #[inline(always)]
-    fn plain_run(&mut self, _header: &Header, _run: &PlainRun<'_>) -> bool
+    fn plain_run(&mut self, _header: &Header, _run: &PlainRun<'_, '_>) -> bool
         ensures heard { (ones : List PlainOne) → IsPlainRun _header.now.params _run.now ones
             → HearsRun story self.old self.new (map of_item (items_of_plain _header.now ones)) result }
     {

@@ -68,7 +68,7 @@ impl<W: Destination, V: Visitor<W>> ProgramSink for Told<'_, W, V> {
     }
 
     #[inline(always)]
-    fn plain_run(&mut self, header: &Header, run: &PlainRun<'_>) -> bool {
+    fn plain_run(&mut self, header: &Header, run: &PlainRun<'_, '_>) -> bool {
         if self.failed.is_some() {
             return false;
         }

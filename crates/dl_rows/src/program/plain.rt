@@ -1,11 +1,11 @@
 //! The plain run at the front of bytes of a program. Sections 6.2.2 and 6.2.5.1 to 6.2.5.3.
 
-ghost use Rattle.std.specs.Prelude.{◌≡◌, ◌<◌, ◌≤◌, ◌-◌, ◌+◌, ◌^◌, ◌*◌, ◌++◌, ℕ, List, length, true, IsTrue, IsFalse};
+ghost use Rattle.std.specs.Prelude.{[], ◌≡◌, ◌<◌, ◌≤◌, ◌-◌, ◌+◌, ◌^◌, ◌*◌, ◌++◌, ℕ, List, length, true, IsTrue, IsFalse};
 ghost use Rattle.dl_field.specs.Usable.{IsUsable};
 ghost use Rattle.dl_field.specs.HeaderData.{HeaderData};
 ghost use Rattle.dl_num.specs.Laws.{AllBytes};
 ghost use Rattle.dl_rows.specs.Matrix.{advance};
-ghost use Rattle.dl_rows.specs.Plain.{ComesTo, along_from};
+ghost use Rattle.dl_rows.specs.Plain.{along_from};
 ghost use Rattle.dl_rows.specs.PlainWalks.{IsRunAt, MayBePlain, TakesPlain, along_of, is_move, is_row, is_still};
 ghost use Rattle.dl_rows.specs.Programs.{ProgramStands};
 ghost use Rattle.dl_rows.specs.Sums.{FitsProgram};
@@ -15,7 +15,8 @@ ghost use Rattle.dl_rows.specs.declared.operation_state.OperationState.TheVarian
 use super::Program;
 use crate::operation::Operation;
 use crate::operation_state::short_operation;
-use crate::plain_run::{PlainRows, PlainRun, RUN_FILES};
+use crate::plain_run::{NO_ROWS, PlainRows, PlainRun, RUN_FILES};
+use arrayvec::ArrayVec;
 use dl_head::Params;
 use dl_num::Order;
 
@@ -29,7 +30,7 @@ const GREATEST_LENGTH: u8 = 16;
 const GREATEST_ADVANCE: u64 = 0xffff_ffff;
 
 /// Where a reader is in a plain run.
-#[derive(Drop)]
+#[derive(Clone, Copy)]
 pub struct PlainWalk {
     program: Program,
     rows: PlainRows,
@@ -63,27 +64,34 @@ impl PlainWalk {
     /// Before the first operation.
     fn new(program: Program) -> PlainWalk
         ensures program { result.program ≡ program }
-        ensures along { along_of result ≡ along_from program.registers.address program.registers.file }
+        ensures along { along_of result [] ≡ along_from program.registers.address program.registers.file }
     {
         PlainWalk {
             program,
-            rows: PlainRows::none(),
+            rows: NO_ROWS,
             is_named: false,
         }
     }
 
-    /// Takes an operation that may follow; else it answers false, and stays as it is. Each kind of operation has a copy of its
-    /// own, so that the registers stay in registers.
+    /// Takes an operation that may follow, where `files` are those that rows named before the current one; else it answers false,
+    /// and both stay as they are. Each kind of operation has a copy of its own, so that the registers stay in registers.
     #[inline(always)]
-    fn take(&mut self, params: &Params, greatest: u64, operation: Operation) -> bool
+    fn take(
+        &mut self,
+        params: &Params,
+        greatest: u64,
+        operation: Operation,
+        files: &mut ArrayVec<u64, 16>,
+    ) -> bool
         requires usable { IsUsable params.now }
         requires greatest { greatest + 1 ≡ 2 ^ (8 * params.now.address_size) }
         requires least { params.now.minimum_instruction_length ≤ 16 }
         requires count { self.old.rows.count + 1 < 2 ^ 64 }
-        requires room { length self.old.rows.files.items < 16 }
+        requires room { length files.old.items < 16 }
         ensures stays { IsFalse result → self.new ≡ self.old }
-        ensures takes { IsTrue result → TakesPlain params.now self.old operation self.new }
-        ensures room { length self.new.rows.files.items < 16 }
+        ensures keeps { IsFalse result → files.new ≡ files.old }
+        ensures takes { IsTrue result → TakesPlain params.now self.old files.old.items operation self.new files.new.items }
+        ensures room { length files.new.items < 16 }
         ensures count { self.new.rows.count ≤ self.old.rows.count + 1 }
     {
         match operation {
@@ -93,7 +101,7 @@ impl PlainWalk {
             Operation::AdvancePc(_) => self.take_advance(params, greatest, operation),
             Operation::ConstAddPc => self.take_advance(params, greatest, operation),
             Operation::SetAddress(address) => self.take_address(params, greatest, address),
-            Operation::SetFile(file) => self.take_file(params, file),
+            Operation::SetFile(file) => self.take_file(params, file, files),
             Operation::EndSequence | Operation::FixedAdvancePc(_) | Operation::Skipped => false,
             _ => {
                 self.take_quiet(params, operation);
@@ -113,8 +121,7 @@ impl PlainWalk {
         requires least { params.now.minimum_instruction_length ≤ 16 }
         requires kind { is_row operation ≡ true }
         ensures stays { IsFalse result → self.new ≡ self.old }
-        ensures takes { IsTrue result → TakesPlain params.now self.old operation self.new }
-        ensures files { self.new.rows.files ≡ self.old.rows.files }
+        ensures takes { (files : List ℕ) → IsTrue result → TakesPlain params.now self.old files operation self.new files }
         ensures count { self.new.rows.count ≤ self.old.rows.count + 1 }
     {
         let mut next = self.program;
@@ -141,7 +148,7 @@ impl PlainWalk {
         requires kind { is_move operation ≡ true }
         requires advance { advance params.now operation < 2 ^ 32 }
         ensures stays { IsFalse result → self.new ≡ self.old }
-        ensures takes { IsTrue result → TakesPlain params.now self.old operation self.new }
+        ensures takes { (files : List ℕ) → IsTrue result → TakesPlain params.now self.old files operation self.new files }
         ensures rows { self.new.rows ≡ self.old.rows }
     {
         let mut next = self.program;
@@ -160,7 +167,7 @@ impl PlainWalk {
         requires usable { IsUsable params.now }
         requires greatest { greatest + 1 ≡ 2 ^ (8 * params.now.address_size) }
         ensures stays { IsFalse result → self.new ≡ self.old }
-        ensures takes { IsTrue result → TakesPlain params.now self.old (op.SetAddress address) self.new }
+        ensures takes { (files : List ℕ) → IsTrue result → TakesPlain params.now self.old files (op.SetAddress address) self.new files }
         ensures rows { self.new.rows ≡ self.old.rows }
     {
         if self.rows.count != 0 || greatest < address {
@@ -172,19 +179,20 @@ impl PlainWalk {
 
     /// Takes DW_LNS_set_file, where the run has room for one more.
     #[inline(always)]
-    fn take_file(&mut self, params: &Params, file: u64) -> bool
+    fn take_file(&mut self, params: &Params, file: u64, files: &mut ArrayVec<u64, 16>) -> bool
         requires usable { IsUsable params.now }
-        requires room { length self.old.rows.files.items < 16 }
-        ensures room { length self.new.rows.files.items < 16 }
+        requires room { length files.old.items < 16 }
+        ensures room { length files.new.items < 16 }
         ensures stays { IsFalse result → self.new ≡ self.old }
-        ensures takes { IsTrue result → TakesPlain params.now self.old (op.SetFile file) self.new }
+        ensures keeps { IsFalse result → files.new ≡ files.old }
+        ensures takes { IsTrue result → TakesPlain params.now self.old files.old.items (op.SetFile file) self.new files.new.items }
         ensures count { self.new.rows.count ≡ self.old.rows.count }
     {
         if self.is_named {
-            if self.rows.files.len() + 1 >= RUN_FILES {
+            if files.len() + 1 >= RUN_FILES {
                 return false;
             }
-            self.rows.files.push(self.program.registers.file);
+            files.push(self.program.registers.file);
             self.is_named = false;
         }
         self.program.finish(params, Operation::SetFile(file));
@@ -196,52 +204,27 @@ impl PlainWalk {
     fn take_quiet(&mut self, params: &Params, operation: Operation)
         requires usable { IsUsable params.now }
         requires kind { is_still operation ≡ true }
-        ensures takes { TakesPlain params.now self.old operation self.new }
+        ensures takes { (files : List ℕ) → TakesPlain params.now self.old files operation self.new files }
         ensures rows { self.new.rows ≡ self.old.rows }
     {
         self.program.finish(params, operation);
-    }
-
-    /// The run of these bytes, which it took from this address on.
-    #[inline(always)]
-    fn end<'a>(self, bytes: &'a [u8], last_bytes: usize, from: u64) -> (Program, PlainRun<'a>)
-        requires { length self.rows.files.items < 16 }
-        ensures program { result.0 ≡ self.program }
-        ensures bytes { result.1.bytes.now ≡ bytes.entry.now }
-        ensures last_bytes { result.1.last_bytes ≡ last_bytes }
-        ensures from { result.1.from ≡ from }
-        ensures comes { ComesTo result.1 (along_of self) }
-    {
-        let to = self.program.registers.address;
-        let mut rows = self.rows;
-        if self.is_named {
-            rows.files.push(self.program.registers.file);
-        }
-        (
-            self.program,
-            PlainRun {
-                bytes,
-                last_bytes,
-                from,
-                to,
-                rows,
-            },
-        )
     }
 }
 
 impl Program {
     /// Takes operations as long as they make a plain run, between operations. It answers the run and the bytes after it.
     #[inline(never)]
-    pub(super) fn plain_run<'a>(
+    pub(super) fn plain_run<'a, 'f>(
         &mut self,
         order: Order,
         params: &Params,
         bytes: &'a [u8],
-    ) -> (PlainRun<'a>, &'a [u8])
+        files: &'f mut ArrayVec<u64, 16>,
+    ) -> (PlainRun<'a, 'f>, &'a [u8])
         requires usable { IsUsable params.now }
         requires between { self.old.phase ≡ phase.Start }
         requires single { MayBePlain params.now }
+        requires none { files.old.items ≡ [] }
         ensures phase { self.new.phase ≡ self.old.phase }
         ensures begun { self.new.begun ≡ self.old.begun }
         ensures split { bytes.entry.now ≡ result.0.bytes.now ++ result.1.now }
@@ -255,15 +238,24 @@ impl Program {
         let mut last_bytes = 0;
         let mut rest = bytes;
         while let Some((operation, tail)) = short_operation(order, params, rest) {
-            let size = rest.len() - tail.len();
-            if !walk.take(params, greatest, operation) {
+            if !walk.take(params, greatest, operation, files) {
                 break;
             }
-            last_bytes = size;
+            last_bytes = rest.len() - tail.len();
             rest = tail;
         }
-        let (program, run) = walk.end(&bytes[..bytes.len() - rest.len()], last_bytes, from);
-        *self = program;
+        if walk.is_named {
+            files.push(walk.program.registers.file);
+        }
+        *self = walk.program;
+        let run = PlainRun {
+            bytes: &bytes[..bytes.len() - rest.len()],
+            last_bytes,
+            from,
+            to: walk.program.registers.address,
+            rows: walk.rows,
+            files: files.as_slice(),
+        };
         (run, rest)
     }
 }

@@ -57,7 +57,7 @@ returns g c = record {
         unit = c.rows.ensures.unit ∙ linted.files.unit
             ∙ sym (unit_offset-append 0 visits more ∙ unit_of_items (unit_offset 0 visits) items);
         named = λ kept k told. same_named c.rows.new.self.named k (files_named visits ++ files_of p) _ going.files
-            (subst (AreNamed c.rows.new.self.named k) (ap (λ (l : List ℕ). files_named visits ++ l) (c.as_slice.ensures.value ∙ is.comes.files))
+            (subst (AreNamed c.rows.new.self.named k) (ap (λ (l : List ℕ). files_named visits ++ l) is.comes.files)
             (c.rows.ensures.named k (files_named visits)
             (linted.files.named kept k (sym (header_told-append None visits more ∙ header_of_items (header_told None visits) items) ∙ told))));
       })

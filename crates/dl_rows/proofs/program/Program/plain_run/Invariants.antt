@@ -11,12 +11,12 @@ abbrev pub invariant-loop-operation : goal.invariant-loop-operation
 invariant-loop-operation l = record {
   phase : l.walk.program.phase ≡ l.fn.self.phase;
   begun : l.walk.program.begun ≡ l.fn.self.begun;
-  room : length l.walk.rows.files.items < 16;
+  room : length l.files.items < 16;
   count : l.walk.rows.count + length l.rest ≤ length l.fn.bytes;
   front : (front : List ℕ) × (l.fn.bytes ≡ front ++ l.rest);
   far : (b : List ℕ) (header : HeaderData) → FitsProgram l.fn.params → AllBytes l.fn.bytes
       → ProgramStands l.fn.order l.fn.params l.fn.self b
-      → SoFar l.fn.order l.fn.params header b l.fn.bytes (along_from l.fn.self.registers.address l.fn.self.registers.file) l.walk front.0
+      → SoFar l.fn.order l.fn.params header b l.fn.bytes (along_from l.fn.self.registers.address l.fn.self.registers.file) l.walk l.files.items front.0
       l.last_bytes l.rest;
 }
 

@@ -3,7 +3,6 @@ use Rattle.dl_rows.specs.declared.program.ProgramStep.TheVariants as given
 use Rattle.dl_rows.proofs.ProgramSteps.{items_told, row_given, turned_whole}
 use Rattle.dl_rows.proofs.ProgramTells.{telling_on, telling_row}
 use Rattle.dl_rows.proofs.ProgramWalks.{tell_start, tell_after, tells_after}
-use Rattle.dl_rows.proofs.program.Program.run.Goals.{in-Some+then-bytes-left, in-Some-finish+in-On, in_default, in_default-finish}
 use Rattle.dl_rows.proofs.program.Program.run.Goals as goal
 
 pub loop-operation-init : goal.loop-operation-init
@@ -12,6 +11,20 @@ loop-operation-init g c = record {
   begun = refl;
   fewer = omega arith;
   tells = λ b before first fits all s hears. tell_start c.args.bytes.now s hears;
+}
+
+pub loop-operation-preserved-in-On : goal.loop-operation-preserved-in-On
+loop-operation-preserved-in-On g c = record {
+  between = c.finish.ensures.phase ∙ c.loop-operation.invariant.between;
+  begun = c.finish.ensures.begun ∙ c.loop-operation.invariant.begun;
+  fewer = omega (arith, c.in-Some.ensures.left, c.loop-operation.invariant.fewer);
+  tells = λ b before first fits all s hears. (
+      let o = c.in-Some.ensures.operation in
+      tell_after (c.loop-operation.invariant.tells b before first fits all s hears) all
+      (λ v heard bytes stands told. telling_row (turned_whole stands o.0 c.in-Some.tail.now fits bytes
+      (c.loop-operation.invariant.between ∙ c.requires.between) o.1 o.2 c.in-Some-finish.ensures.finishes
+      c.finish.ensures.phase c.finish.ensures.begun) o.1
+      (c.in-On.ensures first _ (c.tell_operation.ensures first heard o.0 told o.1))));
 }
 
 pub returns-in-Stop-clause-told : goal.returns-in-Stop-clause-told
@@ -40,33 +53,8 @@ loop-operation-preserved g c = record {
   tells = λ b before first fits all s hears. (
       let o = c.in-Some.ensures.operation in
       tell_after (c.loop-operation.invariant.tells b before first fits all s hears) all
-      (λ v heard bytes stands told. elim c.match-finish.branch [
-        | in-Some-finish+in-On w ↦ rw w.sink-is (telling_row (turned_whole stands o.0 c.in-Some.tail.now fits bytes
-            (c.loop-operation.invariant.between ∙ c.requires.between) o.1 o.2 w.in-Some-finish.ensures.finishes
-            c.finish.ensures.phase c.finish.ensures.begun) o.1
-            (w.in-On.ensures first _ (c.tell_operation.ensures first heard o.0 told o.1)))
-        | in_default-finish w ↦ rw w.sink-is (telling_on (turned_whole stands o.0 c.in-Some.tail.now fits bytes
-            (c.loop-operation.invariant.between ∙ c.requires.between) o.1 o.2
-            (rw w.in_default-finish.is at c.finish.ensures.finishes) c.finish.ensures.phase c.finish.ensures.begun) o.1
-            (c.tell_operation.ensures first heard o.0 told o.1))
-      ]));
+      (λ v heard bytes stands told. telling_on (turned_whole stands o.0 c.in-Some.tail.now fits bytes
+      (c.loop-operation.invariant.between ∙ c.requires.between) o.1 o.2
+      (rw c.in_default-finish.is at c.finish.ensures.finishes) c.finish.ensures.phase c.finish.ensures.begun) o.1
+      (c.tell_operation.ensures first heard o.0 told o.1)));
 }
-
-pub returns-clause-told : goal.returns-clause-told
-returns-clause-told g c b before first fits all s hears =
-    let was = c.loop-operation.invariant.tells b before first fits all s hears in
-    elim c.match-short_operation.branch [
-      | in-Some+then-bytes-left w ↦ rw (w.self-is, w.sink-is, w.bytes-is) (
-          let o = w.in-Some.ensures.operation in
-          tell_after was all (λ v heard bytes stands told. elim w.match-finish.branch [
-            | in-Some-finish+in-On w' ↦ rw w'.sink-is (telling_row (turned_whole stands o.0 w.in-Some.tail.now fits bytes
-                (c.loop-operation.invariant.between ∙ c.requires.between) o.1 o.2 w'.in-Some-finish.ensures.finishes
-                w.finish.ensures.phase w.finish.ensures.begun) o.1
-                (w'.in-On.ensures first _ (w.tell_operation.ensures first heard o.0 told o.1)))
-            | in_default-finish w' ↦ rw w'.sink-is (telling_on (turned_whole stands o.0 w.in-Some.tail.now fits bytes
-                (c.loop-operation.invariant.between ∙ c.requires.between) o.1 o.2
-                (rw w'.in_default-finish.is at w.finish.ensures.finishes) w.finish.ensures.phase w.finish.ensures.begun) o.1
-                (w.tell_operation.ensures first heard o.0 told o.1))
-          ]))
-      | in_default w ↦ rw (w.self-is, w.sink-is, w.bytes-is) was
-    ]

@@ -14,30 +14,30 @@ loop-order-init g c = record {
 
 pub loop-order-preserved-then-plain_run : goal.loop-order-preserved-then-plain_run
 loop-order-preserved-then-plain_run g c = record {
-  between = c.plain_run-run.ensures.phase ∙ c.loop-order.invariant.between;
-  begun = c.plain_run-run.ensures.begun ∙ c.loop-order.invariant.begun;
+  between = c.plain_run.ensures.phase ∙ c.loop-order.invariant.between;
+  begun = c.plain_run.ensures.begun ∙ c.loop-order.invariant.begun;
   fewer = omega (arith, c.loop-order.invariant.fewer, c.if-rest-bytes.true);
   tells = λ b before first fits all s hears.
       tell_after (c.loop-order.invariant.tells b before first fits all s hears) all
       (λ v heard bytes stands told. (
-      let run = c.plain_run-run.ensures.run v c.args.header.now fits bytes stands in
-      plain_told heard c.plain_run.new.self run
-      (rw c.if-plain_run.true at (c.plain_run.ensures first heard run.ones told
+      let run = c.plain_run.ensures.run v c.args.header.now fits bytes stands in
+      plain_told heard c.plain_run-then-rest-bytes.new.self run
+      (rw c.if-plain_run.true at (c.plain_run-then-rest-bytes.ensures first heard run.ones told
       (plain_under c.requires.params run.is)))));
 }
 
 pub loop-order-preserved : goal.loop-order-preserved
 loop-order-preserved g c = record {
-  between = c.run.ensures.phase ∙ c.loop-order.invariant.between;
-  begun = c.run.ensures.begun ∙ c.loop-order.invariant.begun;
+  between = c.singly.ensures.phase ∙ c.loop-order.invariant.between;
+  begun = c.singly.ensures.begun ∙ c.loop-order.invariant.begun;
   fewer = omega (arith, c.loop-order.invariant.fewer, c.if-tail-bytes.true);
   tells = λ b before first fits all s hears.
       tell_after (c.loop-order.invariant.tells b before first fits all s hears) all
       (λ v heard bytes stands told. c.in-UpTo.ensures.told v heard first fits bytes stands
       (elim c.else-rest-bytes.branch [
         | else-rest-bytes-via-then-rest-bytes+else-plain_run w ↦ (
-            let run = c.plain_run-run.ensures.run v c.args.header.now fits bytes stands in
-            rw w.sink-is (rw w.if-plain_run.false at (w.plain_run.ensures first heard run.ones told
+            let run = c.plain_run.ensures.run v c.args.header.now fits bytes stands in
+            rw w.sink-is (rw w.if-plain_run.false at (w.plain_run-then-rest-bytes.ensures first heard run.ones told
             (plain_under c.requires.params run.is))))
         | else-rest-bytes-via-else-rest-bytes w ↦ rw w.sink-is told
       ]));
@@ -49,20 +49,20 @@ returns-in_default-clause-told g c b before first fits all s hears =
     (λ v heard bytes stands told. c.in-UpTo.ensures.told v heard first fits bytes stands
     (elim c.else-rest-bytes.branch [
       | else-rest-bytes-via-then-rest-bytes+else-plain_run w ↦ (
-          let run = c.plain_run-run.ensures.run v c.args.header.now fits bytes stands in
-          rw w.sink-is (rw w.if-plain_run.false at (w.plain_run.ensures first heard run.ones told
+          let run = c.plain_run.ensures.run v c.args.header.now fits bytes stands in
+          rw w.sink-is (rw w.if-plain_run.false at (w.plain_run-then-rest-bytes.ensures first heard run.ones told
           (plain_under c.requires.params run.is))))
       | else-rest-bytes-via-else-rest-bytes w ↦ rw w.sink-is told
     ]))
 
 pub returns-in_default-2-clause-told : goal.returns-in_default-2-clause-told
 returns-in_default-2-clause-told g c b before first fits all s hears =
-    taken_after (c.loop-order.invariant.tells b before first fits all s hears) all c.run.result c.run.new.self c.run.new.sink
-    (λ v heard bytes stands told. c.run.ensures.told v heard first fits bytes stands
+    taken_after (c.loop-order.invariant.tells b before first fits all s hears) all c.singly.result c.singly.new.self c.singly.new.sink
+    (λ v heard bytes stands told. c.singly.ensures.told v heard first fits bytes stands
     (elim c.else-rest-bytes.branch [
       | else-rest-bytes-via-then-rest-bytes+else-plain_run w ↦ (
-          let run = c.plain_run-run.ensures.run v c.args.header.now fits bytes stands in
-          rw w.sink-is (rw w.if-plain_run.false at (w.plain_run.ensures first heard run.ones told
+          let run = c.plain_run.ensures.run v c.args.header.now fits bytes stands in
+          rw w.sink-is (rw w.if-plain_run.false at (w.plain_run-then-rest-bytes.ensures first heard run.ones told
           (plain_under c.requires.params run.is))))
       | else-rest-bytes-via-else-rest-bytes w ↦ rw w.sink-is told
     ]))
