@@ -1,6 +1,7 @@
 -- What a reader in a plain run stands for. No promise rests on this file.
 use Rattle.std.specs.Prelude.{◌≡◌, ◌≤◌, ℕ, true, false, Bool, List, [], Option}
 use Rattle.dl_num.specs.declared.fixed.Order.{Order}
+use Rattle.dl_num.specs.Laws.{AllBytes}
 use Rattle.dl_field.specs.declared.params.Params.{Params}
 use Rattle.dl_field.specs.HeaderData.{HeaderData}
 use Rattle.dl_rows.specs.declared.operation.Operation.{Operation}
@@ -10,9 +11,9 @@ use Rattle.dl_rows.specs.declared.program.Program.{Program}
 use Rattle.dl_rows.specs.declared.program.plain.PlainWalk.{PlainWalk}
 use Rattle.dl_rows.specs.declared.row.Row.{Row}
 use Rattle.dl_rows.specs.Plain.{Along, IsPlain, IsPlainRun, PlainOne, along_with, items_of_plain}
-use Rattle.dl_rows.specs.Programs.{Finishing, Telling}
+use Rattle.dl_rows.specs.Programs.{Finishing, ProgramStands, Telling}
 use Rattle.dl_rows.specs.Sinks.{Story}
-use Rattle.dl_rows.specs.Sums.{HasRange}
+use Rattle.dl_rows.specs.Sums.{FitsProgram, HasRange}
 
 -- it appends a row and ends no sequence
 abbrev pub is_row : Operation → Bool
@@ -84,3 +85,10 @@ pub record IsRunAt (order : Order) (h : Params) (header : HeaderData) (b bytes :
   pub ones : List PlainOne
   pub is : IsPlainRun h run ones
   pub told : Telling (plain_story header) order h header b bytes [] new rest ones
+
+-- it was taken, and the program goes on after it
+pub record IsTakenRun (order : Order) (h : Params) (bytes : List ℕ) (old new : Program) (rest : List ℕ) (run : PlainRun) : Type 0 where
+  pub phase : new.phase ≡ old.phase
+  pub begun : new.begun ≡ old.begun
+  pub at : (b : List ℕ) (header : HeaderData) → FitsProgram h → AllBytes bytes → ProgramStands order h old b
+      → IsRunAt order h header b bytes new run rest

@@ -267,12 +267,14 @@ impl Program {
             let mut files = ArrayVec::new();
             let mut ahead = *self;
             let (run, rest) = ahead.plain_run(order, params, bytes, &mut files);
-            if rest.len() < bytes.len() && sink.plain_run(header, &run) {
-                *self = ahead;
-                bytes = rest;
-                continue;
+            if let Some(run) = run {
+                if rest.len() < bytes.len() && sink.plain_run(header, &run) {
+                    *self = ahead;
+                    bytes = rest;
+                    continue;
+                }
             }
-            match self.singly(order, params, header, bytes, run.bytes.len(), sink) {
+            match self.singly(order, params, header, bytes, bytes.len() - rest.len(), sink) {
                 Taken::UpTo(tail) if tail.len() < bytes.len() => bytes = tail,
                 taken => return taken,
             }

@@ -1,16 +1,17 @@
 //! The plain run at the front of bytes of a program. Sections 6.2.2 and 6.2.5.1 to 6.2.5.3.
 
-ghost use Rattle.std.specs.Prelude.{[], ◌≡◌, ◌<◌, ◌≤◌, ◌-◌, ◌+◌, ◌^◌, ◌*◌, ◌++◌, ℕ, List, length, true, IsTrue, IsFalse};
+ghost use Rattle.std.specs.Prelude.{[], ◌≡◌, ◌≢◌, ◌<◌, ◌≤◌, ◌-◌, ◌+◌, ◌^◌, ◌*◌, ◌++◌, ℕ, List, length, true, IsTrue, IsFalse, IfSome};
 ghost use Rattle.dl_field.specs.Usable.{IsUsable};
 ghost use Rattle.dl_field.specs.HeaderData.{HeaderData};
 ghost use Rattle.dl_num.specs.Laws.{AllBytes};
 ghost use Rattle.dl_rows.specs.Matrix.{advance};
 ghost use Rattle.dl_rows.specs.Plain.{along_from};
-ghost use Rattle.dl_rows.specs.PlainWalks.{IsRunAt, MayBePlain, TakesPlain, along_of, is_move, is_row, is_still};
+ghost use Rattle.dl_rows.specs.PlainWalks.{IsTakenRun, MayBePlain, TakesPlain, along_of, is_move, is_row, is_still};
 ghost use Rattle.dl_rows.specs.Programs.{ProgramStands};
 ghost use Rattle.dl_rows.specs.Sums.{FitsProgram};
 ghost use Rattle.dl_rows.specs.declared.operation.Operation.TheVariants as op;
 ghost use Rattle.dl_rows.specs.declared.operation_state.OperationState.TheVariants as phase;
+ghost use Rattle.dl_rows.specs.declared.program.plain.PlainStep.TheVariants as step;
 
 use super::Program;
 use crate::operation::Operation;
@@ -47,6 +48,17 @@ pub(super) fn may_be_plain(params: &Params) -> bool
         && params.minimum_instruction_length <= GREATEST_LENGTH
 }
 
+/// What comes of an operation in a plain run.
+#[derive(Clone, Copy)]
+pub enum PlainStep {
+    /// It is one of the run.
+    On,
+    /// The run ends before it.
+    Ends,
+    /// It makes a run of what came before no plain one.
+    Spoils,
+}
+
 /// The greatest address of this size.
 pub fn greatest_address(params: &Params) -> u64
     requires { IsUsable params.now }
@@ -73,8 +85,8 @@ impl PlainWalk {
         }
     }
 
-    /// Takes an operation that may follow, where `files` are those that rows named before the current one; else it answers false,
-    /// and both stay as they are. Each kind of operation has a copy of its own, so that the registers stay in registers.
+    /// Takes an operation, where `files` are those that rows named before the current one. Where the run ends before it both stay
+    /// as they are. Each kind of operation has a copy of its own, so that the registers stay in registers.
     #[inline(always)]
     fn take(
         &mut self,
@@ -82,31 +94,33 @@ impl PlainWalk {
         greatest: u64,
         operation: Operation,
         files: &mut ArrayVec<u64, 16>,
-    ) -> bool
+    ) -> PlainStep
         requires usable { IsUsable params.now }
         requires greatest { greatest + 1 ≡ 2 ^ (8 * params.now.address_size) }
         requires least { params.now.minimum_instruction_length ≤ 16 }
         requires count { self.old.rows.count + 1 < 2 ^ 64 }
         requires room { length files.old.items < 16 }
-        ensures stays { IsFalse result → self.new ≡ self.old }
-        ensures keeps { IsFalse result → files.new ≡ files.old }
-        ensures takes { IsTrue result → TakesPlain params.now self.old files.old.items operation self.new files.new.items }
+        ensures stays { result ≡ step.Ends → self.new ≡ self.old }
+        ensures keeps { result ≡ step.Ends → files.new ≡ files.old }
+        ensures takes { result ≡ step.On → TakesPlain params.now self.old files.old.items operation self.new files.new.items }
         ensures room { length files.new.items < 16 }
         ensures count { self.new.rows.count ≤ self.old.rows.count + 1 }
     {
         match operation {
             Operation::Special(_) => self.take_row(params, greatest, operation),
             Operation::Copy => self.take_row(params, greatest, operation),
-            Operation::AdvancePc(by) if by > GREATEST_ADVANCE => false,
+            Operation::AdvancePc(by) if by > GREATEST_ADVANCE => PlainStep::Ends,
             Operation::AdvancePc(_) => self.take_advance(params, greatest, operation),
             Operation::ConstAddPc => self.take_advance(params, greatest, operation),
+            Operation::SetAddress(_) if self.rows.count != 0 => PlainStep::Ends,
             Operation::SetAddress(address) => self.take_address(params, greatest, address),
+            Operation::SetFile(_) if self.is_named && files.len() + 1 >= RUN_FILES =>
+                PlainStep::Ends,
             Operation::SetFile(file) => self.take_file(params, file, files),
-            Operation::EndSequence | Operation::FixedAdvancePc(_) | Operation::Skipped => false,
-            _ => {
-                self.take_quiet(params, operation);
-                true
+            Operation::EndSequence | Operation::FixedAdvancePc(_) | Operation::Skipped => {
+                PlainStep::Ends
             }
+            _ => self.take_quiet(params, operation),
         }
     }
 }
@@ -114,105 +128,104 @@ impl PlainWalk {
 impl PlainWalk {
     /// Takes an operation that appends a row and ends no sequence.
     #[inline(always)]
-    fn take_row(&mut self, params: &Params, greatest: u64, operation: Operation) -> bool
+    fn take_row(&mut self, params: &Params, greatest: u64, operation: Operation) -> PlainStep
         requires usable { IsUsable params.now }
         requires greatest { greatest + 1 ≡ 2 ^ (8 * params.now.address_size) }
         requires count { self.old.rows.count + 1 < 2 ^ 64 }
         requires least { params.now.minimum_instruction_length ≤ 16 }
         requires kind { is_row operation ≡ true }
-        ensures stays { IsFalse result → self.new ≡ self.old }
-        ensures takes { (files : List ℕ) → IsTrue result → TakesPlain params.now self.old files operation self.new files }
+        ensures goes { result ≢ step.Ends }
+        ensures takes { (files : List ℕ) → result ≡ step.On → TakesPlain params.now self.old files operation self.new files }
         ensures count { self.new.rows.count ≤ self.old.rows.count + 1 }
     {
-        let mut next = self.program;
-        next.finish(params, operation);
-        let address = next.registers.address;
-        if address < self.program.registers.address || greatest < address {
-            return false;
-        }
-        if GREATEST_LINE < next.registers.line {
-            return false;
-        }
-        self.rows.add(address, next.registers.is_stmt);
+        let from = self.program.registers.address;
+        self.program.finish(params, operation);
+        let address = self.program.registers.address;
+        self.rows.add(address, self.program.registers.is_stmt);
         self.is_named = true;
-        self.program = next;
-        true
+        if address < from || greatest < address {
+            return PlainStep::Spoils;
+        }
+        if GREATEST_LINE < self.program.registers.line {
+            return PlainStep::Spoils;
+        }
+        PlainStep::On
     }
 
     /// Takes DW_LNS_advance_pc or DW_LNS_const_add_pc.
     #[inline(always)]
-    fn take_advance(&mut self, params: &Params, greatest: u64, operation: Operation) -> bool
+    fn take_advance(&mut self, params: &Params, greatest: u64, operation: Operation) -> PlainStep
         requires usable { IsUsable params.now }
         requires greatest { greatest + 1 ≡ 2 ^ (8 * params.now.address_size) }
         requires least { params.now.minimum_instruction_length ≤ 16 }
         requires kind { is_move operation ≡ true }
         requires advance { advance params.now operation < 2 ^ 32 }
-        ensures stays { IsFalse result → self.new ≡ self.old }
-        ensures takes { (files : List ℕ) → IsTrue result → TakesPlain params.now self.old files operation self.new files }
+        ensures goes { result ≢ step.Ends }
+        ensures takes { (files : List ℕ) → result ≡ step.On → TakesPlain params.now self.old files operation self.new files }
         ensures rows { self.new.rows ≡ self.old.rows }
     {
-        let mut next = self.program;
-        next.finish(params, operation);
-        let address = next.registers.address;
-        if address < self.program.registers.address || greatest < address {
-            return false;
+        let from = self.program.registers.address;
+        self.program.finish(params, operation);
+        let address = self.program.registers.address;
+        if address < from || greatest < address {
+            return PlainStep::Spoils;
         }
-        self.program = next;
-        true
+        PlainStep::On
     }
 
     /// Takes DW_LNE_set_address, where the run has no row.
     #[inline(always)]
-    fn take_address(&mut self, params: &Params, greatest: u64, address: u64) -> bool
+    fn take_address(&mut self, params: &Params, greatest: u64, address: u64) -> PlainStep
         requires usable { IsUsable params.now }
         requires greatest { greatest + 1 ≡ 2 ^ (8 * params.now.address_size) }
-        ensures stays { IsFalse result → self.new ≡ self.old }
-        ensures takes { (files : List ℕ) → IsTrue result → TakesPlain params.now self.old files (op.SetAddress address) self.new files }
+        requires none { self.old.rows.count ≡ 0 }
+        ensures goes { result ≢ step.Ends }
+        ensures takes { (files : List ℕ) → result ≡ step.On → TakesPlain params.now self.old files (op.SetAddress address) self.new files }
         ensures rows { self.new.rows ≡ self.old.rows }
     {
-        if self.rows.count != 0 || greatest < address {
-            return false;
-        }
         self.program.finish(params, Operation::SetAddress(address));
-        true
+        if greatest < address {
+            return PlainStep::Spoils;
+        }
+        PlainStep::On
     }
 
     /// Takes DW_LNS_set_file, where the run has room for one more.
     #[inline(always)]
-    fn take_file(&mut self, params: &Params, file: u64, files: &mut ArrayVec<u64, 16>) -> bool
+    fn take_file(&mut self, params: &Params, file: u64, files: &mut ArrayVec<u64, 16>) -> PlainStep
         requires usable { IsUsable params.now }
         requires room { length files.old.items < 16 }
+        requires one { self.old.is_named ≡ true → length files.old.items + 1 < 16 }
         ensures room { length files.new.items < 16 }
-        ensures stays { IsFalse result → self.new ≡ self.old }
-        ensures keeps { IsFalse result → files.new ≡ files.old }
-        ensures takes { IsTrue result → TakesPlain params.now self.old files.old.items (op.SetFile file) self.new files.new.items }
+        ensures goes { result ≢ step.Ends }
+        ensures takes { TakesPlain params.now self.old files.old.items (op.SetFile file) self.new files.new.items }
         ensures count { self.new.rows.count ≡ self.old.rows.count }
     {
         if self.is_named {
-            if files.len() + 1 >= RUN_FILES {
-                return false;
-            }
             files.push(self.program.registers.file);
             self.is_named = false;
         }
         self.program.finish(params, Operation::SetFile(file));
-        true
+        PlainStep::On
     }
 
     /// Takes an operation that neither moves the address, sets the file nor appends a row.
     #[inline(always)]
-    fn take_quiet(&mut self, params: &Params, operation: Operation)
+    fn take_quiet(&mut self, params: &Params, operation: Operation) -> PlainStep
         requires usable { IsUsable params.now }
         requires kind { is_still operation ≡ true }
+        ensures goes { result ≢ step.Ends }
         ensures takes { (files : List ℕ) → TakesPlain params.now self.old files operation self.new files }
         ensures rows { self.new.rows ≡ self.old.rows }
     {
         self.program.finish(params, operation);
+        PlainStep::On
     }
 }
 
 impl Program {
-    /// Takes operations as long as they make a plain run, between operations. It answers the run and the bytes after it.
+    /// Takes operations up to where a plain run ends, between operations. It answers the run and the bytes after it; None where what
+    /// was taken is no plain run, and then the program is of no use.
     #[inline(never)]
     pub(super) fn plain_run<'a, 'f>(
         &mut self,
@@ -220,17 +233,13 @@ impl Program {
         params: &Params,
         bytes: &'a [u8],
         files: &'f mut ArrayVec<u64, 16>,
-    ) -> (PlainRun<'a, 'f>, &'a [u8])
+    ) -> (Option<PlainRun<'a, 'f>>, &'a [u8])
         requires usable { IsUsable params.now }
         requires between { self.old.phase ≡ phase.Start }
         requires single { MayBePlain params.now }
         requires none { files.old.items ≡ [] }
-        ensures phase { self.new.phase ≡ self.old.phase }
-        ensures begun { self.new.begun ≡ self.old.begun }
-        ensures split { bytes.entry.now ≡ result.0.bytes.now ++ result.1.now }
-        ensures run { (b : List ℕ) (header : HeaderData) → FitsProgram params.now → AllBytes bytes.entry.now
-            → ProgramStands order params.now self.old b
-            → IsRunAt order params.now header b bytes.entry.now self.new result.0 result.1.now }
+        ensures left { length result.1.now ≤ length bytes.entry.now }
+        ensures run { IfSome result.0 (IsTakenRun order params.now bytes.entry.now self.old self.new result.1.now) }
     {
         let from = self.registers.address;
         let greatest = greatest_address(params);
@@ -238,8 +247,10 @@ impl Program {
         let mut last_bytes = 0;
         let mut rest = bytes;
         while let Some((operation, tail)) = short_operation(order, params, rest) {
-            if !walk.take(params, greatest, operation, files) {
-                break;
+            match walk.take(params, greatest, operation, files) {
+                PlainStep::On => {}
+                PlainStep::Ends => break,
+                PlainStep::Spoils => return (None, tail),
             }
             last_bytes = rest.len() - tail.len();
             rest = tail;
@@ -256,6 +267,6 @@ impl Program {
             rows: walk.rows,
             files: files.as_slice(),
         };
-        (run, rest)
+        (Some(run), rest)
     }
 }

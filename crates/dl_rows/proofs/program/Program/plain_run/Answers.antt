@@ -8,7 +8,7 @@ use Rattle.dl_rows.specs.declared.program.Program.{Program}
 use Rattle.dl_rows.specs.declared.program.plain.PlainWalk.{PlainWalk}
 use Rattle.dl_rows.proofs.PlainTells.{SoFar, far_more, far_none, run_of, single_here}
 use Rattle.dl_rows.proofs.ProgramTells.{front_taken}
-use Rattle.dl_rows.proofs.program.Program.plain_run.Goals.{else-walk, in-Some+then-not-take, in_default, then-walk}
+use Rattle.dl_rows.proofs.program.Program.plain_run.Goals.{else-walk, in-Some+in-Ends, in_default, then-walk}
 use Rattle.dl_rows.proofs.program.Program.plain_run.Goals as goal
 
 abbrev items_of : ArrayVec ℕ 16 (Unit {0}) → List ℕ
@@ -38,7 +38,7 @@ loop-operation-preserved c =
     let was = c.loop-operation.invariant in
     let f = was.front in
     let tail = c.in-Some.tail.now in
-    let takes = c.take.ensures.takes c.if-not-take.false in
+    let takes = c.take.ensures.takes c.in-On.is in
     let size : length c.loop-operation.rest.now - length tail ≡ length o.0 = omega (arith, ap length o.1, length-append o.0 tail) in
     record {
       phase = takes.phase ∙ was.phase;
@@ -53,24 +53,18 @@ loop-operation-preserved c =
           (omega (arith, c.in-Some.ensures.few, size, c.in-Some.ensures.left)) takes);
     }
 
-pub returns-clause-split : goal.returns-clause-split
-returns-clause-split c =
-    let f = c.loop-operation.invariant.front in
-    let rest = c.loop-operation.rest.now in
-    f.1 ∙ ap (λ (l : List ℕ). l ++ rest) (sym (front_taken c.args.bytes.now f.0 rest f.1))
-
 pub returns-clause-run : goal.returns-clause-run
-returns-clause-run c b header fits all stands =
+returns-clause-run c =
     let was = c.loop-operation.invariant in
     let f = was.front in
     let walk = c.match-short_operation.walk in
     let named = c.match-short_operation.files.items in
     let same : walk ≡ c.loop-operation.walk = elim c.match-short_operation.branch [
-      | in-Some+then-not-take w ↦ w.walk-is ∙ w.take.ensures.stays w.if-not-take.true
+      | in-Some+in-Ends w ↦ w.walk-is ∙ w.take.ensures.stays w.in-Ends.is
       | in_default w ↦ w.walk-is
     ] in
     let kept : named ≡ c.loop-operation.files.items = elim c.match-short_operation.branch [
-      | in-Some+then-not-take w ↦ ap items_of (w.files-is ∙ w.take.ensures.keeps w.if-not-take.true)
+      | in-Some+in-Ends w ↦ ap items_of (w.files-is ∙ w.take.ensures.keeps w.in-Ends.is)
       | in_default w ↦ ap items_of w.files-is
     ] in
     let more = λ (n : Bool). if n then named ++ walk.program.registers.file ∷ [] else named in
@@ -78,11 +72,16 @@ returns-clause-run c b header fits all stands =
       | then-walk w ↦ ap items_of w.files-is ∙ w.push.ensures.items ∙ ap more (sym w.if-walk.true)
       | else-walk w ↦ ap items_of w.files-is ∙ ap more (sym w.if-walk.false)
     ] in
-    let far = subst (λ (l : List ℕ). SoFar c.args.order c.args.params.now header b c.args.bytes.now
-    (along_from c.args.self.now.registers.address c.args.self.now.registers.file) walk l f.0 c.loop-operation.last_bytes c.loop-operation.rest.now)
-    (sym kept)
-    (subst (λ (w : PlainWalk). SoFar c.args.order c.args.params.now header b c.args.bytes.now
-    (along_from c.args.self.now.registers.address c.args.self.now.registers.file) w c.loop-operation.files.items f.0 c.loop-operation.last_bytes c.loop-operation.rest.now)
-    (sym same) (was.far b header fits all stands)) in
-    run_of _ c.requires.single (front_taken c.args.bytes.now f.0 c.loop-operation.rest.now f.1) refl refl
-    (record { to = refl; count = refl; first = refl; last = refl; has_statement = refl; files = files }) far
+    record {
+      phase = ap (λ (w : PlainWalk). w.program.phase) same ∙ was.phase;
+      begun = ap (λ (w : PlainWalk). w.program.begun) same ∙ was.begun;
+      at = λ b header fits all stands.
+          (let far = subst (λ (l : List ℕ). SoFar c.args.order c.args.params.now header b c.args.bytes.now
+          (along_from c.args.self.now.registers.address c.args.self.now.registers.file) walk l f.0 c.loop-operation.last_bytes c.loop-operation.rest.now)
+          (sym kept)
+          (subst (λ (w : PlainWalk). SoFar c.args.order c.args.params.now header b c.args.bytes.now
+          (along_from c.args.self.now.registers.address c.args.self.now.registers.file) w c.loop-operation.files.items f.0 c.loop-operation.last_bytes c.loop-operation.rest.now)
+          (sym same) (was.far b header fits all stands)) in
+          run_of _ c.requires.single (front_taken c.args.bytes.now f.0 c.loop-operation.rest.now f.1) refl refl
+          (record { to = refl; count = refl; first = refl; last = refl; has_statement = refl; files = files }) far);
+    }

@@ -7,7 +7,7 @@ returns-clause-takes c files taken =
     let h = c.args.params.now in
     let w = c.args.self.now in
     let at = advance_taken h w c.finish.new.self c.finish.result files c.args.operation c.requires.kind c.finish.ensures.made
-    c.finish.ensures.registers c.if-address-self.false (omega (arith, c.if-greatest-address.false, c.requires.greatest))
+    c.finish.ensures.registers c.if-address-from.false (omega (arith, c.if-greatest-address.false, c.requires.greatest))
     (omega (arith, c.ranges.greatest.fits, c.requires.greatest)) c.requires.least c.requires.advance in
     record {
       made = c.finish.result;

@@ -8,10 +8,10 @@ returns-clause-takes c files taken =
     let takes : TakesRow h c.args.self.now c.args.operation c.finish.new.self c.finish.result = record {
       made_is = c.finish.ensures.made;
       registers = c.finish.ensures.registers;
-      rises = c.if-address-self.false;
+      rises = c.if-address-from.false;
       fits = omega (arith, c.if-greatest-address.false, c.requires.greatest);
       size = omega (arith, c.ranges.greatest.fits, c.requires.greatest);
-      line = omega (arith, c.if-next-gt-GREATEST_LINE.false);
+      line = omega (arith, c.if-self-gt-GREATEST_LINE.false);
       least = c.requires.least;
     } in
     record {
