@@ -4,7 +4,7 @@
 ghost use Rattle.std.specs.Prelude.{◌≡◌, ◌+◌, ◌<◌, ◌^◌, ◌==◌, ◌||◌, if◌then◌else◌};
 
 /// How many files the rows of a run name, at most.
-pub(crate) const RUN_FILES: usize = 16;
+pub(crate) const RUN_FILES: usize = 64;
 
 /// Operations one after the other, where each instruction has one operation. None of them ends a sequence, is passed over, is
 /// DW_LNS_fixed_advance_pc, leads the address past what its size holds, or sets it after a row of the run. The lines of their

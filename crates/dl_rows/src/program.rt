@@ -78,7 +78,7 @@ impl Program {
     ghost use Rattle.dl_rows.specs.OperationSpelt.{operations_in};
     ghost use Rattle.dl_rows.specs.LineUnit.{ends_open, rows_in};
     ghost use Rattle.dl_rows.specs.PlainWalks.{MayBePlain};
-    ghost use Rattle.dl_rows.specs.Programs.{Finishes, ProgramStands, TakenTells, Tells};
+    ghost use Rattle.dl_rows.specs.Programs.{Finishes, ProgramStands, TakenTells, Telling, Tells};
     ghost use Rattle.dl_rows.specs.Machine.{applied, made_by};
     ghost use Rattle.dl_rows.specs.Sums.{FitsProgram, HasRange, registers_after, settled};
     ghost use Rattle.dl_rows.specs.declared.operation_state.OperationState.TheVariants as phase;
@@ -264,22 +264,50 @@ impl Program {
             → TakenTells (S.story first) order params.now header.now b bytes.entry.now before result self.new sink.new }
     {
         while !bytes.is_empty() {
-            let mut files = ArrayVec::new();
-            let mut ahead = *self;
-            let (run, rest) = ahead.plain_run(order, params, bytes, &mut files);
-            if let Some(run) = run {
-                if rest.len() < bytes.len() && sink.plain_run(header, &run) {
-                    *self = ahead;
-                    bytes = rest;
-                    continue;
-                }
-            }
-            match self.singly(order, params, header, bytes, bytes.len() - rest.len(), sink) {
+            let (left, size) = self.run_at_front(order, params, header, bytes, sink);
+            match self.singly(order, params, header, left, size, sink) {
                 Taken::UpTo(tail) if tail.len() < bytes.len() => bytes = tail,
                 taken => return taken,
             }
         }
         Taken::UpTo(bytes)
+    }
+
+    /// Takes the plain run at the front of these bytes, where the sink hears it as one, and answers the bytes after it and 0. Else it
+    /// takes nothing, and answers the bytes and how many of them each have to be taken by themselves first.
+    #[inline(always)]
+    fn run_at_front<'a, S: ProgramSink>(
+        &mut self,
+        order: Order,
+        params: &Params,
+        header: &Header,
+        bytes: &'a [u8],
+        sink: &mut S,
+    ) -> (&'a [u8], usize)
+        requires usable { IsUsable params.now }
+        requires params { header.now.params ≡ params.now }
+        requires single { MayBePlain params.now }
+        requires between { self.old.phase ≡ phase.Start }
+        ensures size { result.1 ≤ length result.0.now }
+        ensures fewer { length result.0.now ≤ length bytes.entry.now }
+        ensures phase { self.new.phase ≡ self.old.phase }
+        ensures begun { self.new.begun ≡ self.old.begun }
+        ensures told { (b : List ℕ) (before : List Item) (first : S) → FitsProgram params.now → AllBytes bytes.entry.now
+            → ProgramStands order params.now self.old b
+            → (S.story first).hears sink.old before
+            → Telling (S.story first) order params.now header.now b bytes.entry.now before self.new result.0.now sink.new }
+    {
+        let mut files = ArrayVec::new();
+        let mut ahead = *self;
+        let (run, rest) = ahead.plain_run(order, params, bytes, &mut files);
+        let size = bytes.len() - rest.len();
+        if let Some(run) = run {
+            if size > 0 && sink.plain_run(header, &run) {
+                *self = ahead;
+                return (rest, 0);
+            }
+        }
+        (bytes, size)
     }
 
     /// Takes each operation of a run of so many bytes by itself, or the next operation where it has none.

@@ -93,17 +93,17 @@ impl PlainWalk {
         params: &Params,
         greatest: u64,
         operation: Operation,
-        files: &mut ArrayVec<u64, 16>,
+        files: &mut ArrayVec<u64, 64>,
     ) -> PlainStep
         requires usable { IsUsable params.now }
         requires greatest { greatest + 1 ≡ 2 ^ (8 * params.now.address_size) }
         requires least { params.now.minimum_instruction_length ≤ 16 }
         requires count { self.old.rows.count + 1 < 2 ^ 64 }
-        requires room { length files.old.items < 16 }
+        requires room { length files.old.items < 64 }
         ensures stays { result ≡ step.Ends → self.new ≡ self.old }
         ensures keeps { result ≡ step.Ends → files.new ≡ files.old }
         ensures takes { result ≡ step.On → TakesPlain params.now self.old files.old.items operation self.new files.new.items }
-        ensures room { length files.new.items < 16 }
+        ensures room { length files.new.items < 64 }
         ensures count { self.new.rows.count ≤ self.old.rows.count + 1 }
     {
         match operation {
@@ -192,11 +192,11 @@ impl PlainWalk {
 
     /// Takes DW_LNS_set_file, where the run has room for one more.
     #[inline(always)]
-    fn take_file(&mut self, params: &Params, file: u64, files: &mut ArrayVec<u64, 16>) -> PlainStep
+    fn take_file(&mut self, params: &Params, file: u64, files: &mut ArrayVec<u64, 64>) -> PlainStep
         requires usable { IsUsable params.now }
-        requires room { length files.old.items < 16 }
-        requires one { self.old.is_named ≡ true → length files.old.items + 1 < 16 }
-        ensures room { length files.new.items < 16 }
+        requires room { length files.old.items < 64 }
+        requires one { self.old.is_named ≡ true → length files.old.items + 1 < 64 }
+        ensures room { length files.new.items < 64 }
         ensures goes { result ≢ step.Ends }
         ensures takes { TakesPlain params.now self.old files.old.items (op.SetFile file) self.new files.new.items }
         ensures count { self.new.rows.count ≡ self.old.rows.count }
@@ -232,7 +232,7 @@ impl Program {
         order: Order,
         params: &Params,
         bytes: &'a [u8],
-        files: &'f mut ArrayVec<u64, 16>,
+        files: &'f mut ArrayVec<u64, 64>,
     ) -> (Option<PlainRun<'a, 'f>>, &'a [u8])
         requires usable { IsUsable params.now }
         requires between { self.old.phase ≡ phase.Start }
@@ -244,7 +244,7 @@ impl Program {
         let from = self.registers.address;
         let greatest = greatest_address(params);
         let mut walk = PlainWalk::new(*self);
-        let mut last_bytes = 0;
+        let mut before_last = bytes.len();
         let mut rest = bytes;
         while let Some((operation, tail)) = short_operation(order, params, rest) {
             match walk.take(params, greatest, operation, files) {
@@ -252,7 +252,7 @@ impl Program {
                 PlainStep::Ends => break,
                 PlainStep::Spoils => return (None, tail),
             }
-            last_bytes = rest.len() - tail.len();
+            before_last = rest.len();
             rest = tail;
         }
         if walk.is_named {
@@ -261,7 +261,7 @@ impl Program {
         *self = walk.program;
         let run = PlainRun {
             bytes: &bytes[..bytes.len() - rest.len()],
-            last_bytes,
+            last_bytes: before_last - rest.len(),
             from,
             to: walk.program.registers.address,
             rows: walk.rows,

@@ -11,25 +11,29 @@ use Rattle.dl_rows.proofs.ProgramTells.{front_taken}
 use Rattle.dl_rows.proofs.program.Program.plain_run.Goals.{else-walk, in-Some+in-Ends, in_default, then-walk}
 use Rattle.dl_rows.proofs.program.Program.plain_run.Goals as goal
 
-abbrev items_of : ArrayVec ℕ 16 (Unit {0}) → List ℕ
+abbrev items_of : ArrayVec ℕ 64 (Unit {0}) → List ℕ
 items_of files = files.items
 
 pub loop-operation-init : goal.loop-operation-init
 loop-operation-init c =
     let along = c.new-walk.ensures.along in
     let same = sym c.new-walk.ensures.program in
+    let none : length c.args.bytes.now - length c.args.bytes.now ≡ 0 = omega (arith) in
     record {
       phase = sym (ap (λ (p : Program). p.phase) same);
       begun = sym (ap (λ (p : Program). p.begun) same);
       room = omega (arith, ap length c.requires.none);
       count = omega (arith, ap (λ (p : Along). p.count) along);
+      before = omega (arith);
       front = ([], refl);
       far = λ b header fits all stands.
-          subst (λ (files : List ℕ). SoFar c.args.order c.args.params.now header b c.args.bytes.now
+          subst (λ (n : ℕ). SoFar c.args.order c.args.params.now header b c.args.bytes.now
+          (along_from c.args.self.now.registers.address c.args.self.now.registers.file) c.new-walk.result c.args.files.now.items [] n c.args.bytes.now) (sym none)
+          (subst (λ (files : List ℕ). SoFar c.args.order c.args.params.now header b c.args.bytes.now
           (along_from c.args.self.now.registers.address c.args.self.now.registers.file) c.new-walk.result files [] 0 c.args.bytes.now) (sym c.requires.none)
           (far_none c.args.bytes.now (along_from c.args.self.now.registers.address c.args.self.now.registers.file) along
           (subst (λ (p : Program). IsSingle c.args.params.now p) same (single_here c.requires.single stands))
-          (subst (λ (p : Program). ProgramStands c.args.order c.args.params.now p b) same stands));
+          (subst (λ (p : Program). ProgramStands c.args.order c.args.params.now p b) same stands)));
     }
 
 pub loop-operation-preserved : goal.loop-operation-preserved
@@ -45,6 +49,7 @@ loop-operation-preserved c =
       begun = takes.begun ∙ was.begun;
       room = c.take.ensures.room;
       count = omega (arith, c.take.ensures.count, c.in-Some.ensures.left, was.count);
+      before = omega (arith, c.in-Some.ensures.left);
       front = (f.0 ++ o.0, f.1 ∙ ap (λ (l : List ℕ). f.0 ++ l) o.1 ∙ sym (append_assoc f.0 o.0 tail));
       far = λ b header fits all stands.
           subst (λ (n : ℕ). SoFar c.args.order c.args.params.now header b c.args.bytes.now
@@ -77,10 +82,10 @@ returns-clause-run c =
       begun = ap (λ (w : PlainWalk). w.program.begun) same ∙ was.begun;
       at = λ b header fits all stands.
           (let far = subst (λ (l : List ℕ). SoFar c.args.order c.args.params.now header b c.args.bytes.now
-          (along_from c.args.self.now.registers.address c.args.self.now.registers.file) walk l f.0 c.loop-operation.last_bytes c.loop-operation.rest.now)
+          (along_from c.args.self.now.registers.address c.args.self.now.registers.file) walk l f.0 (c.loop-operation.before_last - length c.loop-operation.rest.now) c.loop-operation.rest.now)
           (sym kept)
           (subst (λ (w : PlainWalk). SoFar c.args.order c.args.params.now header b c.args.bytes.now
-          (along_from c.args.self.now.registers.address c.args.self.now.registers.file) w c.loop-operation.files.items f.0 c.loop-operation.last_bytes c.loop-operation.rest.now)
+          (along_from c.args.self.now.registers.address c.args.self.now.registers.file) w c.loop-operation.files.items f.0 (c.loop-operation.before_last - length c.loop-operation.rest.now) c.loop-operation.rest.now)
           (sym same) (was.far b header fits all stands)) in
           run_of _ c.requires.single (front_taken c.args.bytes.now f.0 c.loop-operation.rest.now f.1) refl refl
           (record { to = refl; count = refl; first = refl; last = refl; has_statement = refl; files = files }) far);
