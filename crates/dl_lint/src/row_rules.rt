@@ -1,9 +1,9 @@
 //! What the rules find at a row, and at the end of a unit. Sections 6.2.2 to 6.2.5.
 
-ghost use Rattle.std.specs.Prelude.{◌≡◌, ◌≤◌, ◌∷◌, ◌⊎◌, ℕ, [], false, IsTrue, List, is_none, option_to_list, true};
+ghost use Rattle.std.specs.Prelude.{◌≡◌, ◌≤◌, ◌∷◌, ◌⊎◌, ℕ, [], false, IsTrue, List, is_none, length, option_to_list, true};
 ghost use Rattle.dl_look.specs.Answer.{is_below};
 ghost use Rattle.dl_table_rules.specs.Unused.{is_among};
-ghost use Rattle.dl_head.specs.Numbers.{file_numbered};
+ghost use Rattle.dl_head.specs.Numbers.{file_numbered, first_number};
 ghost use Rattle.dl_print.specs.ValueText.{Strings};
 ghost use Rattle.dl_field.specs.HeaderData.{HeaderData};
 ghost use Rattle.dl_rows.specs.Items.{a_row};
@@ -88,8 +88,10 @@ fn is_before(place: Place, other: Place) -> bool
 fn have_files(header: &Header, numbers: &[u64]) -> bool
     ensures { IsTrue result → (number : ℕ) → is_among numbers.now number ≡ true → is_none (file_numbered header.now number) ≡ false }
 {
+    let first = header.first_number();
+    let count = header.files().len() as u64;
     for number in numbers {
-        if !has_file(header, *number) {
+        if !is_numbered(first, count, *number) {
             return false;
         }
     }
@@ -120,8 +122,16 @@ fn fits_length(at: &Reached, header: &Header, address: u64) -> bool
 fn has_file(header: &Header, number: u64) -> bool
     ensures { IsTrue result → is_none (file_numbered header.now number) ≡ false }
 {
-    let first = header.first_number();
-    first <= number && number - first < header.files().len() as u64
+    is_numbered(header.first_number(), header.files().len() as u64, number)
+}
+
+/// Whether a number is that of one of so many files, the first of which has this one.
+#[inline(always)]
+fn is_numbered(first: u64, count: u64, number: u64) -> bool
+    ensures { (h : HeaderData) → first ≡ first_number h.params → count ≡ length h.files.entries → IsTrue result
+        → is_none (file_numbered h number) ≡ false }
+{
+    first <= number && number - first < count
 }
 
 /// Whether the address of a row is no multiple of the least length of an instruction from the first one of its sequence.

@@ -90,9 +90,7 @@ impl UnitFiles {
         ensures named { (h : HeaderData) (before : List ℕ) → AreNamed self.old.named h before
             → AreNamed self.new.named h (before ++ files.now) }
     {
-        for file in files {
-            self.named.name(*file);
-        }
+        self.named.name_each(files);
     }
 
     /// `unused-file`, of a unit with a header

@@ -91,6 +91,23 @@ impl FilesNamed {
         self.last = Some(file);
     }
 
+    /// Rows name these files, one after the other.
+    pub fn name_each(&mut self, files: &[u64])
+        ensures { (h : HeaderData) (before : List ℕ) → AreNamed self.old h before → AreNamed self.new h (before ++ files.now) }
+    {
+        for file in files {
+            self.mark(*file);
+        }
+    }
+
+    /// Sets what stands for this file.
+    #[inline(always)]
+    fn mark(&mut self, file: u64)
+        ensures { (h : HeaderData) (files : List ℕ) → AreNamed self.old h files → AreNamed self.new h (files ++ file ∷ []) }
+    {
+        mark(self.named.as_mut_slice(), u64::from(self.first), file);
+    }
+
     /// Which files aren't named, but for the numbers 0 and 1.
     pub fn unused(&self) -> Unused
         ensures { (h : HeaderData) (files : List ℕ) → AreNamed self.now h files → result ≡ counted (unused_in h files) }
