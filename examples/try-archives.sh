@@ -134,7 +134,8 @@ for archive in lib.a thin.a empty.a; do
     for command in "lint --rule none" "lint --rule overlap --no-rule none" "lint --json --rule none"; do
         says 2 $'dwline: none is no rule\n' /dev/null $command $archive
     done
-    for command in "lint --address-size 3" "sources --address-size 3" "sources --unit none"; do
+    for command in "lint --address-size 3" "sources --address-size 3" "sources --unit none" "check --address-size 3" \
+        "dump --address-size 3" "dump --unit none" "dump --range 5" "dump --keep-going --range 5-none"; do
         says 2 $'dwline: words not understood\n' /dev/null $command $archive
     done
 done

@@ -6,7 +6,7 @@ ghost use Rattle.dl_member.specs.Walking.{over};
 use dl_cmd::{DumpWords, Job};
 
 /// The same job of the file at this path; None where the job isn't `dump` or `check`, of a file.
-pub(crate) fn job_over<'a>(job: &Job<'a>, path: &'a str) -> Option<Job<'a>>
+pub fn job_over<'a>(job: &Job<'a>, path: &'a str) -> Option<Job<'a>>
     ensures { option_map request_made result ≡ over (request_made job.now) path.now }
 {
     match job {

@@ -1,13 +1,13 @@
 //! Archives, and members of archives, as FILE.
 
 use crate::ending::{Ending, report};
-use crate::members::{MemberWork, walk_each};
+use crate::members::{MemberWork, blames_words, walk_each};
 use dl_archive::archive_kind;
 use dl_cmd::Job;
-use dl_member::{MemberFault, WalkFault, Walked, split_member, walk_members};
+use dl_member::{MemberFault, WalkFault, Walked, job_over, split_member, walk_members};
 use dl_memory::System;
 use dl_open::{FileSource, Shown};
-use dl_program::{Stop, StopLines};
+use dl_program::{Stop, StopLines, work};
 use dl_sections::RunFault;
 use dl_system::{SystemFile, SystemFiles};
 use std::io::Write;
@@ -75,16 +75,38 @@ pub fn run_members(
     }
 }
 
-/// Does what a job says of each member of the archive at this path, and answers what came of them; the stop where the words of
-/// `lint` or `sources` are to blame.
+/// The stop where the words of `dump` or `check` are to blame.
+///
+/// The work is done with the archive itself. That is no ELF file, so that nothing is written; but words that are wrong are told.
+fn wrong_words<'a>(rt: &HostRuntime, job: &Job<'a>, path: &'a str) -> Option<Stop<'a>> {
+    let over = job_over(job, path)?;
+    let done = work(
+        &System::new(rt.alloc()),
+        Some(over),
+        &SystemFiles { rt },
+        &mut rt.stdin(),
+        &mut rt.stdout(),
+        &mut StopLines::new(rt.stderr()),
+    );
+    match done {
+        Err(stop) if blames_words(&stop) => Some(stop),
+        _ => None,
+    }
+}
+
+/// Does what a job says of each member of the archive at this path, and answers what came of them; the stop where the words are to
+/// blame, and then no member is gone through.
 fn walk<'a>(
     rt: &'a HostRuntime,
     job: &'a Job<'a>,
     path: &'a str,
     archive: &'a SystemFile,
 ) -> Result<Walked, Stop<'a>> {
-    if let Some(work) = MemberWork::of(job) {
-        return walk_each(rt, work, path, archive);
+    if let Some(each) = MemberWork::of(job) {
+        return walk_each(rt, each, path, archive);
+    }
+    if let Some(stop) = wrong_words(rt, job, path) {
+        return Err(stop);
     }
     Ok(walk_members(
         &System::new(rt.alloc()),

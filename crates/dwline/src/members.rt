@@ -76,7 +76,7 @@ fn under<'a>(stop: Stop<'a>, path: &'a str) -> Stop<'a> {
 }
 
 /// Whether the words are to blame.
-fn blames_words(stop: &Stop<'_>) -> bool {
+pub fn blames_words(stop: &Stop<'_>) -> bool {
     matches!(stop, Stop::NotUnderstood | Stop::NotRule { .. })
 }
 
