@@ -156,7 +156,7 @@ impl<M: Memory, D> Linter<'_, M, D> {
     ghost use Rattle.dl_findings.specs.Chosen.{is_chosen};
     ghost use Rattle.dl_findings.specs.declared.rule.Rule.TheVariants as rule;
     ghost use Rattle.dl_table_rules.specs.Duplicates.{entries_of};
-    ghost use Rattle.dl_table_rules.specs.Ordering.{IsOrderOf};
+    ghost use Rattle.dl_table_rules.specs.Keeping.{IsOrderOf};
     ghost use Rattle.dl_lint.specs.Keeping.{KnowsFiles};
     ghost use Rattle.dl_lint.specs.Linting.{WantsFiles};
 

@@ -51,7 +51,7 @@ found_within f m (suc n) k is = elim (cases_Bool (f m)) [
       let w = found_within f (m + 1) n k e in (omega (arith, w.0), omega (arith, w.1))
 ]
 
-apart : (f : ℕ → Bool) (a b : ℕ) → f a ≡ false → f b ≡ true → a ≢ b
+pub apart : (f : ℕ → Bool) (a b : ℕ) → f a ≡ false → f b ≡ true → a ≢ b
 apart f a b fails passes same = true≢false (sym passes ∙ ap f (sym same) ∙ fails)
 
 pub some_found : (f : ℕ → Bool) (m n i : ℕ) → m ≤ i → i < m + n → f i ≡ true → find f (range_with_len m n) ≡ None → ⊥

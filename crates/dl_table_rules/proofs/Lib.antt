@@ -1,5 +1,6 @@
 pub mod FirstLemmas
 pub mod OrderLemmas
+pub mod TwinLemmas
 pub mod NamedLemmas
 pub mod TextLemmas
 pub mod ContentLemmas

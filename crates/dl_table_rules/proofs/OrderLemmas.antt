@@ -116,10 +116,10 @@ equal_is a b = elim (cases_Bool (same_entry a b)) [
 
 -- ---- the first of those that are the same
 
-abbrev below : EntryAt → EntryAt → Bool
+abbrev pub below : EntryAt → EntryAt → Bool
 below a b = is_lt (at_cmp a b)
 
-ties_are : (x e : EntryAt) → ties below x e ≡ same_entry (items_at e) (items_at x)
+pub ties_are : (x e : EntryAt) → ties below x e ≡ same_entry (items_at e) (items_at x)
 ties_are x e =
     ap (λ o. not (is_lt o) && not (is_lt (at_cmp e x))) (at_total.antisymm x e) ∙ by (at_cmp e x)
     ∙ equal_is (items_at e) (items_at x) where
@@ -152,13 +152,13 @@ pub same_itself : (entries : List (List (ℕ × Value))) (place : ℕ) (a : List
     → same_at entries place place ≡ true
 same_itself entries place a is = ap (λ o. option_eq same_entry o o) is ∙ itself a
 
-is_less : (o : Ordering) → is_lt o ≡ true → o ≡ Less
+pub is_less : (o : Ordering) → is_lt o ≡ true → o ≡ Less
 is_less Less e = refl
 is_less Equal e = absurd (true≢false (sym e))
 is_less Greater e = absurd (true≢false (sym e))
 
 -- what isn't below what is above x is above x
-higher : (x y z : EntryAt) → below x y ≡ true → below z y ≡ false → below x z ≡ true
+pub higher : (x y z : EntryAt) → below x y ≡ true → below z y ≡ false → below x z ≡ true
 higher x y z above rises = by (at_cmp x z) refl where
   by : (o : Ordering) → at_cmp x z ≡ o → is_lt o ≡ true
   by Less is = refl

@@ -1,12 +1,18 @@
--- What is kept of the files that rows name, and of string sections. No promise rests on this file.
+-- What is kept of the entries of a table, of the files that rows name, and of string sections. No promise rests on this file.
 use Rattle.std.specs.Prelude.{◌≡◌, ℕ, ◌+◌, ◌<◌, Bool, true, false, List, [], ◌∷◌, length, nat_le, Option, Some, None, slice_index_or}
 use Rattle.dl_field.specs.HeaderData.{HeaderData}
 use Rattle.dl_head.specs.Numbers.{first_number}
+use Rattle.dl_table.specs.Value.{Value}
+use Rattle.dl_table_rules.specs.declared.entry_order.EntryOrder.{EntryOrder}
 use Rattle.dl_table_rules.specs.declared.files_named.FilesNamed.{FilesNamed}
 use Rattle.dl_table_rules.specs.declared.files_named.Unused.{Unused}
 use Rattle.dl_table_rules.specs.declared.text_ends.TextEnds.{TextEnds}
+use Rattle.dl_table_rules.specs.Ordering.{AreOrdered}
 use Rattle.dl_table_rules.specs.Texts.{lacks}
 use Rattle.dl_table_rules.specs.Unused.{is_among}
+
+abbrev pub IsOrderOf : EntryOrder → (entries : List (List (ℕ × Value))) → Type 0
+IsOrderOf order entries = AreOrdered order.entries.items entries
 
 -- how many they are, and the first
 abbrev pub counted : List ℕ → Unused

@@ -1,13 +1,12 @@
 -- An order of entries, in which none are equal but the same. No promise rests on this file.
-use Rattle.std.specs.Prelude.{⊤, ◌≡◌, ℕ, ◌+◌, List, [], ◌∷◌, length, Some, slice_get}
+use Rattle.std.specs.Prelude.{⊤, ◌≡◌, ℕ, ◌+◌, ◌<◌, Bool, true, false, List, [], ◌∷◌, length, Some, slice_get, slice_index_or}
 use Rattle.std.specs.Cmp.Lexicographic.{slice_cmp}
 use Rattle.std.specs.List.Sorted.{IsSorted, IsStable}
-use Rattle.std.specs.Ordering.{nat_cmp, ordering_then}
+use Rattle.std.specs.Ordering.{is_lt, nat_cmp, ordering_then}
 use Rattle.std.specs.declared.cmp.Ordering.{Ordering}
 use Rattle.dl_table.specs.EntryHeld.{entry_items}
 use Rattle.dl_table.specs.Value.{Value, text, line_str, str, str_sup, number, block, data16}
 use Rattle.dl_table_rules.specs.declared.entry_order.EntryAt.{EntryAt}
-use Rattle.dl_table_rules.specs.declared.entry_order.EntryOrder.{EntryOrder}
 
 abbrev pub kind_of : Value → ℕ
 kind_of (text w) = 0
@@ -53,6 +52,17 @@ items_at e = entry_items e.entry
 abbrev pub at_cmp : EntryAt → EntryAt → Ordering
 at_cmp a b = entry_cmp (items_at a) (items_at b)
 
+-- of neighbours in order the first of which isn't below the second, both are marked, at their places in the table
+abbrev pub AreTwins : List EntryAt → (marks : List Bool) → Type 0
+AreTwins ordered marks = (j : ℕ) (d : EntryAt) → j + 1 < length ordered
+    → is_lt (at_cmp (slice_index_or ordered j d) (slice_index_or ordered (j + 1) d)) ≡ false
+    → (slice_index_or marks (slice_index_or ordered j d).place false ≡ true)
+    × (slice_index_or marks (slice_index_or ordered (j + 1) d).place false ≡ true)
+
+-- their places are below this one
+abbrev pub AreBelow : (count : ℕ) → List EntryAt → Type 0
+AreBelow count ordered = (k : ℕ) (d : EntryAt) → k < length ordered → (slice_index_or ordered k d).place < count
+
 -- they are the entries from a place on, one after the other
 abbrev pub AreAt : List (List (ℕ × Value)) → ℕ → List EntryAt → Type 0
 AreAt entries place [] = ⊤
@@ -66,6 +76,3 @@ pub record AreOrdered (ordered : List EntryAt) (entries : List (List (ℕ × Val
   pub all : length listed ≡ length entries
   pub sorted : IsSorted at_cmp ordered
   pub stable : IsStable at_cmp listed ordered
-
-abbrev pub IsOrderOf : EntryOrder → (entries : List (List (ℕ × Value))) → Type 0
-IsOrderOf order entries = AreOrdered order.entries.items entries

@@ -5,8 +5,9 @@ ghost use Rattle.std.specs.List.{find, range_with_len};
 ghost use Rattle.dl_memory.specs.Refusals.{IsRefused};
 ghost use Rattle.dl_table.specs.Value.{Value};
 ghost use Rattle.dl_table_rules.specs.Duplicates.{entries_of, same_at};
-ghost use Rattle.dl_table_rules.specs.Ordering.{AreAt, AreOrdered, items_at};
+ghost use Rattle.dl_table_rules.specs.Ordering.{AreAt, AreBelow, AreOrdered, AreTwins, items_at};
 
+use crate::files_named::all_false;
 use crate::value_order::compare_entries;
 use dl_memory::{Memory, NoMemory};
 use dl_table::table::{Entry, Table};
@@ -80,18 +81,22 @@ impl<'a> Ord for EntryAt<'a> {
 #[derive(Drop)]
 pub struct EntryOrder<'t> {
     entries: Vec<EntryAt<'t>>,
+    /// For each place of the table, whether the entry there stands beside one with the same values.
+    twins: Vec<bool>,
+    ghost are_twins: { AreTwins entries.items twins.items },
 }
 
 impl<'t> EntryOrder<'t> {
-    ghost use Rattle.std.specs.Prelude.{◌≡◌, ◌<◌, length, IfOk, IfSome, OnErr};
+    ghost use Rattle.std.specs.Prelude.{◌≡◌, ◌<◌, false, length, slice_index_or, IfOk, IfSome, OnErr};
     ghost use Rattle.dl_memory.specs.Refusals.{IsRefused};
     ghost use Rattle.dl_table_rules.specs.Duplicates.{entries_of, first_same};
-    ghost use Rattle.dl_table_rules.specs.Ordering.{IsOrderOf};
+    ghost use Rattle.dl_table_rules.specs.Keeping.{IsOrderOf};
 
     /// Of no entries. It takes no memory.
     pub fn none(alloc: Global) -> EntryOrder<'t> {
         EntryOrder {
             entries: Vec::new(alloc),
+            twins: Vec::new(alloc),
         }
     }
 
@@ -102,7 +107,15 @@ impl<'t> EntryOrder<'t> {
     {
         let mut entries = listed(memory, table)?;
         memory.sort_by_key(&mut entries, |entry| *entry)?;
-        Ok(EntryOrder { entries })
+        let twins = twins_of(memory, entries.as_slice(), table.len())?;
+        Ok(EntryOrder { entries, twins })
+    }
+
+    /// Whether the entry at this place stands beside one with the same values.
+    fn has_twin(&self, place: usize) -> bool
+        ensures { result ≡ slice_index_or self.now.twins.items place false }
+    {
+        matches!(self.twins.get(place), Some(true))
     }
 
     /// The place of the first entry of the table with the same values as the one at this place.
@@ -111,12 +124,46 @@ impl<'t> EntryOrder<'t> {
         ensures first { IsOrderOf self.now (entries_of table.now) → result ≡ first_same (entries_of table.now) place }
         ensures before { IfSome result (λ other. other < place) }
     {
+        if !self.has_twin(place) {
+            return None;
+        }
         let wanted = EntryAt {
             entry: table.entry(place)?,
             place,
         };
         let first = first_of(self.entries.as_slice(), &wanted)?;
         if first < place { Some(first) } else { None }
+    }
+}
+
+/// For each of `count` places whether the entry there stands beside one with the same values, by the entries in order.
+fn twins_of<M: Memory>(
+    memory: &M,
+    ordered: &[EntryAt<'_>],
+    count: usize,
+) -> Result<Vec<bool>, NoMemory>
+    requires { AreBelow count ordered.now }
+    ensures twins { IfOk result (λ twins. AreTwins ordered.now twins.items) }
+    ensures refused { OnErr result (IsRefused (M.refuses memory.now) count) }
+{
+    let mut twins = all_false(memory, count)?;
+    mark_twins(ordered, twins.as_mut_slice());
+    Ok(twins)
+}
+
+/// Marks the places of entries that stand beside one with the same values, by the entries in order.
+fn mark_twins(ordered: &[EntryAt<'_>], twins: &mut [bool])
+    requires { AreBelow (length twins.old) ordered.now }
+    ensures { AreTwins ordered.now twins.new }
+{
+    for k in 1..ordered.len() {
+        let before = ordered[k - 1];
+        let entry = ordered[k];
+        if before < entry {
+            continue;
+        }
+        twins[before.place] = true;
+        twins[entry.place] = true;
     }
 }
 

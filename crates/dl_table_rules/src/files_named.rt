@@ -122,7 +122,7 @@ impl FilesNamed {
 }
 
 /// A list of so many.
-fn all_false<M: Memory>(memory: &M, count: usize) -> Result<Vec<bool>, NoMemory>
+pub(crate) fn all_false<M: Memory>(memory: &M, count: usize) -> Result<Vec<bool>, NoMemory>
     ensures all { IfOk result (λ list. length list.items ≡ count) }
     ensures each { IfOk result (λ list. (place : ℕ) → slice_index_or list.items place false ≡ false) }
     ensures refused { OnErr result (IsRefused (M.refuses memory.now) count) }

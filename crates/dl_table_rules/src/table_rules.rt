@@ -5,8 +5,7 @@ ghost use Rattle.dl_table.specs.Held.{value_lent};
 ghost use Rattle.dl_field.specs.HeaderData.{HeaderData};
 ghost use Rattle.dl_print.specs.ValueText.{Strings};
 ghost use Rattle.dl_table_rules.specs.Duplicates.{entries_of};
-ghost use Rattle.dl_table_rules.specs.Keeping.{AreEnds, AreNamed};
-ghost use Rattle.dl_table_rules.specs.Ordering.{IsOrderOf};
+ghost use Rattle.dl_table_rules.specs.Keeping.{AreEnds, AreNamed, IsOrderOf};
 ghost use Rattle.dl_table_rules.specs.TableFindings.{duplicate_at, in_header, missing_if, missing_value, unused_found};
 ghost use Rattle.dl_findings.specs.declared.finding.Found.TheVariants as what;
 

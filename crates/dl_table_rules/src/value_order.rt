@@ -35,10 +35,13 @@ pub fn compare_entries(entry: &Entry<'_>, other: &Entry<'_>) -> Ordering
 fn compare_values(value: &ValueRef<'_>, other: &ValueRef<'_>) -> Ordering
     ensures { result ≡ value_cmp (value_lent value.now) (value_lent other.now) }
 {
-    kind_of(value)
+    let order = kind_of(value)
         .cmp(&kind_of(other))
-        .then(number_of(value).cmp(&number_of(other)))
-        .then(bytes_of(value).cmp(bytes_of(other)))
+        .then(number_of(value).cmp(&number_of(other)));
+    if order != Ordering::Equal {
+        return order;
+    }
+    bytes_of(value).cmp(bytes_of(other))
 }
 
 /// A number for each kind of value.

@@ -3,7 +3,7 @@ use Rattle.std.proofs.Common.{◌+◌, ◌-◌, ◌≤◌}
 use Rattle.std.specs.Prelude.{flat_map}
 use Rattle.std.specs.List.{range_with_len}
 use Rattle.dl_table_rules.specs.Duplicates.{entries_of}
-use Rattle.dl_table_rules.specs.Ordering.{IsOrderOf}
+use Rattle.dl_table_rules.specs.Keeping.{IsOrderOf}
 use Rattle.dl_table_rules.specs.TableFindings.{duplicate_at, duplicates_found}
 use Rattle.dl_lint.proofs.TellLemmas.{Front}
 use Rattle.dl_lint.proofs.report.Report.tell_duplicates.Given as goal

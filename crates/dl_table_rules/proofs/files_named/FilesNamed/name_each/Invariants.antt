@@ -1,4 +1,4 @@
-use Rattle.std.proofs.Common.{◌≡◌, ◌++◌, ℕ, List, take}
+use Rattle.std.proofs.Common.{◌++◌, ℕ, List, take}
 use Rattle.dl_field.specs.HeaderData.{HeaderData}
 use Rattle.dl_table_rules.specs.Keeping.{AreNamed}
 use Rattle.dl_table_rules.proofs.files_named.FilesNamed.name_each.Given as goal
