@@ -16,6 +16,7 @@ NAMES = {
     "missing-text": ("section", "at"),
     "duplicate-file": ("file", "same_as"),
     "unused-file": ("unused", "first"),
+    "md5-missing": ("without", "first"),
     "long-number": ("bytes",),
     "padding": ("bytes",),
     "wrapped-address": ("from", "size"),

@@ -290,14 +290,15 @@ enum {
                                        .debug_str, the offset there */
     DL_RULE_DUPLICATE_FILE = 8,     /* the file, the first file that has its values */
     DL_RULE_UNUSED_FILE = 9,        /* how many files, the number of the first */
-    DL_RULE_LONG_NUMBER = 10,       /* how many bytes the number has */
-    DL_RULE_PADDING = 11,           /* how many bytes */
-    DL_RULE_WRAPPED_ADDRESS = 12,   /* the address before the advance, the size of an address in bytes */
-    DL_RULE_LINE_WRAPPED = 13,      /* the line */
-    DL_RULE_NO_STATEMENT = 14,      /* none */
-    DL_RULE_SPLIT_INSTRUCTION = 15, /* the address of the first row of the sequence, minimum_instruction_length */
-    DL_RULE_UNKNOWN_OPCODE = 16,    /* 0 for a standard opcode, 1 for an extended one or 2 for a content code, its number */
-    DL_RULE_NO_CODE = 17            /* the address and the length in bytes of the code; not of a section alone */
+    DL_RULE_MD5_MISSING = 10,       /* how many files have no MD5 sum, the number of the first */
+    DL_RULE_LONG_NUMBER = 11,       /* how many bytes the number has */
+    DL_RULE_PADDING = 12,           /* how many bytes */
+    DL_RULE_WRAPPED_ADDRESS = 13,   /* the address before the advance, the size of an address in bytes */
+    DL_RULE_LINE_WRAPPED = 14,      /* the line */
+    DL_RULE_NO_STATEMENT = 15,      /* none */
+    DL_RULE_SPLIT_INSTRUCTION = 16, /* the address of the first row of the sequence, minimum_instruction_length */
+    DL_RULE_UNKNOWN_OPCODE = 17,    /* 0 for a standard opcode, 1 for an extended one or 2 for a content code, its number */
+    DL_RULE_NO_CODE = 18            /* the address and the length in bytes of the code; not of a section alone */
 };
 
 /* A finding: where it is, and what is found. */

@@ -256,6 +256,7 @@ RULES = (
     "missing-text",
     "duplicate-file",
     "unused-file",
+    "md5-missing",
     "long-number",
     "padding",
     "wrapped-address",

@@ -278,7 +278,7 @@ NO_FILE_FOUND = [
 
 class Findings(unittest.TestCase):
     def test_rules(self) -> None:
-        self.assertEqual(len(RULES), 18)
+        self.assertEqual(len(RULES), 19)
         self.assertEqual(Section(b"").findings(), [])
         self.assertEqual(Section(NO_FILE).findings(rules=["file-index"]), NO_FILE_FOUND)
         self.assertEqual(Section(NO_FILE).findings(rules=["padding"]), [])

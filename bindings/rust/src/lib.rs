@@ -182,6 +182,8 @@ pub enum Rule {
     DuplicateFile,
     /// No row names an entry of the table of files. The numbers: how many files, the number of the first.
     UnusedFile,
+    /// Some files of the table have an MD5 sum, and others none. The numbers: how many files have none, the number of the first.
+    Md5Missing,
     /// A number in LEB128 has more than ten bytes. The numbers: how many bytes the number has.
     LongNumber,
     /// Bytes stand between the tables of a header and the program. The numbers: how many bytes.
@@ -202,7 +204,7 @@ pub enum Rule {
 
 impl Rule {
     /// All rules, in the order in which the findings of one place are told.
-    pub const ALL: [Rule; 18] = [
+    pub const ALL: [Rule; 19] = [
         Rule::FileIndex,
         Rule::DirectoryIndex,
         Rule::FallingPlace,
@@ -213,6 +215,7 @@ impl Rule {
         Rule::MissingText,
         Rule::DuplicateFile,
         Rule::UnusedFile,
+        Rule::Md5Missing,
         Rule::LongNumber,
         Rule::Padding,
         Rule::WrappedAddress,
@@ -236,6 +239,7 @@ impl Rule {
             Rule::MissingText => "missing-text",
             Rule::DuplicateFile => "duplicate-file",
             Rule::UnusedFile => "unused-file",
+            Rule::Md5Missing => "md5-missing",
             Rule::LongNumber => "long-number",
             Rule::Padding => "padding",
             Rule::WrappedAddress => "wrapped-address",

@@ -38,7 +38,7 @@ how_many-push r findings f =
     ap at_most_64_bits (count-push (is_of r) findings f)
     ∙ capped (count_by (is_of r) findings) (if is_of r f then 1 else 0)
 
-pub place-lt : (r : Rule) → rule_place r < 18
+pub place-lt : (r : Rule) → rule_place r < 19
 place-lt rule.FileIndex = omega arith
 place-lt rule.DirectoryIndex = omega arith
 place-lt rule.FallingPlace = omega arith
@@ -49,6 +49,7 @@ place-lt rule.DeadSequence = omega arith
 place-lt rule.MissingText = omega arith
 place-lt rule.DuplicateFile = omega arith
 place-lt rule.UnusedFile = omega arith
+place-lt rule.Md5Missing = omega arith
 place-lt rule.LongNumber = omega arith
 place-lt rule.Padding = omega arith
 place-lt rule.WrappedAddress = omega arith
@@ -60,12 +61,12 @@ place-lt rule.NoCode = omega arith
 
 -- one finding more
 module _ (of : List ℕ) (findings : List Finding) (f : Finding) where
-  pub counts_more : (place count : ℕ) → length of ≡ 18 → place ≡ rule_place (rule_of f.found)
+  pub counts_more : (place count : ℕ) → length of ≡ 19 → place ≡ rule_place (rule_of f.found)
       → count ≡ at_most_64_bits (slice_index_or of place 0 + 1)
       → ((r : Rule) → slice_index_or of (rule_place r) 0 ≡ how_many r findings)
       → (r : Rule) → slice_index_or (slice_set of place count) (rule_place r) 0 ≡ how_many r (findings ++ f ∷ [])
   counts_more place count long is counted counts r = by (cases_Bool (rule_place r == rule_place (rule_of f.found))) where
-    within : rule_place (rule_of f.found) < 18
+    within : rule_place (rule_of f.found) < 19
     within = place-lt (rule_of f.found)
 
     push : how_many r (findings ++ f ∷ [])

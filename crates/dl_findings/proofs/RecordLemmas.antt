@@ -69,6 +69,7 @@ found_len (found.DeadSequence sequences first) = refl
 found_len (found.MissingText e section offset) = missing_len e section offset
 found_len (found.DuplicateFile file same_as) = refl
 found_len (found.UnusedFile files first) = refl
+found_len (found.Md5Missing files first) = refl
 found_len (found.LongNumber bytes) = refl
 found_len (found.Padding bytes) = refl
 found_len (found.WrappedAddress from size) = refl

@@ -82,6 +82,7 @@ found_members (found.MissingText e section offset) = missing_members e section o
 found_members (found.DuplicateFile file same_as) =
     two_numbers (codes ",\"file\":") file (codes ",\"same_as\":") same_as
 found_members (found.UnusedFile files first) = two_numbers (codes ",\"unused\":") files (codes ",\"first\":") first
+found_members (found.Md5Missing files first) = two_numbers (codes ",\"without\":") files (codes ",\"first\":") first
 found_members (found.LongNumber bytes) = codes ",\"bytes\":" ++ decimal bytes
 found_members (found.Padding bytes) = codes ",\"bytes\":" ++ decimal bytes
 found_members (found.WrappedAddress from size) = both_members (codes ",\"from\":\"") from (codes ",\"size\":") size

@@ -45,6 +45,7 @@ found_numbers (found.DeadSequence sequences first) = sequences ∷ first ∷ 0 �
 found_numbers (found.MissingText e section offset) = missing_numbers e section offset
 found_numbers (found.DuplicateFile file same_as) = file ∷ same_as ∷ 0 ∷ 0 ∷ []
 found_numbers (found.UnusedFile files first) = files ∷ first ∷ 0 ∷ 0 ∷ []
+found_numbers (found.Md5Missing files first) = files ∷ first ∷ 0 ∷ 0 ∷ []
 found_numbers (found.LongNumber bytes) = bytes ∷ 0 ∷ 0 ∷ 0 ∷ []
 found_numbers (found.Padding bytes) = bytes ∷ 0 ∷ 0 ∷ 0 ∷ []
 found_numbers (found.WrappedAddress from size) = from ∷ size ∷ 0 ∷ 0 ∷ []

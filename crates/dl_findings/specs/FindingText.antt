@@ -29,6 +29,7 @@ rule_of (found.DeadSequence sequences first) = rule.DeadSequence
 rule_of (found.MissingText e section offset) = rule.MissingText
 rule_of (found.DuplicateFile file same_as) = rule.DuplicateFile
 rule_of (found.UnusedFile files first) = rule.UnusedFile
+rule_of (found.Md5Missing files first) = rule.Md5Missing
 rule_of (found.LongNumber bytes) = rule.LongNumber
 rule_of (found.Padding bytes) = rule.Padding
 rule_of (found.WrappedAddress from size) = rule.WrappedAddress
@@ -135,6 +136,8 @@ found_text (found.DuplicateFile file same_as) =
     two_numbers (codes "file ") file (codes " has all values of file ") same_as
 found_text (found.UnusedFile files first) =
     two_numbers (codes "no row names ") files (codes " of the files, the first is file ") first
+found_text (found.Md5Missing files first) =
+    two_numbers (codes "no MD5 sum is given for ") files (codes " of the files, the first is file ") first
 found_text (found.LongNumber bytes) = long_text bytes
 found_text (found.Padding bytes) = padding_text bytes
 found_text (found.WrappedAddress from size) = wrapped_text from size

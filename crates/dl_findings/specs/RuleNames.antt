@@ -17,6 +17,7 @@ rule_name rule.DeadSequence = codes "dead-sequence"
 rule_name rule.MissingText = codes "missing-text"
 rule_name rule.DuplicateFile = codes "duplicate-file"
 rule_name rule.UnusedFile = codes "unused-file"
+rule_name rule.Md5Missing = codes "md5-missing"
 rule_name rule.LongNumber = codes "long-number"
 rule_name rule.Padding = codes "padding"
 rule_name rule.WrappedAddress = codes "wrapped-address"
@@ -30,8 +31,8 @@ rule_name rule.NoCode = codes "no-code"
 abbrev pub all_rules : List Rule
 all_rules =
     rule.FileIndex ∷ rule.DirectoryIndex ∷ rule.FallingPlace ∷ rule.NoEnd ∷ rule.EmptySequence ∷ rule.Overlap
-    ∷ rule.DeadSequence ∷ rule.MissingText ∷ rule.DuplicateFile ∷ rule.UnusedFile ∷ rule.LongNumber ∷ rule.Padding
-    ∷ rule.WrappedAddress ∷ rule.LineWrapped ∷ rule.NoStatement ∷ rule.SplitInstruction ∷ rule.UnknownOpcode
+    ∷ rule.DeadSequence ∷ rule.MissingText ∷ rule.DuplicateFile ∷ rule.UnusedFile ∷ rule.Md5Missing ∷ rule.LongNumber
+    ∷ rule.Padding ∷ rule.WrappedAddress ∷ rule.LineWrapped ∷ rule.NoStatement ∷ rule.SplitInstruction ∷ rule.UnknownOpcode
     ∷ rule.NoCode ∷ []
 
 -- the place of a rule among them, from 0 on
@@ -46,14 +47,15 @@ rule_place rule.DeadSequence = 6
 rule_place rule.MissingText = 7
 rule_place rule.DuplicateFile = 8
 rule_place rule.UnusedFile = 9
-rule_place rule.LongNumber = 10
-rule_place rule.Padding = 11
-rule_place rule.WrappedAddress = 12
-rule_place rule.LineWrapped = 13
-rule_place rule.NoStatement = 14
-rule_place rule.SplitInstruction = 15
-rule_place rule.UnknownOpcode = 16
-rule_place rule.NoCode = 17
+rule_place rule.Md5Missing = 10
+rule_place rule.LongNumber = 11
+rule_place rule.Padding = 12
+rule_place rule.WrappedAddress = 13
+rule_place rule.LineWrapped = 14
+rule_place rule.NoStatement = 15
+rule_place rule.SplitInstruction = 16
+rule_place rule.UnknownOpcode = 17
+rule_place rule.NoCode = 18
 
 -- the rule of this name
 abbrev pub named : (name : List ℕ) → Option Rule

@@ -119,6 +119,11 @@ pub enum Found {
         files: u64,
         first: u64,
     },
+    /// So many `files` of the unit, more than none, have no MD5 sum, and others have one. The number of the first is `first`.
+    Md5Missing {
+        files: u64,
+        first: u64,
+    },
     /// A number in LEB128 of the operation has so many bytes, more than ten. Section 7.6.
     LongNumber {
         bytes: u64,
@@ -178,6 +183,7 @@ impl Found {
             Found::MissingText { .. } => Rule::MissingText,
             Found::DuplicateFile { .. } => Rule::DuplicateFile,
             Found::UnusedFile { .. } => Rule::UnusedFile,
+            Found::Md5Missing { .. } => Rule::Md5Missing,
             Found::LongNumber { .. } => Rule::LongNumber,
             Found::Padding { .. } => Rule::Padding,
             Found::WrappedAddress { .. } => Rule::WrappedAddress,

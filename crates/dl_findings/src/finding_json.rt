@@ -137,6 +137,14 @@ fn print_found<W: Destination>(
             b",\"first\":",
             *first,
         ),
+        Found::Md5Missing { files, first } => print_numbers(
+            printer,
+            output,
+            b",\"without\":",
+            *files,
+            b",\"first\":",
+            *first,
+        ),
         Found::LongNumber { bytes } => printer.number(output, b",\"bytes\":", *bytes),
         Found::Padding { bytes } => printer.number(output, b",\"bytes\":", *bytes),
         Found::WrappedAddress { from, size } => print_both(

@@ -75,6 +75,7 @@ fn numbers_of_found(found: &Found) -> [u64; 4]
         } => numbers_of_missing(*entry, *section, *offset),
         Found::DuplicateFile { file, same_as } => [*file, *same_as, 0, 0],
         Found::UnusedFile { files, first } => [*files, *first, 0, 0],
+        Found::Md5Missing { files, first } => [*files, *first, 0, 0],
         Found::LongNumber { bytes } => [*bytes, 0, 0, 0],
         Found::Padding { bytes } => [*bytes, 0, 0, 0],
         Found::WrappedAddress { from, size } => [*from, *size, 0, 0],

@@ -26,6 +26,8 @@ pub enum Rule {
     DuplicateFile,
     /// No row names an entry of the table of files. Sections 6.2.2 and 6.2.4.1.
     UnusedFile,
+    /// Some files of the table have an MD5 sum, and others none. Section 6.2.4.1.
+    Md5Missing,
     /// A number in LEB128 has more than ten bytes. Section 7.6.
     LongNumber,
     /// Bytes stand between the tables of a header and the program. Section 6.2.4.
@@ -45,7 +47,7 @@ pub enum Rule {
 }
 
 /// How many rules there are.
-pub(crate) const COUNT: usize = 18;
+pub(crate) const COUNT: usize = 19;
 
 /// All rules, in the order in which the findings of one place are told.
 pub const RULES: [Rule; COUNT] = [
@@ -59,6 +61,7 @@ pub const RULES: [Rule; COUNT] = [
     Rule::MissingText,
     Rule::DuplicateFile,
     Rule::UnusedFile,
+    Rule::Md5Missing,
     Rule::LongNumber,
     Rule::Padding,
     Rule::WrappedAddress,
@@ -86,6 +89,7 @@ impl Rule {
             Rule::MissingText => b"missing-text",
             Rule::DuplicateFile => b"duplicate-file",
             Rule::UnusedFile => b"unused-file",
+            Rule::Md5Missing => b"md5-missing",
             Rule::LongNumber => b"long-number",
             Rule::Padding => b"padding",
             Rule::WrappedAddress => b"wrapped-address",
@@ -112,7 +116,7 @@ impl Rule {
     /// Its place in `RULES`, from 0 on.
     pub fn place(self) -> usize
         ensures place { result ≡ rule_place self }
-        ensures within { result < 18 }
+        ensures within { result < 19 }
     {
         match self {
             Rule::FileIndex => 0,
@@ -125,14 +129,15 @@ impl Rule {
             Rule::MissingText => 7,
             Rule::DuplicateFile => 8,
             Rule::UnusedFile => 9,
-            Rule::LongNumber => 10,
-            Rule::Padding => 11,
-            Rule::WrappedAddress => 12,
-            Rule::LineWrapped => 13,
-            Rule::NoStatement => 14,
-            Rule::SplitInstruction => 15,
-            Rule::UnknownOpcode => 16,
-            Rule::NoCode => 17,
+            Rule::Md5Missing => 10,
+            Rule::LongNumber => 11,
+            Rule::Padding => 12,
+            Rule::WrappedAddress => 13,
+            Rule::LineWrapped => 14,
+            Rule::NoStatement => 15,
+            Rule::SplitInstruction => 16,
+            Rule::UnknownOpcode => 17,
+            Rule::NoCode => 18,
         }
     }
 }

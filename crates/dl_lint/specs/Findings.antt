@@ -12,15 +12,15 @@ use Rattle.dl_lint.specs.OperationRules.{long_number_at, unknown_opcode_at, wrap
 use Rattle.dl_lint.specs.RowRules.{empty_sequence_at, falling_place_at, file_index_at, line_wrapped_at, no_end_at, no_statement_at}
 use Rattle.dl_lint.specs.RowRules.{split_instruction_at}
 use Rattle.dl_lint.specs.Sequences.{dead_sequence_at, ended_in, live_in}
-use Rattle.dl_lint.specs.TableRules.{duplicate_file_at, missing_text_at, unused_file_at}
+use Rattle.dl_lint.specs.TableRules.{duplicate_file_at, md5_missing_at, missing_text_at, unused_file_at}
 use Rattle.dl_lint.specs.declared.question.LintQuestion.{LintQuestion}
 
 -- what each rule finds at a visit, by the visits before it. s: the string sections
 abbrev pub each_rule : Strings → LintQuestion → List (List Visit → Visit → List Finding)
 each_rule s q =
     file_index_at ∷ directory_index_at ∷ falling_place_at ∷ no_end_at ∷ empty_sequence_at ∷ dead_sequence_at (live_in q)
-    ∷ missing_text_at s ∷ duplicate_file_at ∷ unused_file_at ∷ long_number_at ∷ padding_at ∷ wrapped_address_at ∷ line_wrapped_at
-    ∷ no_statement_at ∷ split_instruction_at ∷ unknown_opcode_at ∷ []
+    ∷ missing_text_at s ∷ duplicate_file_at ∷ unused_file_at ∷ md5_missing_at ∷ long_number_at ∷ padding_at ∷ wrapped_address_at
+    ∷ line_wrapped_at ∷ no_statement_at ∷ split_instruction_at ∷ unknown_opcode_at ∷ []
 
 -- one rule after the other
 abbrev pub findings_at : Strings → LintQuestion → (before : List Visit) → Visit → List Finding

@@ -6,6 +6,7 @@ use Rattle.dl_rows.specs.declared.row.Row.{Row}
 use Rattle.dl_sections.specs.Copying.{offset_after as unit_offset}
 use Rattle.dl_sections.specs.Section.{Visit, of_end, of_header}
 use Rattle.dl_findings.specs.declared.finding.Finding.{Finding}
+use Rattle.dl_table_rules.specs.Sums.{sums_found}
 use Rattle.dl_table_rules.specs.TableFindings.{duplicates_found, missing_found, unused_found}
 use Rattle.dl_lint.specs.Before.{rows_told}
 
@@ -16,6 +17,10 @@ missing_text_at s before visit = []
 abbrev pub duplicate_file_at : (before : List Visit) → Visit → List Finding
 duplicate_file_at before (of_header offset lengths h) = duplicates_found offset h
 duplicate_file_at before visit = []
+
+abbrev pub md5_missing_at : (before : List Visit) → Visit → List Finding
+md5_missing_at before (of_header offset lengths h) = sums_found offset h
+md5_missing_at before visit = []
 
 -- the file that a row names. What an end row says beside its address has no meaning (section 6.2.2)
 abbrev pub file_of : Row → List ℕ

@@ -12,6 +12,7 @@ ghost use Rattle.dl_findings.specs.Chosen.{is_chosen};
 ghost use Rattle.dl_findings.specs.declared.rule.Rule.TheVariants as rule;
 ghost use Rattle.dl_table_rules.specs.Duplicates.{entries_of};
 ghost use Rattle.dl_table_rules.specs.Keeping.{AreEnds, IsOrderOf};
+ghost use Rattle.dl_table_rules.specs.Sums.{sums_found};
 ghost use Rattle.dl_table_rules.specs.TableFindings.{duplicates_found, missing_entry, missing_found, missing_in, unused_found};
 ghost use Rattle.dl_lint.specs.Findings.{findings_at};
 ghost use Rattle.dl_table_rules.specs.HeaderFindings.{contents_found, directories_found};
@@ -41,8 +42,8 @@ use dl_output::Destination;
 use dl_print::{Printer, WriteFault};
 use dl_rows::{Operation, Row};
 use dl_table_rules::{
-    EntryOrder, TextEnds, content_count, directory_index, duplicate_file, missing_text,
-    unknown_content,
+    EntryOrder, TextEnds, content_count, directory_index, duplicate_file, md5_missing,
+    missing_text, unknown_content,
 };
 
 /// Prints the findings of chosen rules, and counts them.
@@ -157,6 +158,7 @@ impl Report<'_> {
         self.tell_directories(output, unit, header)?;
         self.tell_missing(output, unit, header, ends)?;
         self.tell_duplicates(output, unit, header, order)?;
+        self.tell_sums(output, unit, header)?;
         self.tell_any(output, padding(unit, lengths))?;
         self.tell_contents(output, unit, header)
     }
@@ -296,6 +298,20 @@ impl Report<'_> {
             place += 1;
         }
         Ok(())
+    }
+
+    /// Tells whether some files have an MD5 sum and others none.
+    fn tell_sums<W: Destination>(
+        &mut self,
+        output: &mut W,
+        unit: u64,
+        header: &Header,
+    ) -> Result<(), WriteFault>
+        ensures told { Tells (W.contents output.old) (W.contents output.new) self.old self.new
+            (sums_found unit header.now) result }
+        ensures blames { BlamesWriter W.fails result }
+    {
+        self.tell_any(output, md5_missing(unit, header))
     }
 
     /// Tells what is found where a unit is whole.

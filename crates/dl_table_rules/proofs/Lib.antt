@@ -4,3 +4,4 @@ pub mod TwinLemmas
 pub mod NamedLemmas
 pub mod TextLemmas
 pub mod ContentLemmas
+pub mod SumLemmas

@@ -5,7 +5,7 @@ use Rattle.dl_head.specs.Numbers.{first_number}
 use Rattle.dl_table.specs.Value.{Value}
 use Rattle.dl_table_rules.specs.declared.entry_order.EntryOrder.{EntryOrder}
 use Rattle.dl_table_rules.specs.declared.files_named.FilesNamed.{FilesNamed}
-use Rattle.dl_table_rules.specs.declared.files_named.Unused.{Unused}
+use Rattle.dl_table_rules.specs.declared.files_named.FileNumbers.{FileNumbers}
 use Rattle.dl_table_rules.specs.declared.text_ends.TextEnds.{TextEnds}
 use Rattle.dl_table_rules.specs.Ordering.{AreOrdered}
 use Rattle.dl_table_rules.specs.Texts.{lacks}
@@ -15,7 +15,7 @@ abbrev pub IsOrderOf : EntryOrder → (entries : List (List (ℕ × Value))) →
 IsOrderOf order entries = AreOrdered order.entries.items entries
 
 -- how many they are, and the first
-abbrev pub counted : List ℕ → Unused
+abbrev pub counted : List ℕ → FileNumbers
 counted [] = record { files = 0; first = 0 }
 counted (n ∷ numbers) = record { files = length (n ∷ numbers); first = n }
 

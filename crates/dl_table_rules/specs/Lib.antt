@@ -3,6 +3,7 @@ pub mod Duplicates
 pub mod Unused
 pub mod Texts
 pub mod TableFindings
+pub mod Sums
 pub mod HeaderFindings
 -- Of contracts inside the crate, and of proofs.
 pub mod Ordering

@@ -20,21 +20,21 @@ pub struct FilesNamed {
 
 /// Numbers of files, by how many they are.
 #[derive(Clone, Copy)]
-pub struct Unused {
+pub struct FileNumbers {
     pub files: u64,
     /// The least; 0 where there are none.
     pub first: u64,
 }
 
-/// No files.
-const NONE: Unused = Unused { files: 0, first: 0 };
+/// No numbers.
+pub(crate) const NONE: FileNumbers = FileNumbers { files: 0, first: 0 };
 
-impl Unused {
+impl FileNumbers {
     ghost use Rattle.std.specs.Prelude.{◌≡◌, ◌<◌, ◌≤◌, ◌+◌, ◌^◌, ◌++◌, ◌∷◌, [], ◌&&◌, ℕ, List, if◌then◌else◌, nat_le, not};
     ghost use Rattle.dl_table_rules.specs.Keeping.{counted};
 
     /// With a greater number, where that is neither 0 nor 1, and isn't named.
-    fn with(self, number: u64, is_named: bool) -> Unused
+    fn with(self, number: u64, is_named: bool) -> FileNumbers
         requires { self.files + 1 < 2 ^ 64 }
         ensures numbers { (numbers : List ℕ) → self ≡ counted numbers
             → result ≡ counted (numbers ++ (if nat_le 2 number && not is_named then number ∷ [] else [])) }
@@ -43,7 +43,16 @@ impl Unused {
         if number < 2 || is_named {
             return self;
         }
-        Unused {
+        self.and(number)
+    }
+
+    /// With a greater number.
+    pub(crate) fn and(self, number: u64) -> FileNumbers
+        requires { self.files + 1 < 2 ^ 64 }
+        ensures numbers { (numbers : List ℕ) → self ≡ counted numbers → result ≡ counted (numbers ++ number ∷ []) }
+        ensures files { result.files ≡ self.files + 1 }
+    {
+        FileNumbers {
             files: self.files + 1,
             first: if self.files == 0 { number } else { self.first },
         }
@@ -109,7 +118,7 @@ impl FilesNamed {
     }
 
     /// Which files aren't named, but for the numbers 0 and 1.
-    pub fn unused(&self) -> Unused
+    pub fn unused(&self) -> FileNumbers
         ensures { (h : HeaderData) (files : List ℕ) → AreNamed self.now h files → result ≡ counted (unused_in h files) }
     {
         let mut unused = NONE;

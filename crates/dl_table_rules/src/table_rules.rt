@@ -16,7 +16,7 @@ use dl_findings::{Finding, Found, TableEntry, TextSection};
 use dl_head::{Header, ValueRef};
 
 /// A finding of the header of the unit at this offset.
-fn in_header(unit: u64, found: Found) -> Finding
+pub(crate) fn in_header(unit: u64, found: Found) -> Finding
     ensures { result ≡ in_header unit found }
 {
     Finding {

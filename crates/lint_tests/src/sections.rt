@@ -92,6 +92,15 @@ pub const OLDER_UNUSED: &str =
         00 00 09 02 00 10 00 00 00 00 00 00 04 03 01 04 09 02 04 01 04 02 02 04 00 01 \
         01";
 
+/// Version 5, a directory and files 0 to 2 by DW_FORM_line_strp, each with a directory and an MD5 sum in DW_FORM_data16, which of file 2
+/// is sixteen zeros. GNU as 2.40 wrote it of `.file` directives, of which the third has no `md5`.
+pub const SUMS: &str =
+    "7d 00 00 00 05 00 08 00 61 00 00 00 01 01 01 fb 0e 0d 00 01 01 01 01 00 00 00 \
+        01 00 00 01 01 01 1f 01 00 00 00 00 03 01 1f 02 0f 05 1e 03 00 00 00 00 00 ff \
+        ee dd cc bb aa 99 88 77 66 55 44 33 22 11 00 00 00 00 00 00 ff ee dd cc bb aa \
+        99 88 77 66 55 44 33 22 11 00 00 00 00 00 00 00 00 00 00 00 00 00 00 00 00 00 \
+        00 00 00 00 00 00 09 02 00 00 00 00 00 00 00 00 01 04 02 21 02 01 00 01 01";
+
 /// Version 5, a directory by DW_FORM_line_strp at 0, and four files with a path by DW_FORM_line_strp and a text of content code 0x2001
 /// by DW_FORM_strp: 3 and 0, 7 and 2, 8 and 9, 3 and 3. From byte 77 on an end row.
 pub const TEXTS: &str =

@@ -1,6 +1,6 @@
 //! What the rules of tables find.
 use crate::sections::{
-    DUPLICATES, OLDER_DUPLICATES, OLDER_UNUSED, TEXTS, UNUSED, USUAL, asked, assert_findings,
+    DUPLICATES, OLDER_DUPLICATES, OLDER_UNUSED, SUMS, TEXTS, UNUSED, USUAL, asked, assert_findings,
     assert_over, assert_told, unit, with_strings,
 };
 use dl_lint::{Rule, Rules};
@@ -42,6 +42,22 @@ fn unused(rt: HostRuntime) -> Result<(), Fail> {
     let object = "{\"offset\":0,\"rule\":\"unused-file\",\"unused\":2,\"first\":2}\n\
                   {\"offset\":100,\"rule\":\"unused-file\",\"unused\":1,\"first\":2}\n";
     let wanted = (object, Ok((Rule::UnusedFile, 2)));
+    assert_told(&rt, rt.alloc(), section.as_slice(), rules, true, wanted);
+    Ok(())
+}
+
+/// A file without an MD5 sum among others that have one; of a unit without sums nothing is found.
+#[test]
+fn sums(rt: HostRuntime) -> Result<(), Fail> {
+    let rules = Rules::none().with(Rule::Md5Missing);
+    let mut section = test_support::bytes(rt.alloc(), UNUSED)?;
+    let with_sums = test_support::bytes(rt.alloc(), SUMS)?;
+    section.extend_from_slice(with_sums.as_slice())?;
+    let text = "0x64 md5-missing: no MD5 sum is given for 1 of the files, the first is file 2\n";
+    let wanted = (text, Ok((Rule::Md5Missing, 1)));
+    assert_findings(&rt, rt.alloc(), section.as_slice(), rules, wanted);
+    let object = "{\"offset\":100,\"rule\":\"md5-missing\",\"without\":1,\"first\":2}\n";
+    let wanted = (object, Ok((Rule::Md5Missing, 1)));
     assert_told(&rt, rt.alloc(), section.as_slice(), rules, true, wanted);
     Ok(())
 }

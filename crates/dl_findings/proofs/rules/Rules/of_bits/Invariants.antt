@@ -5,6 +5,6 @@ use Rattle.dl_findings.proofs.rules.Rules.of_bits.Given as goal
 
 abbrev pub invariant-loop-place : goal.invariant-loop-place
 invariant-loop-place l = record {
-  long : length l.has ≡ 18;
+  long : length l.has ≡ 19;
   read : AreRead l.bits l.has l.place;
 }
