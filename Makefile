@@ -30,10 +30,10 @@ example: dwline
 	crates/dwline/out/dwline dump --line-str examples/gcc-O2/debug_line_str \
 		--str examples/gcc-O2/debug_str < examples/gcc-O2/debug_line
 
-# The same without a proof: the code is compiled with checks that stop it, and nothing of it is kept.
+# The same without a proof, or dwline with other words: make try ARGS="addr examples/gcc-O2/program 0x401008".
+section = --line-str examples/gcc-O2/debug_line_str --str examples/gcc-O2/debug_str < examples/gcc-O2/debug_line
 try:
-	cd crates/dwline && rt try --data debug_line_str=../../examples/gcc-O2/debug_line_str \
-		-- dump --line-str debug_line_str < ../../examples/gcc-O2/debug_line
+	tools/try.sh $(or $(ARGS),dump $(section))
 
 # The library for C, proved.
 lib:
@@ -74,6 +74,9 @@ dist: dwline lib dist-built
 dist-built:
 	tools/pack.sh $(version)
 
+clean:
+	rm -rf out crates/*/out
+
 uninstall:
 	rm -f $(bin) $(man) $(bash) $(zsh) $(fish) $(archive) $(shared) $(header) $(package)
 
@@ -82,7 +85,7 @@ uninstall:
 # that run: it is given the present one, since what comes next looks whether a library is older than its files.
 test:
 	rm -f crates/dwline/out/dwline crates/dl_c/out/libdl_c.a out/libboxantrel.a
-	rt ci
+	tools/rt ci
 	touch crates/*/out/rlib/*.rlib
 	test -x crates/dwline/out/dwline || $(MAKE) dwline
 	$(MAKE) --jobs --output-sync edits compare-proved
@@ -101,7 +104,7 @@ compare-proved:
 # hours: it lists those that the contracts let through.
 wrong-bodies: dwline lib
 	tools/wrong-bodies.py
-	for crate in crates/dl_*; do (cd $$crate && rt plant) || exit 1; done
+	for crate in crates/dl_*; do (cd $$crate && ../../tools/rt plant) || exit 1; done
 
 # Every section of examples/, printed and compared with its expected dump; every option of every command; the
 # man page, the completions and what `make install` puts where; the library, from C, Rust and Python.
@@ -114,6 +117,6 @@ compare-built:
 $(tries):
 	examples/$@
 
-.PHONY: dwline example lib library try install install-lib dist dist-built uninstall test edits wrong-bodies compare \
+.PHONY: dwline example lib library try install install-lib dist dist-built clean uninstall test edits wrong-bodies compare \
 	compare-proved compare-built \
 	$(tries)

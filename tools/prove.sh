@@ -10,15 +10,16 @@
 # While `rt` works in a crate's folder no other one may use the crates below it. So each crate is proved in a room of
 # its own, a folder out/prove/NAME with links to the files of those below.
 #
+# The seconds of processor time that the proofs from nothing took are written to out/seconds, and read there by the next run.
+#
 # Usage: tools/prove.sh NAME [JOBS]
 # JOBS: how many crates at a time; as many as there are processors, and for four of them one more, and 4 GiB of memory for
 # each, where it isn't given.
-#
-#        tools/prove.sh --seconds
-# Writes tools/seconds anew: for each crate the seconds of processor time that its proof from nothing took, by its log. A
-# crate with no log of one keeps its line.
 set -euo pipefail
 cd "$(dirname "$0")/.."
+
+# The kit's `rt`, which sums files once a question.
+readonly RT=$PWD/tools/rt
 
 # How much memory the proof of a crate may take, in KiB.
 readonly MEMORY=$((4 << 20))
@@ -35,11 +36,14 @@ readonly MANY=15
 # How many seconds a function counts of a crate that isn't in tools/seconds.
 readonly SECONDS_EACH=2
 
-# What the proof of each crate takes: its name and seconds of processor time, a line each.
+# What the proof of each crate takes: its name and seconds of processor time, a line each. The first table was measured
+# elsewhere, the second by the runs before this one.
 readonly TABLE=tools/seconds
+readonly MEASURED=out/seconds
 
 declare -A below=()   # the crates of the repository that a crate uses
-declare -A taken=()   # the seconds of a crate's proof, by the table
+declare -A taken=()   # the seconds of a crate's proof, by the tables
+declare -A measured=()  # the same, by the second alone
 declare -A work=()    # the work from a crate on: its seconds, and those of the longest chain of crates that wait for it
 declare -A began=()   # when its proof began
 declare -A ended=()   # it is proved
@@ -75,10 +79,14 @@ add() {
 
 read_seconds() {
     local name seconds
-    [[ -e $TABLE ]] || return 0
     while read -r name seconds; do
         taken[$name]=$seconds
     done < "$TABLE"
+    [[ -e $MEASURED ]] || return 0
+    while read -r name seconds; do
+        taken[$name]=$seconds
+        measured[$name]=$seconds
+    done < "$MEASURED"
 }
 
 # How many functions a crate's code has, derived ones being two a type.
@@ -198,8 +206,8 @@ move_out() {
 # Proves and builds one crate in its room, by so many processes of this priority, and tells the seconds of processor time.
 build() {
     local name=$1 processes=$2 priority=$3 room=out/prove/$1 status=0 TIMEFORMAT='seconds=%U+%S'
-    local command=(rt lib --jobs "$processes")
-    [[ ! -e crates/$name/src/main.rt ]] || command=(rt run --jobs "$processes" -- check)
+    local command=("$RT" lib --jobs "$processes")
+    [[ ! -e crates/$name/src/main.rt ]] || command=("$RT" run --jobs "$processes" -- check)
     furnish "$name" "$room"
     time (cd "$room/crates/$name" && nice -n "$priority" "${command[@]}") || status=$?
     move_out "$room/crates/$name/out" "crates/$name/out"
@@ -247,16 +255,16 @@ seconds_in() {
         END { if (seconds > 0 && proved > 0 && begun >= proved) printf "%.0f", seconds }' "$1"
 }
 
-# The lines of tools/seconds: what the logs tell, and of other crates what stands there.
-tell_seconds() {
-    local name log seconds
-    while read -r name; do
-        log=crates/$name/out/prove.log
-        seconds=
-        [[ ! -e $log ]] || seconds=$(seconds_in "$log")
-        seconds=${seconds:-${taken[$name]-}}
-        [[ -z $seconds ]] || echo "$name $seconds"
-    done < <(sed -n 's/^\([a-z_0-9]*\)[^#]*:.*/\1/p' crates.txt)
+# Writes the second table: of the crates of this run what their logs tell, and of others what was read.
+write_seconds() {
+    local name seconds
+    for name in "${order[@]}"; do
+        seconds=$(seconds_in "crates/$name/out/prove.log")
+        [[ -z $seconds ]] || measured[$name]=$seconds
+    done
+    for name in "${!measured[@]}"; do
+        echo "$name ${measured[$name]}"
+    done | sort > "$MEASURED"
 }
 
 prove_all() {
@@ -276,11 +284,6 @@ prove_all() {
 
 read_crates
 read_seconds
-if [[ ${1-} == --seconds ]]; then
-    lines=$(tell_seconds)
-    echo "$lines" > "$TABLE"
-    exit
-fi
 [[ $# -gt 0 && -n ${below[$1]+is} ]] || { echo "Usage: tools/prove.sh NAME [JOBS]" >&2; exit 2; }
 add "$1"
 sort_by_work
@@ -288,3 +291,4 @@ rm -rf out/prove
 trap 'kill $(jobs -p) 2> /dev/null || true' EXIT
 prove_all "${2:-$(jobs_that_fit)}"
 rm -rf out/prove
+write_seconds

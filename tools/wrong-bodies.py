@@ -1,33 +1,42 @@
 #!/usr/bin/env python3
 """Tries the wrong bodies of crates: the prover has to refuse each edit of crates/NAME/wrong-bodies, those in its folder
-`always` too, and of crates/NAME/must-fail, since a goal fails. It works over the libraries that `make dwline lib` or
-`rt ci` left built; where one isn't, or its files have changed since, it is proved and built first. A line tells of each
-edit, and the last lines how many were refused, and why each other one was not.
+`always` too, since a goal fails. It works over the libraries that `make dwline lib` or `rt ci` left built; where one isn't,
+or its files have changed since, it is proved and built first. A line tells of each edit, and the last lines how many were
+refused, and why each other one was not.
 
 An edit changes the body of one function, and a function is proved by the contracts of those that it calls. So edits of
-different functions of a crate are made at once, and these functions alone are checked, with those that they call. Where
-no goal of an edit's own function is refused, the edit is tried by itself, and then on the whole crate.
+different functions of a crate are made at once, in rounds, and these functions alone are checked, with those that they call.
+Where no goal of an edit's own function is refused, the edit is tried by itself, and then on the whole crate; but with --of it
+counts as not refused.
 
 Usage: tools/wrong-bodies.py [NAME..]      of these crates, or of all
-       tools/wrong-bodies.py --of COMMIT   those of one crate in four, which the commit chooses, and those in `always` of
-                                        each crate, but for must-fail, whose edits `rt ci` tries
+       tools/wrong-bodies.py --of COMMIT   those in `always` of each crate, and some of four others: first of up to two that the
+                                        commit changes; its hash chooses the rest. After twenty minutes no round of these begins
 """
-import importlib.machinery
-import importlib.util
+import hashlib
 import os
 import re
 import shutil
 import subprocess
 import sys
 import tempfile
+import time
 from concurrent.futures import ThreadPoolExecutor, as_completed
 
 sys.dont_write_bytecode = True
+import kit
+
 ROOT = os.path.dirname(os.path.dirname(os.path.realpath(__file__)))
-KIT_BIN = os.path.dirname(os.path.realpath(shutil.which("rt") or sys.exit("rt isn't on the PATH")))
 
 # How much memory a check may take, in bytes.
 MEMORY = 3 << 30
+
+# Of how many crates a commit chooses edits, beside those that are tried each time; how many of these may be crates that it
+# changes; how many edits of each; and after how many seconds none of these is begun.
+CHOSEN = 4
+CHANGED = 2
+EACH = 9
+DEADLINE = 1200
 
 # What an error says where a proof names what the edit took away, or rests on such a proof.
 OF_NAMES = re.compile(r"(\./)?proofs/.*(has no field|is not in scope|has no `|was not admitted)")
@@ -35,24 +44,13 @@ OF_NAMES = re.compile(r"(\./)?proofs/.*(has no field|is not in scope|has no `|wa
 # What a line says of a goal that fails, after its place.
 OF_A_GOAL = re.compile(r"(\S+:\d+:\d+: error|note: \S+:\d+:\d+: it is not proved)")
 
+# Where a function begins, and after it its name.
+FUNCTION = r'(?m)^( *)(?:pub(?:\([a-z]+\))? )?(?:const )?(?:extern "C" )?fn (\w+)'
 
-def load_kit():
-    """The kit's own program `rt`, whose functions apply an edit and check a crate with it."""
-    loader = importlib.machinery.SourceFileLoader("rt", f"{KIT_BIN}/rt")
-    module = importlib.util.module_from_spec(importlib.util.spec_from_loader("rt", loader))
-    sys.modules["rt"] = module
-    loader.exec_module(module)
-    return module
+rt = kit.load()
 
 
-rt = load_kit()
-
-
-# Where the edits of a crate stand: those that `rt ci` tries, those that are tried each time, and the others.
-FOLDERS = ("must-fail", "wrong-bodies/always", "wrong-bodies")
-
-
-def edits_in(name, folders=FOLDERS):
+def edits_in(name, *folders):
     """The files of the edits of a crate, in order."""
     found = []
     for folder in (f"{ROOT}/crates/{name}/{it}" for it in folders):
@@ -66,13 +64,22 @@ def with_wrong_bodies():
     return [it for it in names if os.path.isdir(f"{ROOT}/crates/{it}/wrong-bodies")]
 
 
+def git(*words):
+    """What git says, and nothing where it fails."""
+    return subprocess.run(["git", *words], cwd=ROOT, capture_output=True, text=True).stdout
+
+
 def chosen_by(commit):
-    """The edits of each crate that a commit chooses: all of one crate in four, the first digit of the commit's hash saying
-    with which of the first four the choice begins, and those of the others that are tried each time."""
-    ran = subprocess.run(["git", "rev-parse", commit], cwd=ROOT, check=True, capture_output=True, text=True)
-    names = with_wrong_bodies()
-    whole = names[int(ran.stdout[0], 16) % 4 :: 4]
-    return {it: edits_in(it, FOLDERS[1:] if it in whole else FOLDERS[1:2]) for it in names}
+    """The crates of which a commit chooses edits, and the order of their edits: by sums of its hash with their names."""
+    hash = git("rev-parse", "--verify", commit).strip() or sys.exit(f"{commit} is no commit")
+
+    def order(name):
+        return hashlib.sha256(f"{hash} {name}".encode()).digest()
+
+    changed = {it.split("/")[1] for it in git("diff", "--name-only", f"{hash}~", hash).split() if it.startswith("crates/")}
+    names = sorted((it for it in with_wrong_bodies() if not edits_in(it, "wrong-bodies/always")), key=order)
+    first = [it for it in names if it in changed][:CHANGED]
+    return (first + [it for it in names if it not in first])[:CHOSEN], order
 
 
 def is_left_by_ci(library):
@@ -125,13 +132,13 @@ def name_of(modules, owner, function):
 
 def owner_of(line):
     """What a check calls the owner of the methods of an `impl`: its type, and after it the trait, if it is of one."""
-    found = re.match(r"impl(?:<.*?>)? (?:(\w+)(?:<.*>)? for )?(\w+)(?:<.*>)? \{", line)
+    found = re.match(r"impl(?:<.*?>)? (?:(?:\w+::)*(\w+)(?:<.*>)? for )?(\w+)(?:<.*>)? \{", line)
     return found and found[2] + (found[1] or "")
 
 
 def function_at(file, text, position):
     """The function in which a place of a code file stands; None where its owner isn't known."""
-    functions = list(re.finditer(r"(?m)^( *)(?:pub(?:\([a-z]+\))? )?(?:const )?fn (\w+)", text[:position]))
+    functions = list(re.finditer(FUNCTION, text[:position]))
     if not functions:
         return None
     last = functions[-1]
@@ -193,20 +200,20 @@ def function_of(crate, texts, file, number):
     return function_at(file, text, sum(len(it) for it in lines[:number]))
 
 
-def made_at_once(edits):
-    """The texts of a crate's files with all of these edits, or None where one can't be made after the others."""
-    crate, texts = edits[0].crate, {}
+def next_round(edits, most=sys.maxsize):
+    """Of edits of a crate so many of different functions that can be made at once, with the texts of its files, and the others."""
+    chosen, texts, others = [], {}, []
     with tempfile.TemporaryDirectory(prefix="wrong-bodies-") as room:
-        shutil.copytree(f"{crate.folder}/src", f"{room}/src")
+        shutil.copytree(f"{edits[0].crate.folder}/src", f"{room}/src")
         for edit in edits:
-            changed, why = rt.read_edit(edit.file, room)
-            if why:
-                return None
-            texts.update(changed)
-            for path, text in changed.items():
+            is_fit = len(chosen) < most and edit.function and all(edit.function != it.function for it in chosen)
+            changed = rt.read_edit(edit.file, room)[0] if is_fit else None
+            (others if changed is None else chosen).append(edit)
+            for path, text in (changed or {}).items():
+                texts[path] = text
                 with open(f"{room}/{path}", "w", encoding="utf-8") as it:
                     it.write(text)
-    return texts
+    return chosen, texts, others
 
 
 def try_alone(edit):
@@ -218,62 +225,89 @@ def try_alone(edit):
     if told:
         return True, f"{edit.label}: refused: {told[:160]}"
     kind, said = rt.must_fail(edit.crate, edit.file, ["--jobs", "1"])
-    return kind == rt.REFUSED and "(only because" not in said, f"{edit.label}: {said.partition(': ')[2]}"
+    return kind == getattr(rt, "REFUSED", True) and "(only because" not in said, f"{edit.label}: {said.partition(': ')[2]}"
 
 
-def try_round(edits):
-    """The same of edits of different functions of a crate."""
-    texts = made_at_once(edits) if len(edits) > 1 else None
-    found = refusals(edits[0].crate, texts, [it.function for it in edits]) if texts else {}
+def try_round(edits, texts, is_last):
+    """The same of edits of different functions of a crate, made at once; where that is the last word, none is tried by itself."""
+    found = refusals(edits[0].crate, texts, [it.function for it in edits])
     return [
-        (True, f"{it.label}: refused: {found[it.function][:160]}") if it.function in found else try_alone(it)
+        (True, f"{it.label}: refused: {found[it.function][:160]}")
+        if it.function in found
+        else (False, f"{it.label}: no goal of its function is refused")
+        if is_last
+        else try_alone(it)
         for it in edits
     ]
 
 
 def rounds_of(edits):
-    """Edits of a crate in rounds: each of a round changes a function that no other one of the round does."""
+    """The calls that try edits of a crate."""
     rounds = []
-    for edit in edits:
-        fitting = (it for it in rounds if edit.function and all(it[0].function and edit.function != of.function for of in it))
-        chosen = next(fitting, None)
-        if chosen is None:
-            rounds.append([edit])
-        else:
-            chosen.append(edit)
+    while edits:
+        chosen, texts, others = next_round(edits)
+        if not chosen:
+            return rounds + [lambda edit=it: [try_alone(edit)] for it in others]
+        rounds.append(lambda edits=chosen, texts=texts: try_round(edits, texts, False))
+        edits = others
     return rounds
+
+
+def in_time(crate, edits, texts, begun):
+    """Tries a round of a sample, where the time of a gate isn't over."""
+    if time.monotonic() > begun + DEADLINE:
+        print(f"{crate.name}: left for want of time: {len(edits)}", flush=True)
+        return []
+    return try_round(edits, texts, True)
+
+
+def rounds_of_gate(crates, chosen, order):
+    """The calls that try what a commit chooses: first the rounds of the edits that are tried each time."""
+    always, sample, begun = [], [], time.monotonic()
+    for crate in crates:
+        edits = [Edit(crate, it) for it in edits_in(crate.name, "wrong-bodies/always")]
+        if edits:
+            together, texts, others = next_round(edits)
+            always.append(lambda edits=together, texts=texts: try_round(edits, texts, True))
+            always += [lambda edit=it: [try_alone(edit)] for it in others]
+        if crate.name in chosen:
+            files = sorted(edits_in(crate.name, "wrong-bodies"), key=lambda it: order(os.path.basename(it)))
+            together, texts, _ = next_round([Edit(crate, it) for it in files], EACH)
+            sample.append(lambda it=crate, edits=together, texts=texts: in_time(it, edits, texts, begun))
+    return always + sample
 
 
 def jobs_that_fit():
     return max(1, min(rt.processors(), rt.free() // MEMORY))
 
 
-def try_all(edits):
-    """Tries rounds of edits side by side, and prints how many were refused and what is said of the others."""
+def try_all(rounds):
+    """Makes these calls side by side, and prints how many edits were refused and what is said of the others."""
     refused, others = 0, []
     with ThreadPoolExecutor(jobs_that_fit()) as lanes:
-        for done in as_completed([lanes.submit(try_round, it) for it in edits]):
+        for done in as_completed([lanes.submit(it) for it in rounds]):
             for is_refused, said in done.result():
                 print(said, flush=True)
                 refused += is_refused
                 others += [] if is_refused else [f"not refused: {said}"]
     print(f"{refused} refused, {len(others)} not", *others, sep="\n")
-    return not others
+    return refused and not others
 
 
 def main(words):
     os.chdir(ROOT)
     rt.rtlib.guarded()
-    if words[:1] == ["--of"]:
-        edits = chosen_by(words[1])
-    else:
-        edits = {it: edits_in(it) for it in words or with_wrong_bodies()}
-    crates = [it for it in rt.rtlib.crates_below(ROOT) if edits.get(it.name)]
+    is_gate = words[:1] == ["--of"]
+    chosen, order = chosen_by(words[1]) if is_gate else (words or with_wrong_bodies(), None)
+    crates = [it for it in rt.rtlib.crates_below(ROOT) if it.name in chosen or is_gate and edits_in(it.name, "wrong-bodies/always")]
     build_libraries(crates)
-    count = sum(len(it) for it in edits.values())
-    print(f"{count} wrong bodies of {' '.join(it.name for it in crates)}", flush=True)
-    rounds = [it for crate in crates for it in rounds_of([Edit(crate, file) for file in edits[crate.name]])]
-    return 0 if try_all(sorted(rounds, key=len, reverse=True)) else 1
+    print(f"wrong bodies of {' '.join(it.name for it in crates)}", flush=True)
+    if is_gate:
+        rounds = rounds_of_gate(crates, chosen, order)
+    else:
+        edits = [[Edit(it, file) for file in edits_in(it.name, "wrong-bodies/always", "wrong-bodies")] for it in crates]
+        rounds = [it for of_crate in edits for it in rounds_of(of_crate)]
+    return 0 if try_all(rounds) else 1
 
 
 if __name__ == "__main__":
