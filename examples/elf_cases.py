@@ -1,4 +1,6 @@
-"""Cases of the headers and sections of an ELF file: which sections are found, and what is told of damaged files."""
+"""Cases of the headers and sections of an ELF file: which sections are found, which debug links, and what is told of
+damaged files."""
+import zlib
 from dataclasses import dataclass
 from typing import Union
 
@@ -191,4 +193,31 @@ def notes():
         yield stops(f"{field} of a note, far off", far, NO_LINE)
 
 
-GROUPS = [classes_and_orders, names, escapes, file_headers, section_headers, cut_files, without_headers, notes]
+@dataclass(frozen=True)
+class Linked(Case):
+    """A case with another file beside the one that is read, to which a debug link may lead."""
+    beside: bytes = b""
+
+    def files(self):
+        return [*super().files(), ("beside.debug", self.beside)]
+
+
+NO_LINKED = f"dwline: elf: {NO_LINE}\n"
+
+
+def debug_links():
+    """A file without a line section whose debug link names the file beside it, with the check value that Python's zlib
+    computes; a link whose check value lacks its last byte, and one in a section of another name, are none."""
+    for form in (LITTLE_64, BIG_64, LITTLE_32, BIG_32):
+        beside = image(form, [line_section(2, form=form)])
+        name = b"beside.debug\0\0\0\0"
+        link = name + form.pack("I", zlib.crc32(beside))
+        for what, section, answer in [
+            ("a link", Section(".gnu_debuglink", link), (0, COUNTS)),
+            ("a check value that lacks a byte", Section(".gnu_debuglink", link[:-1]), (1, "", NO_LINKED)),
+            ("another section", Section(".gnu_debugaltlink", link), (1, "", NO_LINKED)),
+        ]:
+            yield Linked(f"{form}, {what}", image(form, [TEXT, section]), CHECK, *answer, beside=beside)
+
+
+GROUPS = [classes_and_orders, names, escapes, file_headers, section_headers, cut_files, without_headers, notes, debug_links]

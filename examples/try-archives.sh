@@ -174,9 +174,22 @@ for archive in lib.a thin.a bsd.a; do
         alike $member $archive addresses addr @
     done
 done
+# One that a thin archive names by its whole path, and two of one name, of which the first is read.
+ar rcT whole-path.a "$work/gcc.o"
+alike "$work/gcc.o" whole-path.a /dev/null dump @
+mkdir one two
+cp gcc.o one/same.o
+cp $long two/same.o
+ar qc twice.a one/same.o two/same.o
+cp gcc.o same.o
+alike same.o twice.a /dev/null dump @
 : > wanted
 says 1 "dwline: lib.a(gcc.o): an object file; its copy would lose its relocations"$'\n' /dev/null copy "lib.a(gcc.o)"
-says 1 $'dwline: lib.a(none): no such member\n' /dev/null check "lib.a(none)"
+for member in none gcc gcc.o/; do
+    says 1 "dwline: lib.a($member): no such member"$'\n' /dev/null check "lib.a($member)"
+done
+says 1 $'dwline: empty.a(gcc.o): no such member\n' /dev/null check "empty.a(gcc.o)"
+says 3 $'dwline: unopened.a(gone.o): cannot open: No such file or directory (os error 2)\n' /dev/null check "unopened.a(gone.o)"
 says 1 $'dwline: linked(none): not an archive\n' /dev/null check "linked(none)"
 says 3 $'dwline: none.a(gcc.o): cannot open: No such file or directory (os error 2)\n' /dev/null check "none.a(gcc.o)"
 says 1 $'dwline: lib.a(text): not an ELF file\n' /dev/null check "lib.a(text)"
