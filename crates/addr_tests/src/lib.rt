@@ -12,8 +12,6 @@ mod each_call;
 #[cfg(test)]
 mod escapes;
 #[cfg(test)]
-mod indices;
-#[cfg(test)]
 mod live;
 #[cfg(test)]
 mod objects;

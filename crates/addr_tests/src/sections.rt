@@ -1,7 +1,6 @@
 //! Worked sections for `addr`.
 ghost use Rattle.std.specs.Prelude.{◌≤◌};
 
-use crate::indices::index_lines;
 use dl_addr::{AnswerForm, Asked, CompilationDirectories, Question, Style, WhichFound, addr};
 use dl_head::Dialect;
 use dl_memory::System;
@@ -147,7 +146,7 @@ pub fn assert_pieces(
     }
 }
 
-/// The same of a section of these units; and the lines of what their index tells are these too.
+/// The same of a section of these units.
 pub fn assert_addr(
     rt: &impl Abort,
     alloc: Global,
@@ -157,11 +156,5 @@ pub fn assert_addr(
 ) -> Result<(), Fail> {
     let section = section(alloc, units)?;
     assert_pieces(rt, alloc, section.as_slice(), question, wanted);
-    let text = index_lines(alloc, section.as_slice(), question)?;
-    assert!(rt;
-        text.as_slice() == wanted.0.as_bytes(),
-        "index: {}",
-        wanted.0
-    );
     Ok(())
 }

@@ -4,6 +4,4 @@
 #[cfg(test)]
 mod lines;
 #[cfg(test)]
-mod pieces;
-#[cfg(test)]
 mod sample;

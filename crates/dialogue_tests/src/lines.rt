@@ -4,7 +4,6 @@ use dl_addr::{AnswerForm, Style, WhichFound};
 use dl_dialogue::{AnswerFault, Answered, answer_lines};
 use dl_index::open;
 use dl_memory::System;
-use dl_output::Destination;
 use std::alloc::Global;
 use std::process::Abort;
 use std::test::Fail;
@@ -18,7 +17,7 @@ const STYLE: Style<'static> = Style {
 
 /// What comes of lines.
 #[derive(Clone, Copy, Debug, PartialEq, Eq)]
-pub enum End {
+enum End {
     /// Each address has an answer.
     All,
     NotAll,
@@ -47,11 +46,7 @@ fn end_of(answered: Result<Answered, AnswerFault>) -> End {
 }
 
 /// Answers the lines of an input from the index.
-pub fn answered<R: dl_input::Source, W: Destination>(
-    alloc: Global,
-    input: &mut R,
-    output: &mut W,
-) -> End {
+fn answered(alloc: Global, input: &mut Source<'_>, output: &mut Sink) -> End {
     let memory = System::new(alloc);
     match open(INDEX) {
         Ok(mut index) => end_of(answer_lines(&memory, &mut index, STYLE, 0, false, input, output)),

@@ -33,13 +33,10 @@ pub struct Row<'a> {
     pub directories: &'a [(u64, Option<&'a [u8]>)],
 }
 
-/// The places of the row's directories, where its bytes come in pieces of this length.
-fn places(alloc: Global, row: &Row<'_>, len: usize) -> Result<Places, NoMemory> {
+/// The places of the row's directories.
+fn places(alloc: Global, row: &Row<'_>) -> Result<Places, NoMemory> {
     let memory = System::new(alloc);
-    let mut walk = Walk::new(alloc, row.order, row.abbreviations);
-    for piece in row.info.chunks(len.max(1)) {
-        walk = walk.feed(&memory, piece)?;
-    }
+    let walk = Walk::new(alloc, row.order, row.abbreviations).feed(&memory, row.info)?;
     walk.end(&memory)
 }
 
@@ -74,8 +71,8 @@ fn texts(alloc: Global, strings: Strings<'_>) -> Result<Texts, NoMemory> {
 }
 
 /// Whether the directories are those that the row says.
-pub fn is_found(alloc: Global, row: &Row<'_>, len: usize) -> Result<bool, NoMemory> {
-    let places = places(alloc, row, len)?;
+pub fn is_found(alloc: Global, row: &Row<'_>) -> Result<bool, NoMemory> {
+    let places = places(alloc, row)?;
     if !is_wanted(row, &places) {
         return Ok(false);
     }

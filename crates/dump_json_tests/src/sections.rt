@@ -38,12 +38,6 @@ pub const FLAGS_JSON: &str =
      {\"kind\":\"row\",\"address\":\"0x000000000040110c\",\"op_index\":1,\"file\":1,\"line\":1,\"column\":3,\"is_stmt\":true,\
      \"basic_block\":false,\"end_sequence\":false,\"prologue_end\":false,\"epilogue_begin\":false,\"isa\":0,\"discriminator\":0}\n";
 
-/// That of its last row.
-pub const LAST_JSON: &str =
-    "{\"kind\":\"row\",\"address\":\"0x0000000000402364\",\"op_index\":0,\"file\":1,\"line\":1,\
-     \"column\":3,\"is_stmt\":false,\"basic_block\":true,\"end_sequence\":true,\"prologue_end\":true,\
-     \"epilogue_begin\":true,\"isa\":5,\"discriminator\":7}\n";
-
 /// A unit of version 6, which is passed over.
 pub const NEWER: &str = "02 00 00 00 06 00";
 

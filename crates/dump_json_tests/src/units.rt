@@ -1,7 +1,7 @@
 //! The objects of units and rows.
 use crate::sections::{
-    FLAGS, FLAGS_JSON, LAST_JSON, LINE_STRINGS, NEWER, NEWER_JSON, OLDER, OLDER_JSON, STRINGS,
-    VALUES, VALUES_JSON, WITHOUT_STRINGS, assert_dumped, joined, options, section,
+    FLAGS, FLAGS_JSON, LINE_STRINGS, OLDER, OLDER_JSON, STRINGS, VALUES, VALUES_JSON,
+    WITHOUT_STRINGS, assert_dumped, joined, options, section,
 };
 use dl_dump_json::dump_json;
 use dl_sections::{RunFault, Summary};
@@ -17,28 +17,6 @@ const ROWS_OF_OLDER: &str =
      \"basic_block\":false,\"end_sequence\":false,\"prologue_end\":false,\"epilogue_begin\":false,\"isa\":0,\"discriminator\":0}\n\
      {\"kind\":\"row\",\"address\":\"0x0000000000002001\",\"op_index\":0,\"file\":3,\"line\":6,\"column\":0,\"is_stmt\":true,\
      \"basic_block\":false,\"end_sequence\":true,\"prologue_end\":false,\"epilogue_begin\":false,\"isa\":0,\"discriminator\":0}\n";
-
-/// Rows with each flag, and a unit that is passed over.
-#[test]
-fn rows_and_a_newer_unit(rt: HostRuntime) -> Result<(), Fail> {
-    let section = section(rt.alloc(), &[FLAGS, NEWER])?;
-    let text = joined(rt.alloc(), &[FLAGS_JSON, LAST_JSON, NEWER_JSON])?;
-    let summary = Summary {
-        units: 1,
-        skipped: 1,
-        sequences: 1,
-        rows: 6,
-    };
-    assert_dumped(
-        &rt,
-        rt.alloc(),
-        section.as_slice(),
-        (None, None),
-        text.as_slice(),
-        Ok(summary),
-    );
-    Ok(())
-}
 
 /// A header of version 4.
 #[test]

@@ -30,42 +30,30 @@ fn push(section: &mut Vec<u8>, changes: &[(usize, u8)]) -> Result<(), Fail> {
     Ok(())
 }
 
-/// What a walk says that takes all bytes at once, and one that takes them one at a time.
-fn named(alloc: Global, section: &[u8]) -> Result<(bool, bool), Fail> {
-    let whole = StringWalk::new(alloc, Dialect::version_5(Order::Little)).feed(section)?;
-    let mut walk = StringWalk::new(alloc, Dialect::version_5(Order::Little));
-    for byte in section {
-        walk = walk.feed(&[*byte])?;
-    }
-    Ok((whole.names_str(), walk.names_str()))
+/// What a walk over a section says.
+fn named(alloc: Global, section: &[u8]) -> Result<bool, Fail> {
+    let walk = StringWalk::new(alloc, Dialect::version_5(Order::Little)).feed(section)?;
+    Ok(walk.names_str())
 }
 
 /// The same of a unit with changes, and then one with others.
-fn both(
-    alloc: Global,
-    first: &[(usize, u8)],
-    second: &[(usize, u8)],
-) -> Result<(bool, bool), Fail> {
+fn both(alloc: Global, first: &[(usize, u8)], second: &[(usize, u8)]) -> Result<bool, Fail> {
     let mut section = Vec::new(alloc);
     push(&mut section, first)?;
     push(&mut section, second)?;
     named(alloc, &section)
 }
 
-const YES: (bool, bool) = (true, true);
-
-const NO: (bool, bool) = (false, false);
-
 #[test]
 fn a_table_of_any_unit_names_it(rt: HostRuntime) -> Result<(), Fail> {
     let alloc = rt.alloc();
     let none = [(FILE, 0x1f)];
     let directory = [(DIRECTORY, 0x0e), (FILE, 0x1f)];
-    assert!(rt; named(alloc, &[])? == NO);
-    assert!(rt; named(alloc, &UNIT)? == YES);
-    assert!(rt; both(alloc, &none, &none)? == NO);
-    assert!(rt; both(alloc, &none, &directory)? == YES);
-    assert!(rt; both(alloc, &none, &[])? == YES);
+    assert!(rt; !named(alloc, &[])?);
+    assert!(rt; named(alloc, &UNIT)?);
+    assert!(rt; !both(alloc, &none, &none)?);
+    assert!(rt; both(alloc, &none, &directory)?);
+    assert!(rt; both(alloc, &none, &[])?);
     Ok(())
 }
 
@@ -74,14 +62,14 @@ fn units_are_cut_by_their_lengths(rt: HostRuntime) -> Result<(), Fail> {
     let alloc = rt.alloc();
     let none = [(FILE, 0x1f)];
     // Version 4, and its length with that of the next unit.
-    assert!(rt; both(alloc, &[(4, 4)], &[])? == YES);
-    assert!(rt; both(alloc, &[(4, 4)], &none)? == NO);
-    assert!(rt; both(alloc, &[(4, 4), (0, 0x92)], &[])? == NO);
+    assert!(rt; both(alloc, &[(4, 4)], &[])?);
+    assert!(rt; !both(alloc, &[(4, 4)], &none)?);
+    assert!(rt; !both(alloc, &[(4, 4), (0, 0x92)], &[])?);
     // An address of three bytes, alone and with a length that is above that of both units.
-    assert!(rt; both(alloc, &[(6, 3)], &[])? == YES);
-    assert!(rt; both(alloc, &[(6, 3)], &none)? == NO);
-    assert!(rt; both(alloc, &[(6, 3), (0, 0x92)], &[])? == NO);
+    assert!(rt; both(alloc, &[(6, 3)], &[])?);
+    assert!(rt; !both(alloc, &[(6, 3)], &none)?);
+    assert!(rt; !both(alloc, &[(6, 3), (0, 0x92)], &[])?);
     // A length that is reserved.
-    assert!(rt; both(alloc, &[(0, 0xf0), (1, 0xff), (2, 0xff), (3, 0xff)], &[])? == NO);
+    assert!(rt; !both(alloc, &[(0, 0xf0), (1, 0xff), (2, 0xff), (3, 0xff)], &[])?);
     Ok(())
 }

@@ -47,7 +47,7 @@ fn is_same<S: ReadAt>(
 }
 
 /// Whether an address is answered as in memory.
-pub fn agrees<S: ReadAt>(
+fn agrees<S: ReadAt>(
     finder: &mut FileFinder<'_, '_, S>,
     memory: &IndexRef<'_>,
     address: u64,

@@ -4,8 +4,6 @@
 #[cfg(test)]
 mod answers;
 #[cfg(test)]
-mod damage;
-#[cfg(test)]
 mod largest;
 #[cfg(test)]
 mod reads;

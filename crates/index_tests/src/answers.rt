@@ -1,7 +1,7 @@
 //! What an index tells of addresses, and its list of stretches.
 
-use crate::sample::{ADDRESSES, INDEX, ROWS, Row};
-use dl_index::{FoundLine, IndexRef, Layout, open, open_unchecked, reopen};
+use crate::sample::{INDEX, ROWS, Row};
+use dl_index::{FoundLine, IndexRef, open};
 
 /// Whether a text is the wanted one; an empty one isn't there.
 fn is_text(text: Option<&[u8]>, wanted: &[u8]) -> bool {
@@ -42,18 +42,6 @@ fn is_row(found: Option<FoundLine<'_>>, row: &Row) -> bool {
     }
 }
 
-/// Whether each row's address has what the row says, where all are asked at once.
-fn all_told_at_once(index: &IndexRef<'_>, rows: &[Row]) -> bool {
-    let mut found = [None; 19];
-    index.find_many(&ADDRESSES, &mut found);
-    for i in 0..rows.len().min(19) {
-        if !is_row(found[i], &rows[i]) {
-            return false;
-        }
-    }
-    true
-}
-
 /// Whether each stretch with an answer ends.
 fn all_end(index: &IndexRef<'_>) -> bool {
     for k in 0..index.count() {
@@ -80,47 +68,6 @@ fn has_ends(index: &IndexRef<'_>, k: usize, start: u64, end: u64) -> bool {
 fn addresses_are_answered(rt: HostRuntime) {
     let is_right = match open(&INDEX) {
         Ok(index) => all_told(&index, ROWS),
-        Err(_) => false,
-    };
-    assert!(rt; is_right);
-}
-
-#[test]
-fn addresses_are_answered_unchecked(rt: HostRuntime) {
-    let is_right = match open_unchecked(&INDEX) {
-        Ok(index) => all_told(&index, ROWS),
-        Err(_) => false,
-    };
-    assert!(rt; is_right);
-}
-
-/// Whether the index with this layout is found again in its bytes, and in none of another length or with another header.
-fn is_found_again(layout: &Layout) -> bool {
-    let mut other = INDEX;
-    other[32] ^= 1;
-    let is_right = match reopen(&INDEX, layout) {
-        Some(index) => all_told(&index, ROWS),
-        None => false,
-    };
-    is_right
-        && reopen(&INDEX[..INDEX.len() - 1], layout).is_none()
-        && reopen(&[], layout).is_none()
-        && reopen(&other, layout).is_none()
-}
-
-#[test]
-fn indices_are_found_again(rt: HostRuntime) {
-    let is_right = match open(&INDEX) {
-        Ok(index) => is_found_again(&index.layout()),
-        Err(_) => false,
-    };
-    assert!(rt; is_right);
-}
-
-#[test]
-fn addresses_are_answered_at_once(rt: HostRuntime) {
-    let is_right = match open(&INDEX) {
-        Ok(index) => all_told_at_once(&index, ROWS),
         Err(_) => false,
     };
     assert!(rt; is_right);

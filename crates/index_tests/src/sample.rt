@@ -223,29 +223,6 @@ pub const ROWS: &[Row] = &[
     },
 ];
 
-/// Their addresses.
-pub const ADDRESSES: [u64; 19] = [
-    0x0,
-    0x400fff,
-    0x401000,
-    0x401003,
-    0x401004,
-    0x401008,
-    0x401009,
-    0x4010ff,
-    0x401100,
-    0x401107,
-    0x401108,
-    0x401117,
-    0x401118,
-    0x40111c,
-    0x401120,
-    0x401124,
-    0x4011ff,
-    0x401200,
-    0xffffffffffffffff,
-];
-
 /// A byte that is changed, with the check values of the body and of the header, and the fault.
 pub struct Change {
     pub place: usize,

@@ -10,8 +10,6 @@ mod each_call;
 #[cfg(test)]
 mod live;
 #[cfg(test)]
-mod places;
-#[cfg(test)]
 mod sections;
 #[cfg(test)]
 mod words;

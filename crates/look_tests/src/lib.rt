@@ -4,14 +4,6 @@
 #[cfg(test)]
 mod agreement;
 #[cfg(test)]
-mod code;
-#[cfg(test)]
-mod damaged;
-#[cfg(test)]
-mod live;
-#[cfg(test)]
-mod many;
-#[cfg(test)]
 mod memory;
 #[cfg(test)]
 mod rows;

@@ -4,8 +4,6 @@
 #[cfg(test)]
 mod archives;
 #[cfg(test)]
-mod finding;
-#[cfg(test)]
 mod shelf;
 #[cfg(test)]
 mod splitting;

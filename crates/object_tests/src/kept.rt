@@ -7,7 +7,7 @@ use dl_object::keep_section;
 use dl_reloc::Placed;
 use std::alloc::Global;
 use std::test::Fail;
-use test_support::{SMALLEST, THREE_ROWS, bytes, hoard, rows_of, unit};
+use test_support::{SMALLEST, THREE_ROWS, bytes, hoard, unit};
 
 /// `THREE_ROWS`, as it is passed over: an extended opcode 0x80 of one byte, whose length 1 has 16 bytes.
 const PASSED_OVER: &str = "00 81 80 80 80 80 80 80 80 80 80 80 80 80 80 80 00 80";
@@ -54,18 +54,6 @@ fn leaves(alloc: Global, pairs: &[(u64, u64)], first: &str, second: &str) -> Res
 }
 
 #[test]
-fn a_sequence_is_of_the_section_of_its_first_address(rt: HostRuntime) -> Result<(), Fail> {
-    let alloc = rt.alloc();
-    let both = [(FIRST, 5), (FIRST + 18, 5)];
-    assert!(rt; leaves(alloc, &both, THREE_ROWS, THREE_ROWS)?);
-    let one = [(FIRST, 5), (FIRST + 18, 6)];
-    assert!(rt; leaves(alloc, &one, THREE_ROWS, PASSED_OVER)?);
-    let other = [(FIRST, 6), (FIRST + 18, 5)];
-    assert!(rt; leaves(alloc, &other, PASSED_OVER, THREE_ROWS)?);
-    Ok(())
-}
-
-#[test]
 fn a_sequence_without_a_relocation_is_of_no_section(rt: HostRuntime) -> Result<(), Fail> {
     let alloc = rt.alloc();
     assert!(rt; leaves(alloc, &[], PASSED_OVER, PASSED_OVER)?);
@@ -83,51 +71,6 @@ fn the_first_of_several_relocations_counts(rt: HostRuntime) -> Result<(), Fail> 
     assert!(rt; leaves(alloc, &falling, PASSED_OVER, THREE_ROWS)?);
     let rising = [(FIRST, 5), (FIRST, 6), (FIRST + 18, 6)];
     assert!(rt; leaves(alloc, &rising, THREE_ROWS, PASSED_OVER)?);
-    Ok(())
-}
-
-#[test]
-fn rows_of_other_sections_do_not_come(rt: HostRuntime) -> Result<(), Fail> {
-    let alloc = rt.alloc();
-    let section = unit_of_both(alloc, THREE_ROWS, THREE_ROWS)?;
-    let left = kept(alloc, section, &[(FIRST, 6), (FIRST + 18, 5)])?;
-    let rows = rows_of(alloc, Order::Little, &left)?;
-    let alone = rows_of(alloc, Order::Little, &unit(alloc, THREE_ROWS)?)?;
-    assert_eq!(rt; rows.len(), 3);
-    assert!(rt; rows == alone);
-    Ok(())
-}
-
-/// These bytes between two units of this program.
-fn between(alloc: Global, program: &str, bytes: &[u8]) -> Result<Vec<u8>, Fail> {
-    let mut section = unit(alloc, program)?;
-    section.extend_from_slice(bytes)?;
-    section.extend_from_slice(&unit(alloc, program)?)?;
-    Ok(section)
-}
-
-/// Whether of a section with these bytes between two units they stay, and the sequence of both units is passed over.
-fn passes_by(alloc: Global, bytes: &[u8]) -> Result<bool, Fail> {
-    let left = kept(alloc, between(alloc, THREE_ROWS, bytes)?, &[])?;
-    Ok(left == between(alloc, PASSED_OVER, bytes)?)
-}
-
-#[test]
-fn a_unit_after_a_damaged_operation_is_worked_through(rt: HostRuntime) -> Result<(), Fail> {
-    let alloc = rt.alloc();
-    assert!(rt; passes_by(alloc, &unit(alloc, "00 01 80 00 00")?)?);
-    Ok(())
-}
-
-#[test]
-fn a_unit_after_a_damaged_header_is_worked_through(rt: HostRuntime) -> Result<(), Fail> {
-    let alloc = rt.alloc();
-    let mut bad = unit(alloc, THREE_ROWS)?;
-    // The size of an address.
-    if let Some(byte) = bad.get_mut(6) {
-        *byte = 3;
-    }
-    assert!(rt; passes_by(alloc, &bad)?);
     Ok(())
 }
 

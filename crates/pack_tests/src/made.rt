@@ -1,20 +1,12 @@
-//! Bytes of indices, and what they answer.
+//! Bytes of indices, and their stretches.
 
 use crate::listed::lists;
-use crate::sample::{BUILD_ID, EMPTY, INDEX, STRETCHES, has_file_numbers, has_numbers, names};
-use dl_index::{IndexFault, IndexPart, IndexRef, open};
+use crate::sample::{BUILD_ID, EMPTY, INDEX, STRETCHES, names};
+use dl_index::{IndexFault, IndexPart, open};
 use dl_memory::System;
 use dl_pack::{Names, index_bytes};
 use dl_stretch::{Stretch, Told};
 use std::test::Fail;
-
-/// Whether an address is answered with this line of a unit, or with none.
-fn has_line(index: &IndexRef<'_>, address: u64, unit: u64, line: u64) -> bool {
-    match index.find(address) {
-        Some(found) => found.unit == unit && found.line == line,
-        None => line == 0,
-    }
-}
 
 /// Whether the bytes are an index of these stretches.
 fn is_listed(bytes: &[u8], names: &Names, stretches: &[Stretch]) -> bool {
@@ -98,30 +90,5 @@ fn stretches_that_do_not_rise(rt: HostRuntime) -> Result<(), Fail> {
         Err(fault) => fault == IndexFault::Damaged(IndexPart::Order),
     };
     assert!(rt; is_refused);
-    Ok(())
-}
-
-#[test]
-fn it_is_opened_and_asked(rt: HostRuntime) {
-    let is_right = match open(&INDEX) {
-        Ok(index) => {
-            has_line(&index, 0x40_1013, 0x40, 12)
-                && has_line(&index, 0x40_1fff, 0, 0)
-                && has_line(&index, 0x40_2002, 0x140, 1)
-        }
-        Err(_) => false,
-    };
-    assert!(rt; is_right);
-}
-
-#[test]
-fn texts_have_their_numbers(rt: HostRuntime) -> Result<(), Fail> {
-    assert!(rt; has_numbers(rt.alloc())?);
-    Ok(())
-}
-
-#[test]
-fn files_have_one_number_each(rt: HostRuntime) -> Result<(), Fail> {
-    assert!(rt; has_file_numbers(rt.alloc())?);
     Ok(())
 }

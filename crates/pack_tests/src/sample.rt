@@ -174,32 +174,3 @@ fn add_texts(memory: &System, names: &mut Names) -> Result<(), NoMemory> {
     }
     Ok(())
 }
-
-/// Whether the texts have their numbers.
-pub fn has_numbers(alloc: Global) -> Result<bool, NoMemory> {
-    let memory = System::new(alloc);
-    let mut names = Names::new(alloc);
-    let mut wanted = 1u64;
-    for text in TEXTS {
-        let number = names.add_text(&memory, text)?;
-        if number != wanted {
-            return Ok(number == 1 && wanted == 7);
-        }
-        wanted = wanted.saturating_add(1);
-    }
-    Ok(false)
-}
-
-/// Whether a file that is added again has the number that it has, also where its texts stand at other places.
-pub fn has_file_numbers(alloc: Global) -> Result<bool, NoMemory> {
-    let memory = System::new(alloc);
-    let mut names = Names::new(alloc);
-    add_texts(&memory, &mut names)?;
-    let first = names.add_file(&memory, 0x40, [2, 3, 0])?;
-    let of_another_unit = names.add_file(&memory, 0x41, [2, 3, 0])?;
-    let moved = names.add_file(&memory, 0x40, [0, 2, 3])?;
-    let apart = names.add_file(&memory, 0x40, [2, 0, 3])?;
-    let without_texts = names.add_file(&memory, 0x40, [0, 99, 0])?;
-    let others = of_another_unit == 1 && without_texts == 2;
-    Ok(first == 0 && moved == 0 && apart == 0 && others)
-}

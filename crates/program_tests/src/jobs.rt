@@ -1,9 +1,8 @@
 //! What stops jobs over a file whose reads fail.
-use crate::files::{STRIPPED, TWO_UNITS, UNIT, UNITS, WITH_STRINGS};
+use crate::files::{TWO_UNITS, UNIT, UNITS, WITH_STRINGS};
 use crate::shelf::Shelf;
 use dl_cmd::{DumpWords, Job, UnitWords};
 use dl_memory::System;
-use dl_open::FileFault;
 use dl_program::{Stop, StopLines, work};
 use std::alloc::Global;
 use std::process::Abort;
@@ -133,14 +132,12 @@ type Case = (
     &'static str,
 );
 
-/// A byte of the second unit, one of the line strings, the first byte of a file, and none.
+/// A byte of the second unit, one of the line strings, and the first byte of a file.
 const IN_LINES: (u64, u64) = (124, 125);
 
 const IN_STRINGS: (u64, u64) = (157, 158);
 
 const FIRST: (u64, u64) = (0, 1);
-
-const NOWHERE: (u64, u64) = (0, 0);
 
 /// What the first unit gave stays written. Only `dump` and `find` read a string section.
 const CASES: &[Case] = &[
@@ -171,7 +168,6 @@ const CASES: &[Case] = &[
     (TWO_UNITS, IN_STRINGS, Command::Find, 3, b"", BROKEN),
     (TWO_UNITS, IN_STRINGS, Command::Copy, 0, UNITS, ""),
     (WITH_STRINGS, FIRST, Command::Check, 3, b"", BROKEN),
-    (STRIPPED, NOWHERE, Command::Check, 1, b"", NO_LINES),
 ];
 
 /// Asserts what the job of a case comes to, which has this number.
@@ -196,21 +192,5 @@ fn jobs(rt: HostRuntime) -> Result<(), Fail> {
     for (number, case) in CASES.iter().enumerate() {
         assert_job(&rt, rt.alloc(), number, case);
     }
-    Ok(())
-}
-
-fn no_memory() -> Stop<'static> {
-    Stop::File {
-        path: "a b",
-        fault: FileFault::NoMemory,
-    }
-}
-
-/// A line that has no room.
-#[test]
-fn lines_without_room(rt: HostRuntime) -> Result<(), Fail> {
-    let mut errors = [0; 4];
-    let mut room: &mut [u8] = &mut errors;
-    assert!(rt; no_memory().write_line(&mut room).is_err());
     Ok(())
 }

@@ -215,19 +215,3 @@ fn no_symbol(rt: HostRuntime) -> Result<(), Fail> {
     assert!(rt; is_relocated(rt.alloc(), &row)?);
     Ok(())
 }
-
-/// What is left after the last whole entry belongs to none.
-#[test]
-fn part_of_an_entry(rt: HostRuntime) -> Result<(), Fail> {
-    let row = Row {
-        machine: 3,
-        class: Class::Bits32,
-        form: AddendPlace::Rel,
-        entries: &[0, 0, 0, 0, 1, 0, 0, 0, 9, 9, 9, 9, 1, 1, 1],
-        bytes: &[1, 2, 3, 4],
-        relocated: &[1, 2, 3, 4],
-        ..LOONGARCH
-    };
-    assert!(rt; is_relocated(rt.alloc(), &row)?);
-    Ok(())
-}

@@ -207,7 +207,7 @@ type Case<'a> = (&'a [u8], &'a [(usize, Standing)], Option<HeaderLengths>);
 const CASES: &[Case<'static>] = &[
     (
         EMPTY_PROGRAM,
-        &[(34, NEW), (0, WHOLE), (34, ENDED), (34, ENDED)],
+        &[(34, NEW), (0, WHOLE), (34, ENDED)],
         Some(LENGTHS),
     ),
     (
@@ -226,7 +226,6 @@ const CASES: &[Case<'static>] = &[
             (34, ROW),
             (35, LAST_ROW),
             (38, AFTER_ROWS),
-            (38, AFTER_ROWS),
         ],
         Some(HeaderLengths {
             unit_length: 34,
@@ -235,22 +234,12 @@ const CASES: &[Case<'static>] = &[
     ),
     (
         FOREIGN,
-        &[
-            (0, FOREIGN_VERSION),
-            (6, PASSED_OVER),
-            (10, AFTER_FOREIGN),
-            (10, AFTER_FOREIGN),
-        ],
+        &[(0, FOREIGN_VERSION), (6, PASSED_OVER), (10, AFTER_FOREIGN)],
         None,
     ),
     (
         DAMAGED,
-        &[
-            (0, AFTER_HEADER),
-            (34, REFUSED),
-            (35, REFUSED),
-            (36, REFUSED),
-        ],
+        &[(0, AFTER_HEADER), (34, REFUSED), (35, REFUSED)],
         Some(HeaderLengths {
             unit_length: 32,
             ..LENGTHS

@@ -18,8 +18,6 @@ mod limits;
 #[cfg(test)]
 mod newer;
 #[cfg(test)]
-mod passing;
-#[cfg(test)]
 mod reading;
 #[cfg(test)]
 mod vectors;

@@ -6,8 +6,6 @@ mod damage;
 #[cfg(test)]
 mod each_call;
 #[cfg(test)]
-mod found;
-#[cfg(test)]
 mod one_unit;
 #[cfg(test)]
 mod paths;

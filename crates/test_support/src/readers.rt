@@ -24,11 +24,6 @@ impl<'a> Source<'a> {
         }
     }
 
-    /// How many bytes weren't given.
-    pub fn left(&self) -> usize {
-        self.bytes.len()
-    }
-
     /// The same with a fault at the call that has `before` others before it.
     pub fn with_fault(self, before: usize, fault: Fault) -> Source<'a> {
         Source {
