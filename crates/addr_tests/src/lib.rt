@@ -1,4 +1,4 @@
-//! Addresses looked up in worked sections, through public calls alone.
+//! Addresses, lines and source files of worked sections, through public calls alone.
 #![tactic(auto)]
 
 #[cfg(test)]
@@ -6,11 +6,15 @@ mod answers;
 #[cfg(test)]
 mod borders;
 #[cfg(test)]
+mod dialogue;
+#[cfg(test)]
 mod directories;
 #[cfg(test)]
 mod each_call;
 #[cfg(test)]
 mod escapes;
+#[cfg(test)]
+mod lines;
 #[cfg(test)]
 mod live;
 #[cfg(test)]
@@ -19,3 +23,5 @@ mod objects;
 mod paths;
 #[cfg(test)]
 mod sections;
+#[cfg(test)]
+mod sources;

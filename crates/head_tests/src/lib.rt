@@ -1,10 +1,12 @@
-//! Tables and headers that are built, headers that are read in turns, and growths that are refused.
+//! Numbers, tables and headers: spellings, tables that are built, headers that are read in turns, and growths that are refused.
 #![tactic(auto)]
 
 #[cfg(test)]
 mod building;
 #[cfg(test)]
 mod growths;
+#[cfg(test)]
+mod num;
 #[cfg(test)]
 mod reading;
 #[cfg(test)]

@@ -1,4 +1,4 @@
-//! Jobs over files whose reads fail, and where there is no memory.
+//! Jobs over files whose reads fail, and where there is no memory, and what is done with members of archives.
 #![tactic(auto)]
 
 #[cfg(test)]
@@ -17,6 +17,8 @@ mod indices;
 mod jobs;
 #[cfg(test)]
 mod listed;
+#[cfg(test)]
+mod member;
 #[cfg(test)]
 mod memory;
 #[cfg(test)]

@@ -1,6 +1,8 @@
-//! Units in pieces and in turns, and growths that are refused.
+//! Units in pieces and in turns, growths that are refused, units that aren't written, and writers that aren't perfect.
 #![tactic(auto)]
 
+#[cfg(test)]
+mod emit;
 #[cfg(test)]
 mod growths;
 #[cfg(test)]

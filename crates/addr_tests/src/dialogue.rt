@@ -1,0 +1,4 @@
+//! Addresses that are answered as they are asked, through public calls alone.
+
+mod lines;
+mod sample;

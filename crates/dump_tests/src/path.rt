@@ -1,0 +1,3 @@
+//! Paths of files, in their parts.
+
+mod parts;

@@ -1,0 +1,3 @@
+//! Spellings of numbers, read and written.
+
+mod numbers;

@@ -1,0 +1,6 @@
+//! Indices, opened and asked.
+
+mod answers;
+mod damage;
+mod listings;
+mod sample;

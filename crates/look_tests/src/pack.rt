@@ -1,0 +1,6 @@
+//! Indices, made of stretches and names.
+
+mod faults;
+mod listed;
+mod made;
+mod sample;

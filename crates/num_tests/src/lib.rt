@@ -1,5 +1,0 @@
-//! Spellings of numbers, read and written.
-#![tactic(auto)]
-
-#[cfg(test)]
-mod numbers;

@@ -1,5 +1,0 @@
-//! Paths of files, in their parts.
-#![tactic(auto)]
-
-#[cfg(test)]
-mod parts;
