@@ -21,7 +21,8 @@ tries = compare-with-dwline.sh compare-json.py try-archives.sh try-damaged.py tr
 version = $(shell sed -n 's/^.* VERSION: &str = "\(.*\)";$$/\1/p' crates/dl_options/src/command_line.rt)
 
 # The program, at crates/dwline/out/dwline. A line tells of each crate as its proof begins and ends; the last one is
-# proved with the program, whose log is crates/dwline/out/prove.log as those of the others.
+# proved with the program, whose log is crates/dwline/out/prove.log as those of the others. With KEEP=1 what was checked is kept
+# for the next proof.
 dwline:
 	tools/prove.sh dwline
 

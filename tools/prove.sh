@@ -12,6 +12,8 @@
 #
 # The seconds of processor time that the proofs from nothing took are written to out/seconds, and read there by the next run.
 #
+# Where KEEP is set, what was checked is kept beside what was built, so that a proof after a change takes what still holds.
+#
 # Usage: tools/prove.sh NAME [JOBS]
 # JOBS: how many crates at a time; as many as there are processors, and for four of them one more, and 4 GiB of memory for
 # each, where it isn't given.
@@ -212,6 +214,7 @@ build() {
     time (cd "$room/crates/$name" && nice -n "$priority" "${command[@]}") || status=$?
     move_out "$room/crates/$name/out" "crates/$name/out"
     rm -rf "$room"
+    ((status)) || [[ -n ${KEEP-} ]] || rm -rf "crates/$name/out/incremental"
     return "$status"
 }
 
