@@ -205,4 +205,5 @@ def main():
                   addresses[:count])
 
 
-main()
+if __name__ == "__main__":
+    main()
