@@ -15,8 +15,8 @@ header = $(DESTDIR)$(PREFIX)/include/boxantrel.h
 package = $(DESTDIR)$(PREFIX)/lib/pkgconfig/boxantrel.pc
 
 # The scripts that try what is built.
-tries = compare-with-dwline.sh compare-json.py try-archives.sh try-damaged.py try-debug-files.sh try-dwline.sh try-files.py try-growth.py try-index.py try-sections.py try-truncated.py try-documents.sh try-install.sh \
-	try-library.sh
+tries = compare-with-dwline.sh compare-json.py try-archives.sh try-damaged.py try-debug-files.sh try-documents.sh try-dwline.sh \
+	try-files.py try-growth.py try-index.py try-install.sh try-library.sh try-readme.py try-sections.py try-truncated.py
 
 version = $(shell sed -n 's/^.* VERSION: &str = "\(.*\)";$$/\1/p' crates/dl_options/src/command_line.rt)
 
@@ -108,7 +108,7 @@ wrong-bodies: dwline lib
 	for crate in crates/dl_*; do (cd $$crate && ../../tools/rt plant) || exit 1; done
 
 # Every section of examples/, printed and compared with its expected dump; every option of every command; the
-# man page, the completions and what `make install` puts where; the library, from C, Rust and Python.
+# man page, the completions and what `make install` puts where; the library, from C, Rust and Python; what README.md shows.
 compare: dwline lib compare-built
 
 # The same of what is built, side by side.

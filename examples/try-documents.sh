@@ -1,9 +1,8 @@
 #!/usr/bin/env bash
 # try-documents.sh [PATH OF dwline]: each command, option and value that the help names stands in the man
 # page and in the completions of each shell, the version is everywhere the same, and man and the shells
-# read these files without a complaint; each file of lemmas stands in the map of the proofs, and the
-# program of crates/list_rows in the README; no code names mem::forget or ManuallyDrop. What isn't installed is
-# named and passed over.
+# read these files without a complaint; each file of lemmas stands in the map of the proofs; no code names
+# mem::forget or ManuallyDrop. What isn't installed is named and passed over. README.md is tried by try-readme.py.
 set -euo pipefail
 dwline=$(realpath "${1-$(dirname "$0")/../crates/dwline/out/dwline}")
 cd "$(dirname "$0")/.."
@@ -100,10 +99,6 @@ for lib in crates/*/specs/Lib.antt; do
         esac
     done < "$lib"
 done
-
-# The program of the README is the one that is proved and run.
-program=$(sed 's/^\(.\)/    \1/' crates/list_rows/src/main.rt)
-checked "$([[ $(cat README.md) == *"$program"* ]]; echo $?)" "README.md has another program than crates/list_rows"
 
 # No code names what keeps a value from being dropped, `mem::forget` or `ManuallyDrop`: a reader would lose what it owes then.
 # A function of our own may be named `forget`.

@@ -8,8 +8,8 @@
 # after it; where a growth is refused they say so, whichever it is; of each ELF file that ships the index that they make
 # is the one that `dwline index` makes, its list the same, and at the ends of its stretches what `dwline addr` says of the
 # file; the documented examples of the Rust and the Python module and the tests of the latter hold; and the calls of the
-# library, over damaged sections and with nothing, touch nothing but what they are given. The programs of README.md print
-# what `dwline addr` does. What isn't installed is named and passed over.
+# library, over damaged sections and with nothing, touch nothing but what they are given. What isn't installed is named
+# and passed over. The programs of README.md are tried by try-readme.py.
 set -euo pipefail
 dwline=$(realpath "${1-$(dirname "$0")/../crates/dwline/out/dwline}")
 cd "$(dirname "$0")/.."
@@ -305,71 +305,6 @@ try_where() {
     echo "$folder/program:$names, ${#addresses[@]} addresses of the index"
 }
 
-# The lines of the program of this number that README.md has after the words "For C, Rust and Python".
-readme_program() {
-    sed -n '/^For C, Rust and Python/,/^## /p' README.md |
-        awk -v wanted="$1" '/^    / {if (!inside) block++; inside = 1; if (block == wanted) print; next} {inside = 0}'
-}
-
-# The programs of README.md in each language, as it prints what is at two addresses: PATH:LINE.
-readme_c() {
-    { printf '#include <%s.h>\n' boxantrel inttypes stdio
-        echo 'int main(int count, char **words) { (void)count; static uint8_t section[4096], line_str[4096];'
-        echo 'size_t len = fread(section, 1, sizeof section, fopen(words[1], "rb"));'
-        echo 'size_t line_str_len = fread(line_str, 1, sizeof line_str, fopen(words[2], "rb"));'
-        readme_program 4
-        echo 'return 0; }'; } > "$work/readme.c"
-    cc -std=c11 -Wall -Wextra -Werror -Iinclude -o "$work/readme" "$work/readme.c" out/libboxantrel.a
-    "$work/readme" "$@"
-}
-readme_rust() {
-    mkdir -p "$work/readme_rust/src"
-    printf '[package]\nname = "readme"\nedition = "2021"\n[dependencies]\nboxantrel = {path = "%s"}\n' \
-        "$PWD/bindings/rust" > "$work/readme_rust/Cargo.toml"
-    { echo 'use boxantrel::{Order, Row, Section};'
-        echo 'use std::collections::BTreeMap;'
-        echo 'fn main() -> Result<(), Box<dyn std::error::Error>> {'
-        echo 'let words: Vec<String> = std::env::args().collect();'
-        echo 'let (bytes, line_str, str) = (std::fs::read(&words[1])?, std::fs::read(&words[2])?, []);'
-        readme_program 5
-        echo 'Ok(()) }'; } > "$work/readme_rust/src/main.rs"
-    cargo run --quiet --offline --manifest-path "$work/readme_rust/Cargo.toml" -- "$@"
-}
-readme_python() {
-    { echo 'import boxantrel, sys'
-        echo 'data, line_str, text = open(sys.argv[1], "rb").read(), open(sys.argv[2], "rb").read(), b""'
-        readme_program 6 | sed 's/^    //'; } > "$work/readme.py"
-    PYTHONPATH=bindings/python python3 "$work/readme.py" "$@" | sed "s/^b'\(.*\)' /\1:/"
-}
-
-# The programs of README.md that make an index, as they print what is at one address: PATH:LINE:COLUMN.
-index_c() {
-    { printf '#include <%s.h>\n' boxantrel inttypes stdio
-        echo 'int main(int count, char **words) { (void)count; static uint8_t file[1 << 16]; uint8_t path[512];'
-        echo 'size_t len = fread(file, 1, sizeof file, fopen(words[1], "rb"));'
-        echo 'dl_bytes made; dl_fault fault; dl_index index; dl_index_fault why; dl_location found;'
-        readme_program 1
-        echo 'return 0; }'; } > "$work/index.c"
-    cc -std=c11 -Wall -Wextra -Werror -Iinclude -o "$work/index" "$work/index.c" out/libboxantrel.a
-    "$work/index" "$@"
-}
-index_rust() {
-    mkdir -p "$work/index_rust/src"
-    printf '[package]\nname = "index"\nedition = "2021"\n[dependencies]\nboxantrel = {path = "%s"}\n' \
-        "$PWD/bindings/rust" > "$work/index_rust/Cargo.toml"
-    { echo 'fn main() -> Result<(), Box<dyn std::error::Error>> {'
-        echo 'let path = std::env::args().nth(1).unwrap();'
-        readme_program 2
-        echo 'Ok(()) }'; } > "$work/index_rust/src/main.rs"
-    cargo run --quiet --offline --manifest-path "$work/index_rust/Cargo.toml" -- "$@"
-}
-index_python() {
-    { echo 'import boxantrel, sys'
-        echo 'path = sys.argv[1]'
-        readme_program 3 | sed 's/^    //'; } > "$work/index.py"
-    PYTHONPATH=bindings/python python3 "$work/index.py" "$@" | sed "s/^b'\(.*\)' \(.*\) /\1:\2:/"
-}
-
 # Runs a function for each line of the input, some side by side, and fails where one of them does.
 for_each() {
     xargs -P "$(nproc)" -I {} bash -euo pipefail -c "$1 {}"
@@ -384,11 +319,4 @@ printf '%s\n' {0..120} {123..504..13} | for_each try_cut
 printf '%s\n' gcc-O2 clang-O2 gcc-powerpc | for_each try_around
 printf '%s\n' examples/*/program | sed 's|^examples/||; s|/program$||' | for_each try_where
 [ ! -e "$work/refusing" ] || printf '%s\n' $names | for_each try_refused
-"$dwline" addr - --line-str examples/gcc-O2/debug_line_str 0x401008 0x401030 < examples/gcc-O2/debug_line |
-    cut -d : -f 1,2 > "$work/readme.wanted"
-"$dwline" addr examples/gcc-O2/program 0x401008 > "$work/index.wanted"
-for name in $names; do
-    "index_$name" examples/gcc-O2/program | cmp - "$work/index.wanted"
-    "readme_$name" examples/gcc-O2/debug_line examples/gcc-O2/debug_line_str | cmp - "$work/readme.wanted"
-done
 echo "try-library.sh: all agree"
