@@ -6,8 +6,7 @@ refused, and why each other one was not.
 
 An edit changes the body of one function, and a function is proved by the contracts of those that it calls. So edits of
 different functions of a crate are made at once, in rounds, and these functions alone are checked, with those that they call.
-Where no goal of an edit's own function is refused, the edit is tried by itself, and then on the whole crate; but with --of it
-counts as not refused.
+Where no goal of an edit's own function is refused, the edit is tried by itself, and then on the whole crate.
 
 Usage: tools/wrong-bodies.py [NAME..]      of these crates, or of all
        tools/wrong-bodies.py --of COMMIT   those in `always` of each crate, and some of four others: first of up to two that the
@@ -228,15 +227,11 @@ def try_alone(edit):
     return kind == getattr(rt, "REFUSED", True) and "(only because" not in said, f"{edit.label}: {said.partition(': ')[2]}"
 
 
-def try_round(edits, texts, is_last):
-    """The same of edits of different functions of a crate, made at once; where that is the last word, none is tried by itself."""
+def try_round(edits, texts):
+    """The same of edits of different functions of a crate, made at once."""
     found = refusals(edits[0].crate, texts, [it.function for it in edits])
     return [
-        (True, f"{it.label}: refused: {found[it.function][:160]}")
-        if it.function in found
-        else (False, f"{it.label}: no goal of its function is refused")
-        if is_last
-        else try_alone(it)
+        (True, f"{it.label}: refused: {found[it.function][:160]}") if it.function in found else try_alone(it)
         for it in edits
     ]
 
@@ -248,7 +243,7 @@ def rounds_of(edits):
         chosen, texts, others = next_round(edits)
         if not chosen:
             return rounds + [lambda edit=it: [try_alone(edit)] for it in others]
-        rounds.append(lambda edits=chosen, texts=texts: try_round(edits, texts, False))
+        rounds.append(lambda edits=chosen, texts=texts: try_round(edits, texts))
         edits = others
     return rounds
 
@@ -258,7 +253,7 @@ def in_time(crate, edits, texts, begun):
     if time.monotonic() > begun + DEADLINE:
         print(f"{crate.name}: left for want of time: {len(edits)}", flush=True)
         return []
-    return try_round(edits, texts, True)
+    return try_round(edits, texts)
 
 
 def rounds_of_gate(crates, chosen, order):
@@ -268,7 +263,7 @@ def rounds_of_gate(crates, chosen, order):
         edits = [Edit(crate, it) for it in edits_in(crate.name, "wrong-bodies/always")]
         if edits:
             together, texts, others = next_round(edits)
-            always.append(lambda edits=together, texts=texts: try_round(edits, texts, True))
+            always.append(lambda edits=together, texts=texts: try_round(edits, texts))
             always += [lambda edit=it: [try_alone(edit)] for it in others]
         if crate.name in chosen:
             files = sorted(edits_in(crate.name, "wrong-bodies"), key=lambda it: order(os.path.basename(it)))
