@@ -1,0 +1,128 @@
+"""The built program: runs it, and says what differs from what was wanted."""
+
+import os
+import re
+import shlex
+import shutil
+import subprocess
+import tempfile
+from collections import namedtuple
+
+TOP = os.path.dirname(os.path.dirname(os.path.dirname(os.path.abspath(__file__))))
+DATA = os.path.join(TOP, "tests", "data")
+DWLINE = os.path.abspath(os.environ.get("DWLINE") or os.path.join(TOP, "crates/dwline/out/dwline"))
+
+# Whether long cases are wanted too (tests/run --all).
+ALL = bool(os.environ.get("TESTS_ALL"))
+SECONDS = 60
+
+Ran = namedtuple("Ran", "status out err")
+
+# The folders that the case at hand made.
+_folders = []
+
+
+def run(*words, stdin=b"", cwd=None, env=None):
+    """What the program does with these words. `env` is put on top of the environment."""
+    whole = dict(os.environ, **env) if env else None
+    done = subprocess.run([DWLINE, *words], input=stdin, stdout=subprocess.PIPE, stderr=subprocess.PIPE, cwd=cwd,
+                          env=whole, timeout=SECONDS)
+    return Ran(done.returncode, done.stdout, done.stderr)
+
+
+def expect(words, out=None, err=None, status=0, stdin=b"", cwd=None, env=None):
+    """None if the program does what is wanted, else a text. What is None isn't compared."""
+    ran = run(*words, stdin=stdin, cwd=cwd, env=env)
+    wrong = differences(ran, out, err, status)
+    return "\n".join(wrong + [f"repeat: {by_hand(words, stdin, cwd, env)}"]) if wrong else None
+
+
+def differences(ran, out, err, status):
+    """What of a run isn't as wanted, as texts."""
+    wrong = []
+    if status is not None and ran.status != status:
+        wrong.append(f"status: wanted {status}, got {ran.status}, and on standard error {shown(ran.err)}")
+    wrong.extend(difference("standard output", out, ran.out))
+    wrong.extend(difference("standard error", err, ran.err))
+    return wrong
+
+
+def difference(what, wanted, got):
+    if wanted is None:
+        return []
+    if hasattr(wanted, "search"):
+        text = got if isinstance(wanted.pattern, bytes) else got.decode("utf-8", "surrogateescape")
+        return [] if wanted.search(text) else [f"{what}: wanted {wanted.pattern!r}, got {shown(got)}"]
+    wanted = wanted.encode("utf-8", "surrogateescape") if isinstance(wanted, str) else wanted
+    if wanted == got:
+        return []
+    if len(wanted) + len(got) <= 400:
+        return [f"{what}: wanted {shown(wanted)}", f"{' ' * len(what)}  got    {shown(got)}"]
+    return [f"{what}: {first_difference(wanted, got)}"]
+
+
+def first_difference(wanted, got):
+    """The first line in which two texts differ."""
+    lines, others = wanted.splitlines(True), got.splitlines(True)
+    at = next((n for n, pair in enumerate(zip(lines, others)) if pair[0] != pair[1]), min(len(lines), len(others)))
+    line, other = (shown(b"".join(some[at:at + 1])) if at < len(some) else "no line" for some in (lines, others))
+    return f"line {at + 1} of {len(lines)} wanted is {line}\n  and of {len(others)} that came {other}"
+
+
+def shown(text):
+    text = text if len(text) <= 600 else text[:600] + b".."
+    return repr(text.decode("utf-8", "backslashreplace"))
+
+
+def by_hand(words, stdin=b"", cwd=None, env=None):
+    """A line for the shell that does the same."""
+    line = " ".join([f"{name}={shlex.quote(value)}" for name, value in (env or {}).items()]
+                    + [shlex.quote(os.fsdecode(word)) for word in (DWLINE, *words)])
+    if len(stdin) > 100:
+        line += " < " + shlex.quote(kept(stdin))
+    elif stdin:
+        line = "printf '" + "".join(f"\\{byte:03o}" for byte in stdin) + "' | " + line
+    return f"cd {shlex.quote(os.fsdecode(cwd))} && {line}" if cwd else line
+
+
+def kept(stdin):
+    """A file of what went to standard input."""
+    path = os.path.join(folder(), "stdin")
+    with open(path, "wb") as file:
+        file.write(stdin)
+    return path
+
+
+def folder(files=None):
+    """The path of a new folder with these files, by name. It stays only if the case fails."""
+    made = tempfile.mkdtemp(dir=os.environ.get("TESTS_SCRATCH"))
+    _folders.append(made)
+    for name, content in (files or {}).items():
+        path = os.path.join(made, name)
+        os.makedirs(os.path.dirname(path), exist_ok=True)
+        with open(path, "wb") as file:
+            file.write(content)
+    return made
+
+
+def forget_folders(remove):
+    """The end of a case, whose folders go if `remove`."""
+    for made in _folders if remove else []:
+        shutil.rmtree(made, ignore_errors=True)
+    _folders.clear()
+
+
+def path(*parts):
+    """The path of a file of tests/data."""
+    return os.path.join(DATA, *parts)
+
+
+def data(*parts):
+    """The bytes of a file of tests/data."""
+    with open(path(*parts), "rb") as file:
+        return file.read()
+
+
+def pattern(text):
+    """A pattern over several lines, for `expect`."""
+    return re.compile(text, re.MULTILINE)
