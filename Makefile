@@ -28,11 +28,11 @@ dwline:
 
 # What `dwline dump` prints of a section that ships with the repository.
 example: dwline
-	crates/dwline/out/dwline dump --line-str examples/gcc-O2/debug_line_str \
-		--str examples/gcc-O2/debug_str < examples/gcc-O2/debug_line
+	crates/dwline/out/dwline dump --line-str tests/data/gcc-O2/debug_line_str \
+		--str tests/data/gcc-O2/debug_str < tests/data/gcc-O2/debug_line
 
-# The same without a proof, or dwline with other words: make try ARGS="addr examples/gcc-O2/program 0x401008".
-section = --line-str examples/gcc-O2/debug_line_str --str examples/gcc-O2/debug_str < examples/gcc-O2/debug_line
+# The same without a proof, or dwline with other words: make try ARGS="addr tests/data/gcc-O2/program 0x401008".
+section = --line-str tests/data/gcc-O2/debug_line_str --str tests/data/gcc-O2/debug_str < tests/data/gcc-O2/debug_line
 try:
 	tools/try.sh $(or $(ARGS),dump $(section))
 

@@ -24,7 +24,7 @@ sys.dont_write_bytecode = True
 import programs
 
 HERE = os.path.dirname(os.path.abspath(__file__))
-EXAMPLES = os.path.join(HERE, "../examples")
+DATA = os.path.join(HERE, "../tests/data")
 WORK = "/tmp/dl_pieces_bench"
 USES = ["dl_num", "dl_head", "dl_rows", "thiserror"]
 FILES = {"src/main.rt": "pieces.rt.txt", "proofs/count/Invariants.antt": "pieces.antt.txt"}
@@ -78,7 +78,7 @@ def main():
     words[0] = os.path.abspath(words[0])
     start = at_once(words, b"")
     for name in ["gcc-O2", "clang-O2", "gcc-dwarf64"]:
-        with open(os.path.join(EXAMPLES, name, "debug_line"), "rb") as file:
+        with open(os.path.join(DATA, name, "debug_line"), "rb") as file:
             section = file.read()
         whole = (at_once(words, section) - start) / len(section)
         pieces = (one_at_a_time(words, section) - start) / len(section)

@@ -11,8 +11,8 @@ import re
 import subprocess
 import sys
 
-HERE = os.path.dirname(os.path.realpath(__file__))
-DWLINE = sys.argv[1] if len(sys.argv) > 1 else f"{HERE}/../crates/dwline/out/dwline"
+HERE = os.path.join(os.path.dirname(os.path.realpath(__file__)), "../tests/data")
+DWLINE = sys.argv[1] if len(sys.argv) > 1 else f"{HERE}/../../crates/dwline/out/dwline"
 
 # Our fields, by the names that the others give them.
 LLVM = {"total_length": "unit_length", "prologue_length": "header_length", "min_inst_length": "minimum_instruction_length",

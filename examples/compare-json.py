@@ -8,8 +8,8 @@ import os
 import subprocess
 import sys
 
-HERE = os.path.dirname(os.path.abspath(__file__))
-DWLINE = os.path.abspath(sys.argv[1] if len(sys.argv) > 1 else os.path.join(HERE, "../crates/dwline/out/dwline"))
+HERE = os.path.join(os.path.dirname(os.path.abspath(__file__)), "../tests/data")
+DWLINE = os.path.abspath(sys.argv[1] if len(sys.argv) > 1 else os.path.join(HERE, "../../crates/dwline/out/dwline"))
 NUMBERS = ["unit_length", "header_length", "minimum_instruction_length", "maximum_operations_per_instruction", "default_is_stmt",
            "line_base", "line_range", "opcode_base"]
 FLAGS = [("is_stmt", "stmt"), ("basic_block", "block"), ("prologue_end", "prologue"), ("epilogue_begin", "epilogue"),

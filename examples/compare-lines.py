@@ -12,8 +12,8 @@ import re
 import subprocess
 import sys
 
-HERE = os.path.dirname(os.path.realpath(__file__))
-DWLINE = f"{HERE}/../crates/dwline/out/dwline"
+HERE = os.path.join(os.path.dirname(os.path.realpath(__file__)), "../tests/data")
+DWLINE = f"{HERE}/../../crates/dwline/out/dwline"
 AT = re.compile(r"(?:starts at address|is at address|address) (0x[0-9a-f]+)")
 
 

@@ -14,8 +14,8 @@ import re
 import subprocess
 import sys
 
-HERE = os.path.dirname(os.path.realpath(__file__))
-DWLINE = sys.argv[1] if len(sys.argv) > 1 else f"{HERE}/../crates/dwline/out/dwline"
+HERE = os.path.join(os.path.dirname(os.path.realpath(__file__)), "../tests/data")
+DWLINE = sys.argv[1] if len(sys.argv) > 1 else f"{HERE}/../../crates/dwline/out/dwline"
 
 READELF = [
     (r"Special opcode (\d+): advance Address by (\d+) to \S+ and Line by (-?\d+) to", "special"),

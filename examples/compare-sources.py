@@ -13,8 +13,8 @@ import subprocess
 import sys
 import tempfile
 
-HERE = os.path.dirname(os.path.realpath(__file__))
-DWLINE = sys.argv[1] if len(sys.argv) > 1 else f"{HERE}/../crates/dwline/out/dwline"
+HERE = os.path.join(os.path.dirname(os.path.realpath(__file__)), "../tests/data")
+DWLINE = sys.argv[1] if len(sys.argv) > 1 else f"{HERE}/../../crates/dwline/out/dwline"
 LLVM = next((it for it in ("llvm-dwarfdump-19", "llvm-dwarfdump") if shutil.which(it)), None)
 
 

@@ -15,8 +15,8 @@ import subprocess
 import sys
 import tempfile
 
-HERE = os.path.dirname(os.path.abspath(__file__))
-DWLINE = os.path.abspath(sys.argv[1] if len(sys.argv) > 1 else os.path.join(HERE, "../crates/dwline/out/dwline"))
+HERE = os.path.join(os.path.dirname(os.path.abspath(__file__)), "../tests/data")
+DWLINE = os.path.abspath(sys.argv[1] if len(sys.argv) > 1 else os.path.join(HERE, "../../crates/dwline/out/dwline"))
 LLVM = "llvm-dwarfdump-19"
 UNIT = r"\.debug_line\[0x(\w+)\]"
 TOLD = [

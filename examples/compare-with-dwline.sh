@@ -7,7 +7,7 @@
 # answer and write what it does of the same file without compression.
 set -euo pipefail
 dwline=$(realpath "${1-$(dirname "$0")/../crates/dwline/out/dwline}")
-cd "$(dirname "$0")"
+cd "$(dirname "$0")/../tests/data"
 copied=$(mktemp)
 said=$(mktemp)
 alone=$(mktemp)

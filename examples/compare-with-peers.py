@@ -216,7 +216,7 @@ def main():
         text = run("llvm-dwarfdump", "--debug-line", "-v", sys.argv[2])
         print(*dump_of_llvm(units_of_llvm(text)), sep="\n")
         return
-    os.chdir(os.path.dirname(os.path.abspath(__file__)))
+    os.chdir(os.path.join(os.path.dirname(os.path.abspath(__file__)), "../tests/data"))
     folders = sys.argv[1:] or sorted(
         f for f in os.listdir(".") if os.path.exists(os.path.join(f, "expected.dump")))
     for folder in folders:

@@ -3,7 +3,7 @@
 # is compared with what is printed of the same file by itself. Archives are made by GNU ar, and one with BSD names by hand.
 set -euo pipefail
 dwline=$(realpath "${1-$(dirname "$0")/../crates/dwline/out/dwline}")
-cd "$(dirname "$0")"
+cd "$(dirname "$0")/../tests/data"
 failed=0
 passed=0
 work=$(mktemp -d)

@@ -17,7 +17,7 @@ import sys
 import tempfile
 from concurrent.futures import ThreadPoolExecutor
 
-HERE = os.path.dirname(os.path.abspath(__file__))
+HERE = os.path.join(os.path.dirname(os.path.abspath(__file__)), "../tests/data")
 # The sections, and the words that say how they are read.
 SECTIONS = {
     "assembler": [],
@@ -191,7 +191,7 @@ def try_object(dwline, name):
 
 
 def main():
-    dwline = sys.argv[1] if len(sys.argv) > 1 else os.path.join(HERE, "..", "crates", "dwline", "out", "dwline")
+    dwline = sys.argv[1] if len(sys.argv) > 1 else os.path.join(HERE, "../..", "crates", "dwline", "out", "dwline")
     with ThreadPoolExecutor(os.cpu_count()) as tasks:
         damaged = sum(tasks.map(lambda it: try_section(dwline, *it), SECTIONS.items()))
         in_objects = sum(tasks.map(lambda name: try_object(dwline, name), OBJECTS))

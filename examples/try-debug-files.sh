@@ -4,7 +4,7 @@
 # Pairs are made by GNU objcopy.
 set -euo pipefail
 dwline=$(realpath "${1-$(dirname "$0")/../crates/dwline/out/dwline}")
-cd "$(dirname "$0")"
+cd "$(dirname "$0")/../tests/data"
 failed=0
 passed=0
 here=$PWD

@@ -3,7 +3,7 @@
 # the status and the texts that are wanted. Rows and files are those of the expected dumps.
 set -euo pipefail
 dwline=$(realpath "${1-$(dirname "$0")/../crates/dwline/out/dwline}")
-cd "$(dirname "$0")"
+cd "$(dirname "$0")/../tests/data"
 failed=0
 passed=0
 work=$(mktemp -d)
@@ -201,7 +201,7 @@ wants 0 "" "" / dump --range 0x2000c-0x30000 operations/program
 wants 0 "" "" / lint --rule falling-place --rule no-end operations/program
 wants 0 "" "" / lint --rule overlap --rule dead-sequence --rule no-code gcc-O2/program
 wants 2 "" $'dwline: fallen is no rule\n' / lint --rule fallen operations/program
-wants 1 "" $'dwline: README.md: not an ELF file\n' / lint README.md
+wants 1 "" $'dwline: make.sh: not an ELF file\n' / lint make.sh
 
 # The paths of rows of version 4 stand under the directory that .debug_info says.
 paths=$("$dwline" dump --paths gcc-dwarf4/program | sed -n 's/^row .* //p' | sort -u)
@@ -472,14 +472,14 @@ wants 0 "0x0000000000401000 series.c:8:23
 " "" "$work/addresses" addr -a -s $program
 wants 0 "" "" /dev/null addr $program
 wants 3 "" $'dwline: cannot read the input\n' / addr $program
-wants 1 "" $'dwline: try-dwline.sh: not an ELF file\n' / addr try-dwline.sh
+wants 1 "" $'dwline: make.sh: not an ELF file\n' / addr make.sh
 # A file that can't be read for its line table has no answer to any of them, and lines and answers stay in step.
 printf '0x401000\n\nmain\n1\n' > "$work/line"
-wants 1 $'??:0\n??:0\n??:0\n' $'dwline: try-dwline.sh: not an ELF file\n' "$work/line" addr try-dwline.sh
+wants 1 $'??:0\n??:0\n??:0\n' $'dwline: make.sh: not an ELF file\n' "$work/line" addr make.sh
 wants 3 $'??:0\n??:0\n??:0\n' $'dwline: no/such/file: cannot open: No such file or directory (os error 2)\n' \
     "$work/line" addr no/such/file
 wants 1 $'{"address":"0x0000000000401000"}\n{"address":null}\n{"address":"0x0000000000000001"}\n' \
-    $'dwline: try-dwline.sh: not an ELF file\n' "$work/line" addr --json try-dwline.sh
+    $'dwline: make.sh: not an ELF file\n' "$work/line" addr --json make.sh
 # The file behind -e; all other words are addresses then.
 wants 0 "$series:8:23
 $series:6:9
@@ -753,7 +753,7 @@ answer_of() {
     [ "$1" != addr ] || printf '??:0\n.'
 }
 head -c 5000 gcc-powerpc/program > "$work/cut"
-cp try-dwline.sh "$work/a"$'\nb\\x7f\177\303\251'
+cp make.sh "$work/a"$'\nb\\x7f\177\303\251'
 head -c 51 gcc-powerpc/program > "$work/headless"
 # The same without section headers: e_shoff is 0.
 { head -c 32 $file; printf '\0\0\0\0'; tail -c +37 $file; } > "$work/no_sections"
@@ -763,7 +763,7 @@ for command in addr dump check "find 1" copy; do
     none=${none%.}
     wants 3 "$none" $'dwline: no/such/file: cannot open: No such file or directory (os error 2)\n' / $command no/such/file $address
     wants 3 "$none" $'dwline: sources: cannot read: Is a directory (os error 21)\n' / $command sources $address
-    wants 1 "$none" $'dwline: try-dwline.sh: not an ELF file\n' / $command try-dwline.sh $address
+    wants 1 "$none" $'dwline: make.sh: not an ELF file\n' / $command make.sh $address
     wants 1 "$none" $'dwline: /dev/null: not an ELF file\n' / $command /dev/null $address
     wants 1 "$none" "dwline: $work/headless: not an ELF file"$'\n' / $command "$work/headless" $address
     wants 1 "$none" "dwline: $work/cut: damaged ELF file: section headers"$'\n' / $command "$work/cut" $address

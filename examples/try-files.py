@@ -11,9 +11,8 @@ import sys
 import tempfile
 
 sys.dont_write_bytecode = True
-import elf_cases
-import elf_contents
-import elf_jobs
+sys.path.insert(0, os.path.join(os.path.dirname(os.path.abspath(__file__)), "../tests"))
+from cases import elf_cases, elf_contents, elf_jobs
 
 HERE = os.path.dirname(os.path.abspath(__file__))
 

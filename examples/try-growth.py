@@ -18,11 +18,11 @@ from concurrent.futures import ThreadPoolExecutor
 
 sys.dont_write_bytecode = True
 HERE = os.path.dirname(os.path.abspath(__file__))
-sys.path.insert(0, HERE)
+sys.path.insert(0, os.path.join(HERE, "../tests"))
 
-from growth_cases import CASES
-from growth_depths import DEPTHS
-from growth_room import ROOMS, SLACK
+from cases.growth_cases import CASES
+from cases.growth_depths import DEPTHS
+from cases.growth_room import ROOMS, SLACK
 
 VALGRIND = shutil.which("valgrind")
 TIME = shutil.which("time")

@@ -16,7 +16,7 @@ import sys
 import tempfile
 from concurrent.futures import ThreadPoolExecutor
 
-HERE = os.path.dirname(os.path.abspath(__file__))
+HERE = os.path.join(os.path.dirname(os.path.abspath(__file__)), "../tests/data")
 LINE = re.compile(rb"0x([0-9a-f]{16,17}) 0x([0-9a-f]{16,17}) (.*)\n?", re.DOTALL)
 END = 1 << 64
 
@@ -217,7 +217,7 @@ def try_bytes(dwline, folder, tasks):
 
 
 def main():
-    dwline = sys.argv[1] if len(sys.argv) > 1 else os.path.join(HERE, "..", "crates", "dwline", "out", "dwline")
+    dwline = sys.argv[1] if len(sys.argv) > 1 else os.path.join(HERE, "../..", "crates", "dwline", "out", "dwline")
     names = sorted(name for name in os.listdir(HERE) if os.path.exists(os.path.join(HERE, name, "program")))
     with tempfile.TemporaryDirectory() as folder, ThreadPoolExecutor(os.cpu_count()) as tasks:
         answers = sum(tasks.map(lambda name: try_file(dwline, folder, name), names))

@@ -36,7 +36,7 @@ END
 )
 diff <(below) <(echo "$wanted")
 cmp crates/dwline/out/dwline "$work/stage/opt/own/bin/dwline"
-"$work/stage/opt/own/bin/dwline" check < examples/gcc-O2/debug_line > /dev/null
+"$work/stage/opt/own/bin/dwline" check < tests/data/gcc-O2/debug_line > /dev/null
 cmp docs/dwline.1 "$work/stage/opt/own/share/man/man1/dwline.1"
 make -s uninstall DESTDIR="$work/stage" PREFIX=/opt/own
 diff <(below) <(echo ./stage/opt/own/bin/other)

@@ -66,11 +66,11 @@ if is_installed cc; then
     build_refusing
     cc -std=c11 -O2 -Iinclude -o "$work/refusing/look" bindings/c/examples/look.c "$work/refusing/libboxantrel.a"
     checked_cc "$work/nothing" bindings/c/nothing.c
-    "$work/nothing" examples/gcc-O2/debug_line examples/gcc-O2/debug_line_str
+    "$work/nothing" tests/data/gcc-O2/debug_line tests/data/gcc-O2/debug_line_str
     checked_cc "$work/fuzz" bindings/c/fuzz.c
-    "$work/fuzz" 20000 examples/*/debug_line
+    "$work/fuzz" 20000 tests/data/*/debug_line
     checked_cc "$work/fuzz_index" bindings/c/fuzz_index.c
-    "$work/fuzz_index" 2000 examples/*/program
+    "$work/fuzz_index" 2000 tests/data/*/program
     [ "$(nm -D --defined-only out/libboxantrel.so | sed 's/.* //' | sort)" = \
         "$(sed -n 's/^[a-z].* \(dl_[a-z_]*\)(.*/\1/p' include/boxantrel.h | sort)" ]
 fi
@@ -165,10 +165,10 @@ try_section() {
 
 # A section that ends after this many bytes: whole where `dwline` has it whole, and else at fault where and how it says.
 try_cut() {
-    line_str=examples/gcc-O2/debug_line_str
+    line_str=tests/data/gcc-O2/debug_line_str
     here=$work/cut-$1
     mkdir "$here"
-    head -c "$1" examples/gcc-O2/debug_line > "$here/cut"
+    head -c "$1" tests/data/gcc-O2/debug_line > "$here/cut"
     "$dwline" check < "$here/cut" 2>&1 | sed 's/^dwline: //' > "$here/said" || true
     { "$dwline" dump < "$here/cut" 2>&1 || true; } | grep '^row \|^dwline: ' |
         sed 's/^dwline: //' > "$here/rows.said" || true
@@ -187,7 +187,7 @@ try_cut() {
 # its counts and its first fault are those that `dwline check --keep-going` tells, and each address is found in the whole
 # one. Where the damaged unit stands behind it, the counts are the same but for the place of the fault.
 try_around() {
-    folder=examples/$1
+    folder=tests/data/$1
     here=$work/around-$1
     mkdir "$here"
     order=()
@@ -247,8 +247,8 @@ try_around() {
 # A language, where each of the first growths is refused in turn: what is printed is all; or it is said that memory was
 # refused, and before that the front of the rows is printed, and nothing of the counts and the copy.
 try_refused() {
-    section=examples/gcc-O2/debug_line
-    strings=examples/gcc-O2/debug_line_str
+    section=tests/data/gcc-O2/debug_line
+    strings=tests/data/gcc-O2/debug_line_str
     here=$work/refused-$1
     mkdir "$here"
     for words in "" --keep-going --rows --copy "--lines $strings /dev/null series.c 8" "--sources $strings /dev/null" \
@@ -273,7 +273,7 @@ try_refused() {
 
 # An ELF file of examples/, and its index: as `dwline` makes it, lists it, and answers for the file.
 try_where() {
-    folder=examples/$1
+    folder=tests/data/$1
     here=$work/where-$1
     mkdir "$here"
     for words in "" --all --keep-going; do
@@ -313,10 +313,10 @@ for_each() {
 export dwline work names lints
 export -f run_c run_rust run_python refused_c refused_rust refused_python numbers_of try_section try_lines try_cut try_around try_refused
 export -f where_c where_rust where_python try_where
-printf '%s\n' examples/*/debug_line | for_each try_section
+printf '%s\n' tests/data/*/debug_line | for_each try_section
 # At each of its first bytes, and at some later ones.
 printf '%s\n' {0..120} {123..504..13} | for_each try_cut
 printf '%s\n' gcc-O2 clang-O2 gcc-powerpc | for_each try_around
-printf '%s\n' examples/*/program | sed 's|^examples/||; s|/program$||' | for_each try_where
+printf '%s\n' tests/data/*/program | sed 's|^tests/data/||; s|/program$||' | for_each try_where
 [ ! -e "$work/refusing" ] || printf '%s\n' $names | for_each try_refused
 echo "try-library.sh: all agree"

@@ -32,7 +32,7 @@ PARAGRAPH = 4
 TRY_MEMORY = 5 << 30
 
 # What the names in commands of tables stand for.
-PROGRAM = "examples/gcc-O2/program"
+PROGRAM = "tests/data/gcc-O2/program"
 NAMES = {"FILE": PROGRAM, "ADDRESS": "0x401008", "HEX": "401008", "PATH:LINE": "series.c:8", "OFFSET": "0x129"}
 
 # The project of each other command, as README.md names it with its version.
@@ -163,7 +163,7 @@ def try_make(text, environment, is_quick):
         return
     done = subprocess.run(["make", "--silent", "try"], cwd=ROOT, env=environment, stdin=subprocess.DEVNULL,
                           stdout=subprocess.PIPE, stderr=subprocess.PIPE, text=True)
-    check(done.stdout == read("examples/gcc-O2/expected.dump"), f"make try prints\n{done.stdout}\n{done.stderr}")
+    check(done.stdout == read("tests/data/gcc-O2/expected.dump"), f"make try prints\n{done.stdout}\n{done.stderr}")
 
 
 def said_output(text):

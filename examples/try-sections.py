@@ -15,12 +15,12 @@ from concurrent.futures import ThreadPoolExecutor
 
 sys.dont_write_bytecode = True
 HERE = os.path.dirname(os.path.abspath(__file__))
-sys.path.insert(0, HERE)
+sys.path.insert(0, os.path.join(HERE, "../tests"))
 
-from sections import commands, headers, programs
-from sections.cases import (
+from cases import commands, headers, programs
+from lib.dumps import (
     error, fronts_of_refused, fronts_of_unit, runs_of_refused, runs_of_whole, text, without_offsets)
-from sections.units import THREE_ROWS, table, unit_of, unit_of_values
+from cases.units import THREE_ROWS, table, unit_of, unit_of_values
 
 WHOLES = [*headers.wholes(), *programs.wholes()]
 

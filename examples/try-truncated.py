@@ -16,7 +16,7 @@ import subprocess
 import sys
 import tempfile
 
-HERE = os.path.dirname(os.path.abspath(__file__))
+HERE = os.path.join(os.path.dirname(os.path.abspath(__file__)), "../tests/data")
 FOLDERS = ["gcc-O2", "gcc-powerpc", "gcc-s390x", "stripped", "clang-split", "gcc-dwarf2", "gcc-dwarf3", "clang-powerpc-dwarf4"]
 # Sections of versions 2 to 4, of these words.
 CHANGED = {"gcc-dwarf2": ["--older", "8"], "gcc-dwarf3": ["--older", "8"], "gcc-dwarf4": ["--older", "8"],
@@ -113,7 +113,7 @@ def try_changed(dwline, name, words, section, wanted):
 
 def main():
     dwline = os.path.abspath(sys.argv[1] if len(sys.argv) > 1
-                             else os.path.join(HERE, "../crates/dwline/out/dwline"))
+                             else os.path.join(HERE, "../../crates/dwline/out/dwline"))
     os.chdir(HERE)
     for folder in FOLDERS:
         with open(f"{folder}/program", "rb") as program:

@@ -1,6 +1,6 @@
 /*
  * nothing SECTION LINE_STR: each call with null pointers where there are no bytes, no elements or no room, over no
- * section, and over the section examples/gcc-O2 has, whose first unit has 59 rows and the file 1
+ * section, and over the section tests/data/gcc-O2 has, whose first unit has 59 rows and the file 1
  * `/boxantrel/series.c`, by a string section that has it or without one; and indices of nothing, and of that section.
  */
 #include <boxantrel.h>

@@ -1,17 +1,17 @@
 """Line tables of DWARF 5, and of versions 2 to 4 (the section .debug_line), read by the library Boxantrel, whose answers are proved.
 
-    >>> section = Section(open("examples/gcc-O2/debug_line", "rb").read())
+    >>> section = Section(open("tests/data/gcc-O2/debug_line", "rb").read())
     >>> section.check()
     Counts(units=2, skipped=0, sequences=3, rows=91, damaged=0, first=None)
     >>> section.find(0x401008).row.line
     8
     >>> [found and found.row.line for found in section.find_all([0x401008, 0])]
     [8, None]
-    >>> section.path_at(0, 1, open("examples/gcc-O2/debug_line_str", "rb").read())
+    >>> section.path_at(0, 1, open("tests/data/gcc-O2/debug_line_str", "rb").read())
     b'/boxantrel/series.c'
-    >>> section.paths_at(0, [1, 2], open("examples/gcc-O2/debug_line_str", "rb").read())
+    >>> section.paths_at(0, [1, 2], open("tests/data/gcc-O2/debug_line_str", "rb").read())
     [b'/boxantrel/series.c', b'/boxantrel/include/range.h']
-    >>> texts = open("examples/gcc-O2/debug_line_str", "rb").read()
+    >>> texts = open("tests/data/gcc-O2/debug_line_str", "rb").read()
     >>> [(hex(place.address), place.line, place.column) for place in section.lines("series.c", 7, line_str=texts)]
     [('0x401000', 8, 5), ('0x40102e', 8, 33)]
     >>> [(file.path, file.rows) for file in section.sources(texts)][2:]
@@ -23,7 +23,7 @@
 
 Of an ELF file an index is made once, and then asked:
 
-    >>> index = Index.of_file("examples/gcc-O2/program")
+    >>> index = Index.of_file("tests/data/gcc-O2/program")
     >>> location = index.find(0x401008)
     >>> location.path, location.line, location.column
     (b'/boxantrel/series.c', 8, 23)

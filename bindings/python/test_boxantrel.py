@@ -1,4 +1,4 @@
-"""Tests of the module, over sections of examples/, whose rows and paths llvm-dwarfdump tells."""
+"""Tests of the module, over sections of tests/data, whose rows and paths llvm-dwarfdump tells."""
 
 import array
 import copy
@@ -12,9 +12,9 @@ import unittest
 
 from boxantrel import RULES, Counts, Damage, FileFault, Finding, Index, NoIndex, OtherVersion, Place, Section, SourceFile
 
-EXAMPLES = pathlib.Path(__file__).resolve().parents[2] / "examples"
-BYTES = (EXAMPLES / "gcc-O2" / "debug_line").read_bytes()
-LINE_STR = (EXAMPLES / "gcc-O2" / "debug_line_str").read_bytes()
+DATA = pathlib.Path(__file__).resolve().parents[2] / "tests" / "data"
+BYTES = (DATA / "gcc-O2" / "debug_line").read_bytes()
+LINE_STR = (DATA / "gcc-O2" / "debug_line_str").read_bytes()
 SERIES, RANGE = b"/boxantrel/series.c", b"/boxantrel/include/range.h"
 ROWS = 91
 
@@ -79,7 +79,7 @@ class Buffers(unittest.TestCase):
         return Section(data).check().rows
 
     def test_elements_of_four_bytes(self) -> None:
-        four = (EXAMPLES / "clang-O2" / "debug_line").read_bytes()
+        four = (DATA / "clang-O2" / "debug_line").read_bytes()
         wanted = self.rows_of(four)
         self.assertGreater(wanted, 0)
         self.assertEqual(self.rows_of(array.array("I", four)), wanted)
@@ -96,7 +96,7 @@ class Buffers(unittest.TestCase):
         self.assertEqual(self.rows_of(memoryview(b"??" + BYTES + b"??")[2:-2]), ROWS)
 
     def test_a_file_that_is_mapped(self) -> None:
-        with open(EXAMPLES / "gcc-O2" / "debug_line", "rb") as file:
+        with open(DATA / "gcc-O2" / "debug_line", "rb") as file:
             self.assertEqual(self.rows_of(mmap.mmap(file.fileno(), 0, access=mmap.ACCESS_READ)), ROWS)
 
     def test_an_object_that_can_be_written(self) -> None:
@@ -190,7 +190,7 @@ class Lines(unittest.TestCase):
         self.assertEqual(Section(b"").lines("series.c", 8), [])
 
     def test_an_end_of_the_prologue(self) -> None:
-        folder = EXAMPLES / "clang-O2"
+        folder = DATA / "clang-O2"
         section = Section((folder / "debug_line").read_bytes())
         strings = (folder / "debug_line_str").read_bytes()
         ends = {row.address for unit in section.units() for row in section.rows_at(unit.offset) if row.prologue_end}
@@ -358,7 +358,7 @@ class Faults(unittest.TestCase):
 
 class Indices(unittest.TestCase):
     def setUp(self) -> None:
-        self.path = EXAMPLES / "gcc-O2" / "program"
+        self.path = DATA / "gcc-O2" / "program"
         self.index = Index.of_file(self.path)
 
     def test_addresses(self) -> None:
@@ -413,7 +413,7 @@ class Indices(unittest.TestCase):
         with self.assertRaises(FileFault) as refused:
             Index.of_bytes(BYTES)
         self.assertEqual(str(refused.exception), "not an ELF file")
-        self.assertRaises(FileFault, Index.of_bytes, (EXAMPLES / "stripped" / "program").read_bytes())
+        self.assertRaises(FileFault, Index.of_bytes, (DATA / "stripped" / "program").read_bytes())
 
 
 if __name__ == "__main__":

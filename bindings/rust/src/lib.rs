@@ -4,14 +4,14 @@
 //! ```
 //! use boxantrel::{Order, Rule, Section};
 //!
-//! let bytes = std::fs::read(concat!(env!("CARGO_MANIFEST_DIR"), "/../../examples/gcc-O2/debug_line"))?;
+//! let bytes = std::fs::read(concat!(env!("CARGO_MANIFEST_DIR"), "/../../tests/data/gcc-O2/debug_line"))?;
 //! let section = Section::new(&bytes, Order::Little);
 //! assert_eq!(section.check()?.rows, 91);
 //! let found = section.find(0x401008, 0)?.unwrap();
 //! assert_eq!((found.row.line, found.unit), (8, 0));
 //! let all = section.find_all(&[0x401008, 0]);
 //! assert_eq!((all.found, all.error), (vec![Some(found), None], None));
-//! let texts = std::fs::read(concat!(env!("CARGO_MANIFEST_DIR"), "/../../examples/gcc-O2/debug_line_str"))?;
+//! let texts = std::fs::read(concat!(env!("CARGO_MANIFEST_DIR"), "/../../tests/data/gcc-O2/debug_line_str"))?;
 //! let path = section.path_at(found.unit, found.row.file, &texts, &[])?.unwrap();
 //! assert_eq!(path, b"/boxantrel/series.c");
 //! let paths = section.paths_at(found.unit, &[1, found.row.file], &texts, &[])?.unwrap();
@@ -36,7 +36,7 @@
 //! Of an ELF file an index is made once, and then asked:
 //!
 //! ```
-//! let program = concat!(env!("CARGO_MANIFEST_DIR"), "/../../examples/gcc-O2/program");
+//! let program = concat!(env!("CARGO_MANIFEST_DIR"), "/../../tests/data/gcc-O2/program");
 //! let index = boxantrel::File::open(program)?.index()?;
 //! let found = index.find(0x401008).unwrap();
 //! assert_eq!((found.path(), found.line, found.column), (b"/boxantrel/series.c".to_vec(), 8, 23));

@@ -10,7 +10,7 @@ use std::alloc::Global;
 use std::process::Abort;
 use test_support::{Hoarding, Sink, Source, hoard_most};
 
-/// The rows, as examples/fpc-dwarf2/expected.dump has them, which isn't of this program.
+/// The rows, as tests/data/fpc-dwarf2/expected.dump has them, which isn't of this program.
 const ROWS: &[u8] = b"row 0x0000000000401090 0 1 6 1 stmt\n\
                       row 0x0000000000401094 0 1 7 3 stmt\n\
                       row 0x0000000000401096 0 1 8 3 stmt\n\

@@ -6,7 +6,7 @@ use dl_num::Order;
 use std::alloc::Global;
 use std::test::Fail;
 
-/// The unit of examples/operations, as the assembler wrote it. The path of its directory has DW_FORM_line_strp, at byte
+/// The unit of tests/data/operations, as the assembler wrote it. The path of its directory has DW_FORM_line_strp, at byte
 /// 32, and those of its files DW_FORM_strp, at byte 40.
 const UNIT: [u8; 75] = [
     0x47, 0, 0, 0, 5, 0, 8, 0, 0x2a, 0, 0, 0, 4, 2, 1, 0xfd, 0x0c, 0x0d, 0, 1, 1, 1, 1, 0, 0, 0, 1,

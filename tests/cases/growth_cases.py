@@ -3,9 +3,9 @@ long."""
 from dataclasses import dataclass
 from typing import Callable
 
-import growth_inputs as inputs
-from elf_files import CREL
-from growth_inputs import (
+import cases.growth_inputs as inputs
+from lib.elf import CREL
+from cases.growth_inputs import (
     BASE, LINE_STRP, STRP, Input, asked, compressed_elf, directories, elf, lines, long_name, older_directories, older_units,
     units)
 

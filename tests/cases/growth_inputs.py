@@ -6,10 +6,10 @@ import struct
 import zlib
 from dataclasses import dataclass, field
 
-from elf_files import (
+from lib.elf import (
     ALLOC, COMPRESSED, CREL, EXECINSTR, LITTLE_64, OBJECT, RELA, SYMTAB, Form, Section, compact, image, line_unit, relocation,
     symbol)
-from sections.units import FIELDS, table, uleb, unit_of
+from cases.units import FIELDS, table, uleb, unit_of
 
 # Content codes and forms of the tables.
 PATH, DIRECTORY = 1, 2

@@ -2,9 +2,9 @@
 bytes are left. The sections are worked by hand from DWARF 5, section 6.2."""
 from dataclasses import replace
 
-from elf_cases import CHECK, COMMANDS, Case, all_stop, dumps, stops
-from elf_contents import deflated
-from elf_files import BIG_32, BIG_64, ET_DYN, ET_REL, LITTLE_32, LITTLE_64, Section, image
+from cases.elf_cases import CHECK, COMMANDS, Case, all_stop, dumps, stops
+from cases.elf_contents import deflated
+from lib.elf import BIG_32, BIG_64, ET_DYN, ET_REL, LITTLE_32, LITTLE_64, Section, image
 
 # One row, at address 0.
 SMALLEST = (b"\x21\0\0\0\x05\0\x08\0\x16\0\0\0\x01\x01\x01\xfb\x0e\x0d"

@@ -1,6 +1,6 @@
 """Worked headers, and headers that are refused at a byte."""
-from sections.cases import UNIT, Refused, Whole, row
-from sections.units import (
+from lib.dumps import UNIT, Refused, Whole, row
+from cases.units import (
     BIG_DWARF64_WITH_MD5, BLOCK_PAST_THE_HEADER, DWARF64_WITH_MD5, EACH_FORM, EACH_FORM_COPIED, EMPTY_PROGRAM,
     HUGE_DIRECTORY_COUNT, LINE_STRP_DIRECTORY, MD5, OPCODE_BASE_10, OPCODE_BASE_10_COPIED, PADDING_OF_THREE_BYTES,
     TWO_THOUSAND_DIRECTORIES, table, uleb, unit, unit_of, unit_of_values)

@@ -4,7 +4,7 @@ import zlib
 from dataclasses import dataclass
 from typing import Union
 
-from elf_files import (
+from lib.elf import (
     BIG_32, BIG_64, DIRECTORY_AND_FILE, LITTLE_32, LITTLE_64, NOBITS, NOTE, Form, Section, changed, image, line_unit,
     place_of, unit_text)
 

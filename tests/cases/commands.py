@@ -1,8 +1,8 @@
 """Worked sections of several units, and places that are looked up."""
-from sections.cases import UNIT, TRUNCATED, Run, counts_of, damage, error, row, text
-from sections.headers import DWARF64_DUMP, EACH_FORM_DUMP
-from sections.programs import THREE_DUMP
-from sections.units import (
+from lib.dumps import UNIT, TRUNCATED, Run, counts_of, damage, error, row, text
+from cases.headers import DWARF64_DUMP, EACH_FORM_DUMP
+from cases.programs import THREE_DUMP
+from cases.units import (
     BIG_DWARF64_WITH_MD5, BIG_OPERATIONS, DWARF64_WITH_MD5, EACH_FORM, EMPTY_PROGRAM, FOREIGN, NO_TABLES, OPCODE_BASE_10, PADDED,
     PADDED_COPIED, PADDING_OF_THREE_BYTES, SMALLEST, THREE_ROWS, THREE_ROWS_AND_A_BYTE, WITH_FILE, unit_of)
 

@@ -1,6 +1,6 @@
 """Worked programs, and programs that are refused at a byte."""
-from sections.cases import UNIT, Refused, Whole, row
-from sections.units import (
+from lib.dumps import UNIT, Refused, Whole, row
+from cases.units import (
     BIG_FIXED_ADVANCE, BIG_SMALLEST, BIG_THREE_ROWS, OPCODE_BASE_14, PADDED, PADDED_COPIED, SKIPPED_OPERANDS,
     SMALLEST, THREE_ROWS, THREE_ROWS_AND_A_BYTE, WITH_FILE, unit)
 

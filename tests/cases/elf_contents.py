@@ -3,9 +3,9 @@ import struct
 import zlib
 from dataclasses import replace
 
-from elf_cases import (
+from cases.elf_cases import (
     CHECK, COMMANDS, COUNTS, DUMP, LINE, LINE_STR, STR, TEXT, Case, all_stop, dumps, line_section, stops, text_of)
-from elf_files import (
+from lib.elf import (
     ALLOC, BIG_32, BIG_64, COMPRESSED, CREL, ET_CORE, ET_DYN, ET_EXEC, ET_REL, EXECINSTR, LITTLE_32, LITTLE_64, NOBITS,
     OBJECT, REL, RELA, SYMTAB, SYMTAB_SHNDX, WRITE, Form, Section, changed, compact, image, line_unit, place_of,
     relocation, symbol, unit_text)

@@ -2,9 +2,9 @@
 from dataclasses import dataclass
 from typing import Callable
 
-import growth_inputs as inputs
-from growth_cases import ADDR, FIRST, LINES, MADE, MAKE
-from growth_inputs import LINE_STRP, STRP, compressed_elf, elf, lines, long_name, older_units, padded, units
+import cases.growth_inputs as inputs
+from cases.growth_cases import ADDR, FIRST, LINES, MADE, MAKE
+from cases.growth_inputs import LINE_STRP, STRP, compressed_elf, elf, lines, long_name, older_units, padded, units
 
 LENGTH = 10_000_000
 

@@ -3,10 +3,10 @@ take."""
 from dataclasses import dataclass
 from typing import Callable
 
-import growth_inputs as inputs
-from elf_files import Section
-from growth_cases import ADDR, FIRST, LINES, MADE, MAKE, NONE
-from growth_inputs import LINE_STRP, STRP, compressed_elf, elf, lines, long_name, units, wide_units
+import cases.growth_inputs as inputs
+from lib.elf import Section
+from cases.growth_cases import ADDR, FIRST, LINES, MADE, MAKE, NONE
+from cases.growth_inputs import LINE_STRP, STRP, compressed_elf, elf, lines, long_name, units, wide_units
 
 # What a run may take more where it holds nothing of its files.
 SLACK = 2 << 20
