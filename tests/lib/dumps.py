@@ -1,4 +1,4 @@
-"""What a case of `try-sections.py` is, and the runs of dwline that it stands for."""
+"""What a case of a section on standard input is, and the runs that it stands for."""
 import re
 from typing import NamedTuple, Optional
 

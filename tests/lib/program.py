@@ -88,8 +88,7 @@ def by_hand(words, stdin=b"", cwd=None, env=None):
 def kept(stdin):
     """A file of what went to standard input."""
     path = os.path.join(folder(), "stdin")
-    with open(path, "wb") as file:
-        file.write(stdin)
+    write(path, stdin)
     return path
 
 
@@ -100,8 +99,7 @@ def folder(files=None):
     for name, content in (files or {}).items():
         path = os.path.join(made, name)
         os.makedirs(os.path.dirname(path), exist_ok=True)
-        with open(path, "wb") as file:
-            file.write(content)
+        write(path, content)
     return made
 
 
@@ -126,3 +124,16 @@ def data(*parts):
 def pattern(text):
     """A pattern over several lines, for `expect`."""
     return re.compile(text, re.MULTILINE)
+
+
+def numbered(cases):
+    """The cases, in which a name that came before has a number behind it."""
+    seen = {}
+    for name, call in cases:
+        seen[name] = seen.get(name, 0) + 1
+        yield (name if seen[name] == 1 else f"{name} ({seen[name]})"), call
+
+
+def write(path, content):
+    with open(path, "wb") as file:
+        file.write(content)
