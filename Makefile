@@ -20,11 +20,10 @@ tries = compare-with-dwline.sh compare-json.py try-archives.sh try-damaged.py tr
 
 version = $(shell sed -n 's/^.* VERSION: &str = "\(.*\)";$$/\1/p' crates/dl_options/src/command_line.rt)
 
-# The program, at crates/dwline/out/dwline. A line tells of each crate as its proof begins and ends; the last one is
-# proved with the program, whose log is crates/dwline/out/prove.log as those of the others. With KEEP=1 what was checked is kept
-# for the next proof.
+# The program, at crates/dwline/out/dwline. A line tells of each crate that is proved; out/prove.log has what the prover says, and
+# out/seconds what each crate took.
 dwline:
-	tools/prove.sh dwline
+	tools/rt prove dwline
 
 # What `dwline dump` prints of a section that ships with the repository.
 example: dwline
@@ -38,8 +37,12 @@ try:
 
 # The library for C, proved.
 lib:
-	tools/prove.sh dl_c
-	$(MAKE) library
+	tools/rt prove dl_c
+	$(MAKE) archive library
+
+# The archive of dl_c, where what was proved had no need to be proved again.
+archive:
+	test -e crates/dl_c/out/libdl_c.a || bindings/c/archive.sh
 
 # Out of what rt built of dl_c: out/libboxantrel.a, out/libboxantrel.so and what pkg-config reads of it.
 library:
@@ -81,9 +84,9 @@ clean:
 uninstall:
 	rm -f $(bin) $(man) $(bash) $(zsh) $(fish) $(archive) $(shared) $(header) $(package)
 
-# Every proof from nothing, edits that must be refused, every test; then the sections of examples/. `rt ci` proves
-# the library for C and leaves it to be compiled. A library that it keeps from an earlier run of the same files has the time of
-# that run: it is given the present one, since what comes next looks whether a library is older than its files.
+# Every proof from nothing, edits that must be refused, every test; then the sections of examples/. A library that is kept from
+# an earlier run of the same files has the time of that run: it is given the present one, since what comes next looks whether a
+# library is older than its files.
 test:
 	rm -f crates/dwline/out/dwline crates/dl_c/out/libdl_c.a out/libboxantrel.a
 	tools/rt ci
@@ -96,8 +99,7 @@ edits:
 	tools/wrong-bodies.py --of HEAD
 
 # What `compare` does, over the libraries that `rt ci` left.
-compare-proved:
-	bindings/c/archive.sh
+compare-proved: archive
 	$(MAKE) library
 	$(MAKE) compare-built
 
@@ -118,6 +120,6 @@ compare-built:
 $(tries):
 	examples/$@
 
-.PHONY: dwline example lib library try install install-lib dist dist-built clean uninstall test edits wrong-bodies compare \
+.PHONY: dwline example lib archive library try install install-lib dist dist-built clean uninstall test edits wrong-bodies compare \
 	compare-proved compare-built \
 	$(tries)

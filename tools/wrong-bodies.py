@@ -100,8 +100,9 @@ def lacking(crates):
 
 
 def build_libraries(crates):
-    for name in lacking(crates):
-        subprocess.run([f"{ROOT}/tools/prove.sh", name], check=True)
+    missing = lacking(crates)
+    if missing:
+        subprocess.run([f"{ROOT}/tools/rt", "prove", *missing], check=True)
     still = lacking(crates)
     if still:
         sys.exit(f"not built: {' '.join(still)}")
