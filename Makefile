@@ -16,7 +16,7 @@ package = $(DESTDIR)$(PREFIX)/lib/pkgconfig/boxantrel.pc
 
 # The scripts that try what is built.
 tries = compare-with-dwline.sh compare-json.py try-archives.sh try-damaged.py try-debug-files.sh try-documents.sh try-dwline.sh \
-	try-files.py try-growth.py try-index.py try-install.sh try-library.sh try-readme.py try-truncated.py
+	try-files.py try-index.py try-install.sh try-library.sh try-readme.py try-truncated.py
 
 version = $(shell sed -n 's/^.* VERSION: &str = "\(.*\)";$$/\1/p' crates/dl_options/src/command_line.rt)
 
