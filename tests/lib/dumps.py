@@ -112,3 +112,22 @@ def fronts_of_refused(case):
         if not case.at_last and length > case.offset:
             errors += (fault,)
         yield Run(f"{case.name}, {length} bytes", ("check", *case.order), section, 1, b"", errors)
+
+
+def version_5(dump):
+    """A dump of which only units of version 5 are read."""
+    lines, is_older = [], False
+    for line in dump.splitlines(True):
+        fields = line.split()
+        if fields[0] == b"unit":
+            is_older = fields[2] != b"version" and int(fields[4]) < 5
+            if is_older:
+                lines.append(b" ".join([*fields[:2], *fields[3:5], b"skipped\n"]))
+        if not is_older:
+            lines.append(line)
+    return b"".join(lines)
+
+
+def addresses_of(dump):
+    """The addresses of the rows of a dump, each once."""
+    return sorted(set(re.findall(rb"(?m)^row (0x[0-9a-f]*) ", dump)))

@@ -168,3 +168,16 @@ def symbol(form, value=0, section=0):
     if form.wide:
         return form.pack("IBBHQQ", 0, 0, 0, section, value, 0)
     return form.pack("IIIBBH", 0, value, 0, 0, 0, section)
+
+
+def sections_of(elf):
+    """The sections of an ELF file: the name of each, where its bytes begin and end, and whether it has code."""
+    order = "<" if elf[5] == 1 else ">"
+    wide = elf[4] == 2
+    table, = struct.unpack_from(order + ("Q" if wide else "I"), elf, 40 if wide else 32)
+    size, count, names = struct.unpack_from(order + "HHH", elf, 58 if wide else 46)
+    form = order + ("IIQQQQ" if wide else "IIIIII")
+    headers = [struct.unpack_from(form, elf, table + number * size) for number in range(count)]
+    at = headers[names][4]
+    return [(elf[at + name:elf.index(0, at + name)].decode(), offset, offset + length, flags & 4 != 0)
+            for name, _, flags, _, offset, length in headers]
