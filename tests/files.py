@@ -6,13 +6,9 @@ import os
 import subprocess
 
 from cases import elf_cases, elf_contents, elf_jobs
-from lib.program import DWLINE, SECONDS, Ran, by_hand, differences, folder, numbered
+from lib.program import DWLINE, ENVIRONMENT, SECONDS, Ran, by_hand, differences, folder, numbered
 
 GROUPS = elf_cases.GROUPS + elf_contents.GROUPS + elf_jobs.GROUPS
-
-# The system's environment, without what says where a cache of debug information is.
-ENVIRONMENT = {name: value for name, value in os.environ.items()
-               if name not in ("DEBUGINFOD_CACHE_PATH", "XDG_CACHE_HOME", "HOME")}
 
 
 def cases():

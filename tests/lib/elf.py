@@ -83,13 +83,18 @@ def image(form, sections):
 def place_of(file, number, field):
     """Where a field of section header `number` stands in a little-endian file of 64 bits."""
     table, = struct.unpack_from("<Q", file, 40)
-    fields = {"name": 0, "type": 4, "offset": 24, "size": 32, "link": 40}
+    fields = {"name": 0, "type": 4, "flags": 8, "offset": 24, "size": 32, "link": 40}
     return table + 64 * number + fields[field]
 
 
 def changed(file, at, byte):
     """The file with this byte at a place of it."""
     return file[:at] + bytes([byte]) + file[at + 1:]
+
+
+def replaced(file, at, those):
+    """The file with these bytes at a place of it."""
+    return file[:at] + those + file[at + len(those):]
 
 
 def uleb(number):
@@ -181,3 +186,11 @@ def sections_of(elf):
     at = headers[names][4]
     return [(elf[at + name:elf.index(0, at + name)].decode(), offset, offset + length, flags & 4 != 0)
             for name, _, flags, _, offset, length in headers]
+
+
+def section_of(elf, name):
+    """The number of the first section of a name, and where its bytes begin and end."""
+    for number, (other, start, end, _) in enumerate(sections_of(elf)):
+        if other == name:
+            return number, start, end
+    raise KeyError(name)

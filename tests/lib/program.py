@@ -18,15 +18,28 @@ SECONDS = 60
 
 Ran = namedtuple("Ran", "status out err")
 
+# The system's environment, without what says where a cache of debug information is.
+ENVIRONMENT = {name: value for name, value in os.environ.items()
+               if name not in ("DEBUGINFOD_CACHE_PATH", "XDG_CACHE_HOME", "HOME")}
+
 # The folders that the case at hand made.
 _folders = []
 
 
 def run(*words, stdin=b"", cwd=None, env=None):
-    """What the program does with these words. `env` is put on top of the environment."""
-    whole = dict(os.environ, **env) if env else None
-    done = subprocess.run([DWLINE, *words], input=stdin, stdout=subprocess.PIPE, stderr=subprocess.PIPE, cwd=cwd,
-                          env=whole, timeout=SECONDS)
+    """What the program does with these words. On standard input come bytes, or what the path leads to that is given as
+    a text. `env` is put on top of the environment."""
+    options = dict(stdout=subprocess.PIPE, stderr=subprocess.PIPE, cwd=cwd, env=dict(ENVIRONMENT, **(env or {})),
+                   timeout=SECONDS)
+    if isinstance(stdin, str):
+        # A folder can be opened and not be read.
+        handle = os.open(stdin, os.O_RDONLY)
+        try:
+            done = subprocess.run([DWLINE, *words], stdin=handle, **options)
+        finally:
+            os.close(handle)
+    else:
+        done = subprocess.run([DWLINE, *words], input=stdin, **options)
     return Ran(done.returncode, done.stdout, done.stderr)
 
 
@@ -78,8 +91,8 @@ def by_hand(words, stdin=b"", cwd=None, env=None):
     """A line for the shell that does the same."""
     line = " ".join([f"{name}={shlex.quote(value)}" for name, value in (env or {}).items()]
                     + [shlex.quote(os.fsdecode(word)) for word in (DWLINE, *words)])
-    if len(stdin) > 100:
-        line += " < " + shlex.quote(kept(stdin))
+    if isinstance(stdin, str) or len(stdin) > 100:
+        line += " < " + shlex.quote(stdin if isinstance(stdin, str) else kept(stdin))
     elif stdin:
         line = "printf '" + "".join(f"\\{byte:03o}" for byte in stdin) + "' | " + line
     return f"cd {shlex.quote(os.fsdecode(cwd))} && {line}" if cwd else line
