@@ -14,7 +14,7 @@ from cases.locations import MAIN, RANGE, SERIES
 from lib.dumps import counts_of
 from lib.elf import place_of, replaced, section_of
 from lib.folders import dump, program
-from lib.program import DATA, DWLINE, data, expect, folder, numbered, path, run
+from lib.program import DATA, DWLINE, Skipped, data, expect, folder, numbered, path, run
 
 
 def cases():
@@ -102,9 +102,9 @@ def try_newer_same():
 
 
 def try_compiled():
-    """An object file of version 4 whose path is whole. Without gcc there is none to try."""
+    """An object file of version 4 whose path is whole."""
     if not shutil.which("gcc"):
-        return None
+        return Skipped("gcc isn't installed")
     where = folder({"one.c": b"int one(void) { return 1; }\n"})
     source, file = os.path.join(where, "one.c"), os.path.join(where, "one.o")
     subprocess.run(["gcc", "-gdwarf-4", "-Wa,--gdwarf-4", "-c", source, "-o", file], check=True)
@@ -127,6 +127,8 @@ def try_objects():
 def try_compressed_info():
     """.debug_info that is compressed says the same directory. Where its stream is damaged, its check value being wrong, no
     directory is known."""
+    if not shutil.which("objcopy"):
+        return Skipped("objcopy isn't installed")
     where = folder({"packed": data("gcc-dwarf4", "program")})
     packed, damaged = os.path.join(where, "packed"), os.path.join(where, "damaged")
     subprocess.run(["objcopy", "--compress-debug-sections", packed], check=True)

@@ -18,6 +18,11 @@ SECONDS = 60
 
 Ran = namedtuple("Ran", "status out err")
 
+
+class Skipped(str):
+    """Why a case can't run here: what a call answers then."""
+
+
 # The system's environment, without what says where a cache of debug information is.
 ENVIRONMENT = {name: value for name, value in os.environ.items()
                if name not in ("DEBUGINFOD_CACHE_PATH", "XDG_CACHE_HOME", "HOME")}
