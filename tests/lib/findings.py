@@ -1,8 +1,7 @@
-#!/usr/bin/env python3
-"""finding-numbers.py: of the findings that `dwline lint --json` writes, on standard input, the numbers that the library tells of each, in a
-line: the offset, the place of the rule, the number, address and op_index of the row, and four numbers of what is found."""
+"""The numbers that the library tells of what `dwline lint --json` finds: the offset, the place of the rule, the number,
+address and op_index of the row, and four numbers of what is found."""
+
 import json
-import sys
 
 # The names under which the numbers of a rule stand, in their order.
 NAMES = {
@@ -55,10 +54,7 @@ def numbers(finding):
         yield number(finding[name])
 
 
-def main():
-    for line in sys.stdin:
-        told = list(numbers(json.loads(line)))
-        print(*told, *[0] * (9 - len(told)))
-
-
-main()
+def lines(objects):
+    """A line of numbers for each of the objects."""
+    told = [[str(it) for it in numbers(json.loads(line))] for line in objects.splitlines()]
+    return "".join(" ".join(it + ["0"] * (9 - len(it))) + "\n" for it in told).encode()

@@ -1,4 +1,4 @@
-/* The memory of the library as in memory.c, but the growth is refused whose number, from 1 on, the environment variable
+/* The memory of the library as in bindings/c/memory.c, but the growth is refused whose number, from 1 on, the environment variable
    REFUSED has. */
 #include <stdbool.h>
 #include <stdlib.h>
@@ -23,4 +23,4 @@ static void *try_realloc(void *at, size_t size)
 
 #define malloc try_malloc
 #define realloc try_realloc
-#include "memory.c"
+#include "../../bindings/c/memory.c"
