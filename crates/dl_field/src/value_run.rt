@@ -6,7 +6,7 @@ ghost use Rattle.dl_table.specs.Held.{held_end, values_end};
 
 use crate::table_reader::{TablePhase, TableReader};
 use crate::value_phase::{Cursor, ValuePhase};
-use crate::whole_value::{number_at_front, short_leb_at_front, sixteen_at_front};
+use crate::whole_value::common_at_front;
 use dl_num::Order;
 use dl_table::text::first_zero;
 use dl_table::{Extent, Format, StoredValue};
@@ -68,22 +68,12 @@ impl TableReader {
     {
         let next = at.next(self.pairs.len())?;
         let form = self.pairs[at.column].form;
-        match ValuePhase::new(form, format, self.pool.len()) {
-            ValuePhase::Number(form, number) => {
-                let (held, tail) = number_at_front(form, number, order, bytes)?;
-                Some((next, self.hold(held, tail)?))
-            }
-            ValuePhase::Leb(number) => {
-                let (held, tail) = short_leb_at_front(number, bytes)?;
-                Some((next, self.hold(held, tail)?))
-            }
-            ValuePhase::Data16(sixteen) => {
-                let (held, tail) = sixteen_at_front(sixteen, bytes)?;
-                Some((next, self.hold(held, tail)?))
-            }
-            ValuePhase::Text(_) => Some((next, self.hold_text(bytes)?)),
-            _ => None,
+        let value = ValuePhase::new(form, format, self.pool.len());
+        if let ValuePhase::Text(_) = value {
+            return Some((next, self.hold_text(bytes)?));
         }
+        let (held, tail) = common_at_front(value, order, bytes)?;
+        Some((next, self.hold(held, tail)?))
     }
 
     /// Enters a value that is complete, and gives back the bytes after it. None, and nothing is entered, where memory is

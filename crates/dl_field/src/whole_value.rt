@@ -90,6 +90,23 @@ fn value_at_front(value: ValuePhase, order: Order, bytes: &[u8]) -> Option<(Stor
     }
 }
 
+/// The same of a number in LEB128 only where it has no more than two bytes.
+#[inline(always)]
+pub(crate) fn common_at_front(
+    value: ValuePhase,
+    order: Order,
+    bytes: &[u8],
+) -> Option<(StoredValue, &[u8])>
+    ensures { IfSome result (λ found. InFront order value bytes.entry.now found.0 found.1.now) }
+{
+    match value {
+        ValuePhase::Number(form, number) => number_at_front(form, number, order, bytes),
+        ValuePhase::Leb(number) => short_leb_at_front(number, bytes),
+        ValuePhase::Data16(sixteen) => sixteen_at_front(sixteen, bytes),
+        _ => None,
+    }
+}
+
 /// The length of a block that the bytes begin with, and the bytes after it, where none of its bytes has come. None
 /// where the bytes end before it does, where it is 2^64 or more, and for values that are no blocks.
 fn length_at_front(value: ValuePhase, order: Order, bytes: &[u8]) -> Option<(u64, &[u8])>

@@ -45,12 +45,16 @@ fn names_str<R: Source>(alloc: Global, dialect: Dialect, input: &mut R) -> Resul
     let mut left = SECTION_LIMIT;
     while !walk.is_over() {
         let Ok(piece) = buffer.next_piece(input) else {
+            drop(walk);
             return Err(RunFault::Read);
         };
         if piece.is_empty() {
-            return Ok(walk.names_str());
+            let names = walk.names_str();
+            drop(walk);
+            return Ok(names);
         }
         if left < piece.len() as u64 {
+            drop(walk);
             return Err(RunFault::SectionTooLong);
         }
         left -= piece.len() as u64;
@@ -59,7 +63,9 @@ fn names_str<R: Source>(alloc: Global, dialect: Dialect, input: &mut R) -> Resul
             Err(_) => return Err(RunFault::NoMemory),
         };
     }
-    Ok(walk.names_str())
+    let named = walk.names_str();
+    drop(walk);
+    Ok(named)
 }
 
 /// The same of the line section of the file at this path. Where it is inflated as it is read and a read fails, its tables

@@ -20,10 +20,10 @@ returns-then-is_empty g c =
     let read = l.invariant.read in
     let nothing = empty_is c.in-Ok.piece.now (sym c.is_empty.ensures ∙ c.if-is_empty.true) in
     record {
-      told = at_end c.args.dialect _ _ (read.0 ++ c.in-Ok.piece.now) c.names_str.result
+      told = at_end c.args.dialect _ _ (read.0 ++ c.in-Ok.piece.now) c.names_str-names.result
           (Consumes-trans _ _ _ read.0 c.in-Ok.piece.now read.1 c.in-Ok.ensures.ok)
-          (told_in l.walk.dialect c.args.dialect read.0 (read.0 ++ c.in-Ok.piece.now) c.names_str.result l.invariant.dialect
-          (sym (ap (λ (z : List ℕ). read.0 ++ z) nothing ∙ append-nil read.0)) (c.names_str.ensures read.0 read.2))
+          (told_in l.walk.dialect c.args.dialect read.0 (read.0 ++ c.in-Ok.piece.now) c.names_str-names.result l.invariant.dialect
+          (sym (ap (λ (z : List ℕ). read.0 ++ z) nothing ∙ append-nil read.0)) (c.names_str-names.ensures read.0 read.2))
           (c.in-Ok.ensures.end nothing);
       settled = λ e. inl (c.in-Ok.ensures.over nothing);
       blames = blames_next _ l.invariant.follows c.next_piece.ensures.blames (λ e. absurd cc);
@@ -76,16 +76,16 @@ returns g c =
     let l = c.loop-buffer in
     let read = l.invariant.read in
     record {
-      told = over c.args.dialect _ _ read.0 c.names_str-2.result read.1
-          (told_in l.walk.dialect c.args.dialect read.0 read.0 c.names_str-2.result l.invariant.dialect refl
-          (c.names_str-2.ensures read.0 read.2))
+      told = over c.args.dialect _ _ read.0 c.names_str-named.result read.1
+          (told_in l.walk.dialect c.args.dialect read.0 read.0 c.names_str-named.result l.invariant.dialect refl
+          (c.names_str-named.ensures read.0 read.2))
           (same_over l.walk.dialect c.args.dialect read.0 l.invariant.dialect
           (λ rest. c.is_over.ensures.settled read.0 rest read.2 c.loop-buffer-test.false));
-      settled = λ e. inr (none_follow c.args.dialect _ _ read.0 c.names_str-2.result read.1
-          (told_in l.walk.dialect c.args.dialect read.0 read.0 c.names_str-2.result l.invariant.dialect refl
-          (c.names_str-2.ensures read.0 read.2))
+      settled = λ e. inr (none_follow c.args.dialect _ _ read.0 c.names_str-named.result read.1
+          (told_in l.walk.dialect c.args.dialect read.0 read.0 c.names_str-named.result l.invariant.dialect refl
+          (c.names_str-named.ensures read.0 read.2))
           (same_over l.walk.dialect c.args.dialect read.0 l.invariant.dialect
-          (λ rest. c.is_over.ensures.settled read.0 rest read.2 c.loop-buffer-test.false)) (said c.names_str-2.result e));
+          (λ rest. c.is_over.ensures.settled read.0 rest read.2 c.loop-buffer-test.false)) (said c.names_str-named.result e));
       blames = λ first is. (l.invariant.follows first is, λ e. absurd cc);
     }
 
