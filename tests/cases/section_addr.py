@@ -84,7 +84,8 @@ NOWHERE = bytes.fromhex("""
 SLASHES = bytes.fromhex("""
     6e 00 00 00 05 00 08 00 36 00 00 00 01 01 01 fb 0e 0d 00 01 01 01 01 00 00 00 01 00 00 01 01 01 08 03 2f 00 00 64
     2f 00 02 01 08 02 0f 04 61 2e 63 00 00 62 2e 63 00 01 63 2e 63 00 02 68 2e 63 00 09 00 09 02 00 60 00 00 00 00 00
-    00 04 00 05 01 01 02 10 04 01 03 01 05 02 01 02 10 04 02 03 01 05 03 01 02 10 04 03 03 01 05 04 01 02 10 00 01 01""")
+    00 04 00 05 01 01 02 10 04 01 03 01 05 02 01 02 10 04 02 03 01 05 03 01 02 10 04 03 03 01 05 04 01 02 10 00
+    01 01""")
 
 # Directories `/pwd` and an empty one, `a.c` in the latter, and a file without a name in the former.
 EMPTY = bytes.fromhex("""
@@ -147,7 +148,8 @@ def located(address, path, line, column, unit, discriminator=0, is_stmt=True, **
                       separators=(",", ":"), ensure_ascii=False) + "\n"
 
 
-# Addresses in the order in which they are given, one of them twice; in gaps, at the end of a sequence, and above all rows.
+# Addresses in the order in which they are given, one of them twice; in gaps, at the end of a sequence, and above all
+# rows.
 EACH = "0x1040 0x1c0 {}0x100f 4160 0x10b0 0x10af 0xffffffffffffffff 0xfffffffffffffffe 0"
 EACH_TEXT = "/whole.c:14:4\n??:0\n{}/src/main.c:10\n/whole.c:14:4\n??:0\n??:30:2\n??:0\n/t/top.c:1:1\n??:0\n"
 EACH_LINES = EACH.format("main ").replace(" ", "\n").encode()
@@ -155,8 +157,10 @@ EACH_LINES = EACH.format("main ").replace(" ", "\n").encode()
 CUT = b"".join([PATHS, TOP])[:-1]
 
 ANSWERS = [
-    addr("each address has its line", EACH.format(""), [OVER, FOREIGN, PATHS, TOP], EACH_TEXT.format(""), 1, in_file=False),
-    asked("each line has its line", "", EACH_LINES, [OVER, PATHS, TOP], EACH_TEXT.format("??:0\n"), 1, not_address(3, "main")),
+    addr("each address has its line", EACH.format(""), [OVER, FOREIGN, PATHS, TOP], EACH_TEXT.format(""), 1,
+         in_file=False),
+    asked("each line has its line", "", EACH_LINES, [OVER, PATHS, TOP], EACH_TEXT.format("??:0\n"), 1,
+          not_address(3, "main")),
     # The first of two sequences that cover an address answers, also of two units.
     addr("the first sequence answers", "0x140 0x17f 0x180 0x45", [OVER, DEAD, PATHS],
          "/o/one.c:1:1\n/o/one.c:1:1\n/o/two.c:2:2\n/d/dead.c:2:2\n"),
@@ -172,8 +176,8 @@ ANSWERS = [
     addr("no address in no section", "0x1000", [], "??:0\n", 1),
 ]
 
-# A character doesn't go across the slash between two parts of a path, and the texts of one unit aren't those of another:
-# an address of each file of `BORDERS` and of `OTHER`, the units in turns.
+# A character doesn't go across the slash between two parts of a path, and the texts of one unit aren't those of
+# another: an address of each file of `BORDERS` and of `OTHER`, the units in turns.
 OF_EACH = "0xb000 0xa000 0xa010 0xb010 0xa020 0xa030 0xa040 0xa050"
 
 ACROSS = [
@@ -223,12 +227,13 @@ DIRECTORIES = [
          located(0x5020, "??", 3, 3, 0) + located(0x10a0, None, 30, 2, 0x70)),
 ]
 
-# A backslash prints as two, so that a name with `\x0a` and one with a newline differ. Control bytes, and bytes that aren't part
-# of UTF-8, print by their numbers.
+# A backslash prints as two, so that a name with `\x0a` and one with a newline differ. Control bytes, and bytes that
+# aren't part of UTF-8, print by their numbers.
 ESCAPES = [
     addr("escapes", "0x8000 0x8010 0x8020 0x8030 0x8040 0x8050 0x8060 0x8070 0x8080", [NAMES],
          "/d/q\\\\x0a.c:1:1\n/d/q\\x0a.c:2:2\n/d/\u00e9.c:3:3\n/d/\\xff\\x80.c:4:4\n/d/\\xc0\\x80\\xed\\xa0\\x80:5:5\n"
-         "/d/\\xe2\\x82.c\\xe2\\x82:6:6\n/d/\U0001f600\\xf4\\x90\\x80\\x80:7:7\n/d/\u0085:8:8\n/d/\\x09\\x7f\\\\:9:9\n"),
+         "/d/\\xe2\\x82.c\\xe2\\x82:6:6\n/d/\U0001f600\\xf4\\x90\\x80\\x80:7:7\n/d/\u0085:8:8\n"
+         "/d/\\x09\\x7f\\\\:9:9\n"),
     addr("escapes of basenames", "-s 0x8000 0x8050 0x8080", [NAMES],
          "q\\\\x0a.c:1:1\n\\xe2\\x82.c\\xe2\\x82:6:6\n\\x09\\x7f\\\\:9:9\n"),
 ]
@@ -241,8 +246,8 @@ QUOTED = [
     addr("quotes", "0x13 0x18", [OVER, QUOTES, PATHS], '/q"/a\\\\b:1\n??:0\n', 1),
 ]
 
-# An address of each file of `PATHS`. A path that begins with a slash or a drive stands for itself, others stand under their
-# directory, and a directory other than 0 under directory 0. One that isn't there puts nothing before them.
+# An address of each file of `PATHS`. A path that begins with a slash or a drive stands for itself, others stand under
+# their directory, and a directory other than 0 under directory 0. One that isn't there puts nothing before them.
 FILES = "0x1000 0x1010 0x1020 0x1030 0x1040 0x1050 0x1060 0x1070 0x1080 0x1090 0x10a0"
 
 # The path under the compilation directory is one of Windows or not, and so is its last component.
@@ -256,9 +261,9 @@ UNDER = [
 
 DIRECTORY, FILE = b"./d\0", b"\0\0f.c\0"
 
-# Where a string section isn't there, or an offset is outside it, the directory puts nothing before the path, and without its own
-# text the path is `??`. Two backslashes before the name of a machine begin a whole path, of a file and of a directory; one
-# doesn't.
+# Where a string section isn't there, or an offset is outside it, the directory puts nothing before the path, and
+# without its own text the path is `??`. Two backslashes before the name of a machine begin a whole path, of a file and
+# of a directory; one doesn't.
 TEXTS = [
     (DIRECTORY, FILE, "/d/f.c:1:1\n"),
     (None, FILE, "f.c:1:1\n"),
@@ -287,8 +292,8 @@ WHOLE = [
 LIVE, DEAD_TOO, MAIN = "/d/live.c:7:3\n", "/d/dead.c:2:2\n", "/src/main.c:11:1\n"
 NONE = "??:0\n"
 
-# A sequence answers where its first address lies in the code, whatever its others do. The end of a range of code, which may
-# pass 2^64, isn't in it. Without any code nothing answers.
+# A sequence answers where its first address lies in the code, whatever its others do. The end of a range of code, which
+# may pass 2^64, isn't in it. Without any code nothing answers.
 OF_CODE = [
     addr(f"code of 0x{size:x} bytes from 0x{start:x} on", "0x45 0x50 0x1010", [PATHS, DEAD], "".join(lines),
          int(NONE in lines), code=((start, size),))
@@ -302,8 +307,8 @@ OF_CODE = [
     ]
 ]
 
-# An address, one with a 0x0d after it, blanks alone, one between blanks, what is none, a 0x0d that ends no line, an empty line,
-# and a last line without its 0x0a.
+# An address, one with a 0x0d after it, blanks alone, one between blanks, what is none, a 0x0d that ends no line, an
+# empty line, and a last line without its 0x0a.
 LINES = b"0x10\n17\r\n \t \r\n\t 18 \nmain\n1\r2\n\n1f"
 
 

@@ -164,10 +164,11 @@ OPERATIONS = [
 ]
 
 # The file that an operation defines has no path. Directory 0 of version 5 is that of the compilation, whatever is said.
-# By section 6.2.4 a path of `PATHS` that isn't whole stands under its directory, and that under directory 0; file 8 is in
-# a directory that isn't there, and there is no file 20.
+# By section 6.2.4 a path of `PATHS` that isn't whole stands under its directory, and that under directory 0; file 8 is
+# in a directory that isn't there, and there is no file 20.
 PATHS_OF_ROWS = [
-    Case("paths under tables", "dump --paths --older 8", OLDER, with_paths(OLDER_ALONE, ["inc/x.c", "y.c", "??", "??"])),
+    Case("paths under tables", "dump --paths --older 8", OLDER,
+         with_paths(OLDER_ALONE, ["inc/x.c", "y.c", "??", "??"])),
     Case("paths under a directory", "dump --paths --comp-dir /w --older 8", OLDER,
          with_paths(OLDER_ALONE, ["/w/inc/x.c", "/w/y.c", "??", "??"])),
     Case("paths of version 5", "dump --paths --older 8", ALL, with_paths(ALL_TEXT, ["/s/b.c"] * 6)),
@@ -177,7 +178,7 @@ PATHS_OF_ROWS = [
 
 
 def rows_with_paths(address, rows):
-    """The lines of rows of 16 bytes each, of a file, a line, a column and a path, and of an end row like the last one."""
+    """The lines of rows of 16 bytes each, which have a file, a line, a column and a path, and of an end row."""
     lines = []
     for file, line, column, path in rows:
         lines.append(f"row 0x{address:016x} 0 {file} {line} {column} stmt {path}\n")
@@ -227,14 +228,14 @@ UNITS = [
 
 
 def of_range(low, high, section, *texts):
-    return Case(f"{len(section)} bytes, 0x{low:x} to 0x{high:x}", f"dump --operations --range {low}-{high} --older 8", section,
-                "".join(texts))
+    return Case(f"{len(section)} bytes, 0x{low:x} to 0x{high:x}",
+                f"dump --operations --range {low}-{high} --older 8", section, "".join(texts))
 
 
 MOST = (1 << 64) - 1
 
-# A sequence covers the addresses from that of its first row up to that of its end row, which it doesn't. The lines of a unit
-# stand once, before the first of its sequences that is shown.
+# A sequence covers the addresses from that of its first row up to that of its end row, which it doesn't. The lines of a
+# unit stand once, before the first of its sequences that is shown.
 RANGES = [
     of_range(0x2000, 0x2001, THREE, OLDER_TEXT),
     of_range(0x1fff, 0x2001, THREE, OLDER_TEXT),
@@ -251,8 +252,8 @@ RANGES = [
     of_range(0x1003, 0x2001, TWO, TWO_UNIT, TWO_FIRST, TWO_SECOND),
     of_range(0x1004, 0x2000, TWO),
     of_range(0, 0x1000, TWO),
-    Case("a range around damage", f"dump --operations --keep-going --range 0-{MOST} --older 8", DAMAGED + OTHERS + OLDER,
-         OLDER_TEXT, DAMAGE, 1),
+    Case("a range around damage", f"dump --operations --keep-going --range 0-{MOST} --older 8",
+         DAMAGED + OTHERS + OLDER, OLDER_TEXT, DAMAGE, 1),
 ]
 
 
@@ -300,8 +301,8 @@ OLDER_OBJECTS = [
 def objects_of_values(directory, text):
     """Those of `VALUES`, where directory 0 and the text of content code 0x2002 are these."""
     return objects(
-        dict(kind="unit", offset=0, format="dwarf32", unit_length=114, version=5, address_size=8, segment_selector_size=0,
-             header_length=94, minimum_instruction_length=1, maximum_operations_per_instruction=1, default_is_stmt=0,
+        dict(kind="unit", offset=0, format="dwarf32", unit_length=114, version=5, address_size=8,
+             segment_selector_size=0, header_length=94, minimum_instruction_length=1, maximum_operations_per_instruction=1, default_is_stmt=0,
              line_base=1, line_range=1, opcode_base=10, lengths=LENGTHS[:9],
              directory_format=[{"content": "path", "form": "line_strp"}],
              file_format=[{"content": content, "form": form} for content, form in [
