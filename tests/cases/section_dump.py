@@ -302,8 +302,9 @@ def objects_of_values(directory, text):
     """Those of `VALUES`, where directory 0 and the text of content code 0x2002 are these."""
     return objects(
         dict(kind="unit", offset=0, format="dwarf32", unit_length=114, version=5, address_size=8,
-             segment_selector_size=0, header_length=94, minimum_instruction_length=1, maximum_operations_per_instruction=1, default_is_stmt=0,
-             line_base=1, line_range=1, opcode_base=10, lengths=LENGTHS[:9],
+             segment_selector_size=0, header_length=94, minimum_instruction_length=1,
+             maximum_operations_per_instruction=1, default_is_stmt=0, line_base=1, line_range=1, opcode_base=10,
+             lengths=LENGTHS[:9],
              directory_format=[{"content": "path", "form": "line_strp"}],
              file_format=[{"content": content, "form": form} for content, form in [
                  ("path", "string"), ("dir", "data1"), ("time", "udata"), ("size", "data4"), ("md5", "data16"),

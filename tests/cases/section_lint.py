@@ -103,8 +103,8 @@ TEXTS = bytes.fromhex("""
 # In the order in which they are counted.
 RULES = [
     "file-index", "directory-index", "falling-place", "no-end", "empty-sequence", "overlap", "dead-sequence",
-    "missing-text", "duplicate-file", "unused-file", "md5-missing", "long-number", "padding", "wrapped-address", "line-wrapped",
-    "no-statement", "split-instruction", "unknown-opcode", "no-code"]
+    "missing-text", "duplicate-file", "unused-file", "md5-missing", "long-number", "padding", "wrapped-address",
+    "line-wrapped", "no-statement", "split-instruction", "unknown-opcode", "no-code"]
 
 
 def counted(output):
