@@ -5,10 +5,10 @@ import functools
 import os
 import subprocess
 
-from cases import elf_cases, elf_contents, elf_jobs
+from cases import elf_cases, elf_contents, elf_jobs, elf_lookups, elf_members
 from lib.program import DWLINE, ENVIRONMENT, SECONDS, Ran, by_hand, differences, folder, numbered
 
-GROUPS = elf_cases.GROUPS + elf_contents.GROUPS + elf_jobs.GROUPS
+GROUPS = [*elf_cases.GROUPS, *elf_contents.GROUPS, *elf_jobs.GROUPS, *elf_lookups.GROUPS, *elf_members.GROUPS]
 
 
 def cases():
