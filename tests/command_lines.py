@@ -6,7 +6,7 @@ from cases import section_dump, section_sources
 from cases.command_lines import ADDRESSES, RANGES, REFUSED, SAME
 from cases.elf_lookups import INDEX, NOTE_OF_BUILD
 from cases.section_addr import PATHS, RELATIVE
-from lib.elf import ALLOC, BIG_64, DIRECTORY, EXECINSTR, LITTLE_64, Section, image, line_unit
+from lib.elf import ALLOC, BIG_64, DIRECTORY, EXECINSTR, LITTLE_64, Section, image, line_unit, unit_text
 from lib.program import Ran, data, expect, folder, pattern, run
 from lib.worked import told
 
@@ -116,10 +116,15 @@ def says_address(word, address):
     return expect(["addr", "-a", "-", "--", word], f"0x{address:016x} ??:0\n", "", 1)
 
 
+# Sequences of 4 bytes around the ends of ranges, each with its line.
+AROUND = [(12, 1), (16, 2), (28, 3), (32, 4), ((1 << 64) - 5, 5)]
+
+
 def says_range(word, limits):
-    """A range covers what one of the same numbers does, which are written in another way."""
+    """The sequences are shown that cover an address from the first number on and below the second one."""
     if limits is None:
         return expect(["dump", f"--range={word}"], "", told("words not understood"), 2)
     low, high = limits
-    given = run("dump", "--range", f"0x{low:x}-{high}", "--operations", stdin=WHOLE)
-    return expect(["dump", "--operations", f"--range={word}"], given.out, given.err, given.status, WHOLE)
+    covering = [(address, line) for address, line in AROUND if address < high and low < address + 4 and low < high]
+    section, _ = line_unit(LITTLE_64, AROUND)
+    return expect(["dump", f"--range={word}"], unit_text(LITTLE_64, covering) if covering else "", "", 0, section)
