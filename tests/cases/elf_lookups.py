@@ -1,8 +1,12 @@
 """Cases of `addr` over an index, and of `lines` and `sources` over files that are made by hand: what they print, and
 how many bytes of the input are left."""
+from dataclasses import replace
+
 from cases.elf_cases import Case
+from cases.elf_contents import CODE, LINES, with_sequences
 from cases.elf_jobs import ELF_STRINGS, LINE_STRINGS, NOT_UNDERSTOOD, THREE_ROWS
-from lib.elf import ALLOC, EXECINSTR, LITTLE_32, NOTE, Section, image
+from lib.elf import ALLOC, EXECINSTR, LITTLE_32, LITTLE_64, NOTE, Section, image
+from lib.worked import objects
 
 # An index of the build whose ID has the bytes ab, cd and ef, with the base 0x401000, by Python's struct and zlib from
 # the table of its bytes: version 1, columns of one byte each, of which each begins at a multiple of 8. The texts are
@@ -168,4 +172,15 @@ def source_files():
     yield Case("the input", b"", ["sources"], 1, "", "dwline: damage at 0x5: input ends inside a unit\n", b"input", 0)
 
 
-GROUPS = [answers, refused_indices, stopped_indices, source_lines, source_files]
+def named_sections():
+    """An object names the section that is looked into, after the address. A line that is no address has none."""
+    name = '.text."\\\n\u00e9'
+    file = with_sequences(LITTLE_64, [LINES, replace(CODE, name=name)], [2])
+    output = objects(dict(address="0x0000000000000013", section=name, path=None, line=1, column=0, discriminator=0,
+                          is_stmt=True, unit="0x0"),
+                     dict(address=None), dict(address="0x0000000000000018", section=name))
+    yield Case("a name", file, ["addr", "--json", "-j", name, "elf"], 1, output,
+               "dwline: line 2: main is no address\n", b"0x13\nmain\n0x18", 0)
+
+
+GROUPS = [answers, refused_indices, stopped_indices, source_lines, source_files, named_sections]

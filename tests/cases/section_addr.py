@@ -1,9 +1,7 @@
 """Locations of addresses in sections.
 
 The sections are worked by hand from DWARF 5, section 6.2."""
-import json
-
-from lib.worked import Case, damage, told
+from lib.worked import Case, damage, objects, told
 
 # Directories `/src`, `lib`, `/abs`, `C:\\win` and `D:/w`; a row for each of ten files and for one that the table
 # lacks, from 0x1000 on, 16 bytes each; the columns are those of the files.
@@ -141,11 +139,10 @@ def not_address(number, word):
     return told(f"line {number}: {word} is no address")
 
 
-def located(address, path, line, column, unit, discriminator=0, is_stmt=True, **section):
-    """The object of an address, which says its section where that is named."""
-    return json.dumps(dict(address=f"0x{address:016x}", **section, path=path, line=line, column=column,
-                           discriminator=discriminator, is_stmt=is_stmt, unit=f"0x{unit:x}"),
-                      separators=(",", ":"), ensure_ascii=False) + "\n"
+def located(address, path, line, column, unit, discriminator=0, is_stmt=True):
+    """The object of an address."""
+    return objects(dict(address=f"0x{address:016x}", path=path, line=line, column=column, discriminator=discriminator,
+                        is_stmt=is_stmt, unit=f"0x{unit:x}"))
 
 
 # Addresses in the order in which they are given, one of them twice; in gaps, at the end of a sequence, and above all

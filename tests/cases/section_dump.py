@@ -1,11 +1,9 @@
 """What `dump` prints of sections: operations, paths, units and sequences by themselves, and JSON objects.
 
 The sections are worked by hand from DWARF 5, section 6.2, and DWARF 4, section 6.2.4."""
-import json
-
 from cases.section_addr import PATHS, RELATIVE
 from cases.units import unit
-from lib.worked import Case, damage, told
+from lib.worked import Case, damage, objects, told
 
 # Each operation but those below, with four bytes an instruction and two operations in each, in files `a.c` and `b.c`
 # of the directory `/s`.
@@ -255,10 +253,6 @@ RANGES = [
     Case("a range around damage", f"dump --operations --keep-going --range 0-{MOST} --older 8",
          DAMAGED + OTHERS + OLDER, OLDER_TEXT, DAMAGE, 1),
 ]
-
-
-def objects(*items):
-    return "".join(json.dumps(item, separators=(",", ":"), ensure_ascii=False) + "\n" for item in items)
 
 
 def row_object(address, op_index, file, line, column=0, is_stmt=True, end=False):

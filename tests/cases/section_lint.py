@@ -1,12 +1,11 @@
 """What `lint` finds in sections.
 
 The sections are worked by hand from DWARF 5, section 6.2, and DWARF 4, section 6.2.4, but for one of GNU as."""
-import json
 import re
 
 from cases.section_addr import DEAD
 from cases.units import unit
-from lib.worked import Case, damage, told
+from lib.worked import Case, damage, objects, told
 
 # Version 5, from byte 48 on a row of file 1 at 0x1000, where the table has file 0 alone, and an end row at 0x1008.
 NEWER_FILES = bytes.fromhex("""
@@ -238,10 +237,6 @@ SECTIONS = [
     ("--rule md5-missing", UNUSED + SUMS,
      "0x64 md5-missing: no MD5 sum is given for 1 of the files, the first is file 2\n"),
 ]
-
-
-def objects(*items):
-    return "".join(json.dumps(item, separators=(",", ":")) + "\n" for item in items)
 
 
 def found(offset, rule, row, address, op_index=0, **others):

@@ -1,10 +1,8 @@
 """Source files of sections.
 
 The sections are worked by hand from DWARF 5, section 6.2, and DWARF 4, section 6.2.4."""
-import json
-
 from cases.section_addr import DEAD, RELATIVE
-from lib.worked import Case, damage, told
+from lib.worked import Case, damage, objects, told
 
 # Version 5, directory `/s` and `a.c` in it, up to its MD5 sum.
 SUMMED = bytes.fromhex("""
@@ -39,10 +37,6 @@ OLDER = bytes.fromhex("""
 def sources(name, words, units, output, error="", status=0, **others):
     words = f"sources {words} --older 8"
     return Case(f"{name}: {words}", words, b"".join(units), output, error, status, **others)
-
-
-def objects(*items):
-    return "".join(json.dumps(item, separators=(",", ":")) + "\n" for item in items)
 
 
 OF_DEAD = "/d/dead.c\n/d/live.c\n"

@@ -1,5 +1,6 @@
 """Worked sections, over which commands run: on standard input, whole and one byte a read, and as `.debug_line` of an
 ELF file of either class."""
+import json
 import socket
 import struct
 import subprocess
@@ -42,6 +43,11 @@ def told(reason):
 
 def damage(offset, fault=TRUNCATED):
     return told(f"damage at 0x{offset:x}: {fault}")
+
+
+def objects(*items):
+    """The lines of these as JSON objects."""
+    return "".join(json.dumps(item, separators=(",", ":"), ensure_ascii=False) + "\n" for item in items)
 
 
 def cases_of(table):
