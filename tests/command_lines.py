@@ -73,12 +73,8 @@ def outcome(line):
         stdin = given[words[at + 1]]
         del words[at:at + 2]
     where = folder(given)
-    ran = run(*words, stdin=stdin, cwd=where, env=NO_CACHE)
+    ran = run(*words, stdin=stdin, cwd=where)
     return Ran(*ran), {name: content_of(where, name) for name in os.listdir(where) if not is_given(name, given)}
-
-
-# Nothing says where a cache of debug files is.
-NO_CACHE = {"HOME": "", "XDG_CACHE_HOME": "", "DEBUGINFOD_CACHE_PATH": ""}
 
 
 def is_given(name, given):

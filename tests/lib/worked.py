@@ -127,7 +127,8 @@ def wrong_in_pieces(case, words, given, folder):
     ours, theirs = socket.socketpair(socket.AF_UNIX, socket.SOCK_SEQPACKET)
     pipe = subprocess.PIPE
     with theirs:
-        process = subprocess.Popen([program.DWLINE, *words], stdin=theirs, stdout=pipe, stderr=pipe, cwd=folder)
+        process = subprocess.Popen([program.DWLINE, *words], stdin=theirs, stdout=pipe, stderr=pipe, cwd=folder,
+                                   env=program.ENVIRONMENT)
     with ours:
         give(ours, given)
     output, error = process.communicate(timeout=program.SECONDS)
