@@ -1,3 +1,0 @@
-//! Paths of files, in their parts.
-
-mod parts;
