@@ -1,22 +1,22 @@
 #!/usr/bin/env python3
-"""Compares what `dwline lint` finds with what `llvm-dwarfdump --verify` tells of line tables: of the file `program` of each folder
-here, and of programs with bytes of their line tables changed.
+"""Compares what `dwline lint` finds with what `llvm-dwarfdump --verify` tells of line tables: of each file of tests/data, or
+of those that are named, and of programs with bytes of their line tables changed.
 
-    compare-verify.py [PATH OF dwline]
+Each row with a file that isn't in the table, each file with a directory that isn't, each row below the one before it and
+each file that is one of the files before it, as llvm-dwarfdump 19 tells them, has to be a finding. It takes two files for
+the same by their whole paths alone, and `lint` by all of their values. So a duplicate isn't one of ours where the tables say
+of both files different sums, lengths or times; those are counted. Debian 12: apt-get install llvm-19."""
 
-Each row with a file that isn't in the table, each file with a directory that isn't, each row below the one before it and each file
-that is one of the files before it, as llvm-dwarfdump 19 tells them, has to be a finding. It takes two files for the same by
-their whole paths alone, and `lint` by all of their values, so that a duplicate isn't one of ours where the tables say of both
-files different sums, lengths or times; those are counted. Debian 12: apt-get install llvm-19."""
 import json
 import os
 import re
-import subprocess
 import sys
 import tempfile
 
-HERE = os.path.join(os.path.dirname(os.path.abspath(__file__)), "../tests/data")
-DWLINE = os.path.abspath(sys.argv[1] if len(sys.argv) > 1 else os.path.join(HERE, "../../crates/dwline/out/dwline"))
+from readers import DWLINE, output, programs
+from lib.elf import replaced, section_of
+from lib.program import data
+
 LLVM = "llvm-dwarfdump-19"
 UNIT = r"\.debug_line\[0x(\w+)\]"
 TOLD = [
@@ -31,10 +31,6 @@ CHANGES = [
     {0x64: b"\x09", 0x3e: b"\x09"},
     {0x57: b"\0\x09\x02\0\x0f\x40\0\0\0\0\0"},
 ]
-
-
-def output(*words):
-    return subprocess.run(words, capture_output=True, text=True, errors="replace", check=False).stdout
 
 
 def units(path):
@@ -69,26 +65,24 @@ def ours(path):
             yield rule, unit, finding["row"] - 1
 
 
-def changed(work):
+def changed(folder):
     """Programs with other bytes in their line sections."""
-    path = os.path.join(HERE, "gcc-O2/program")
-    at = int(re.search(r"\.debug_line +PROGBITS +\w+ (\w+)", output("readelf", "-SW", path))[1], 16)
+    elf = data("gcc-O2", "program")
+    _, at, _ = section_of(elf, ".debug_line")
     for number, change in enumerate(CHANGES):
-        with open(path, "rb") as file:
-            image = bytearray(file.read())
+        image = elf
         for offset, those in change.items():
-            image[at + offset:at + offset + len(those)] = those
-        name = os.path.join(work, f"changed{number}")
-        with open(name, "wb") as file:
+            image = replaced(image, at + offset, those)
+        path = os.path.join(folder, f"changed{number}")
+        with open(path, "wb") as file:
             file.write(image)
-        yield name
+        yield path
 
 
 def main():
-    folders = sorted(name for name in os.listdir(HERE) if os.path.exists(os.path.join(HERE, name, "program")))
     told, count, alone = [], 0, 0
-    with tempfile.TemporaryDirectory() as work:
-        for path in [*(os.path.join(HERE, name, "program") for name in folders), *changed(work)]:
+    with tempfile.TemporaryDirectory() as folder:
+        for path in [*programs(), *changed(folder)]:
             mine = set(ours(path))
             for finding in theirs(path):
                 count += 1
@@ -98,8 +92,10 @@ def main():
                     alone += 1
                 else:
                     told.append(f"{path}: {finding}")
-    print("\n".join(told + [f"{count} findings compared, {len(told)} differ, {alone} files are the same by their paths alone"]))
-    sys.exit(1 if told or count == 0 else 0)
+    print("\n".join(told + [f"{count} findings compared, {len(told)} differ, "
+                            f"{alone} files are the same by their paths alone"]))
+    sys.exit(bool(told) or not count)
 
 
-main()
+if __name__ == "__main__":
+    main()
