@@ -14,10 +14,6 @@ shared = $(DESTDIR)$(PREFIX)/lib/libboxantrel.so
 header = $(DESTDIR)$(PREFIX)/include/boxantrel.h
 package = $(DESTDIR)$(PREFIX)/lib/pkgconfig/boxantrel.pc
 
-# The scripts that try what is built.
-tries = \
-	try-install.sh try-library.sh try-readme.py
-
 version = $(shell sed -n 's/^.* VERSION: &str = "\(.*\)";$$/\1/p' crates/dl_options/src/command_line.rt)
 
 # The program, at crates/dwline/out/dwline. A line tells of each crate that is proved; out/prove.log has what the prover says, and
@@ -84,24 +80,24 @@ clean:
 uninstall:
 	rm -f $(bin) $(man) $(bash) $(zsh) $(fish) $(archive) $(shared) $(header) $(package)
 
-# Every proof from nothing, edits that must be refused, every test; then the sections of examples/. A library that is kept from
-# an earlier run of the same files has the time of that run: it is given the present one, since what comes next looks whether a
-# library is older than its files.
+# Every proof from nothing, edits that must be refused, and every test. A library that is kept from an earlier run of the
+# same files has the time of that run: it is given the present one, since what comes next looks whether a library is older
+# than its files.
 test:
 	rm -f crates/dwline/out/dwline crates/dl_c/out/libdl_c.a out/libboxantrel.a
 	tools/rt ci
 	touch crates/*/out/rlib/*.rlib
 	test -x crates/dwline/out/dwline || $(MAKE) dwline
-	$(MAKE) --jobs --output-sync edits compare-proved
+	$(MAKE) --jobs --output-sync edits tests-proved
 
 # The wrong bodies that the commit chooses, over the libraries that are built.
 edits:
 	tools/wrong-bodies.py --of HEAD
 
-# What `compare` does, over the libraries that `rt ci` left.
-compare-proved: archive
+# What `tests` does, over the libraries that `rt ci` left.
+tests-proved: archive
 	$(MAKE) library
-	$(MAKE) compare-built
+	tests/run
 
 # Every wrong body that stands in the repository, and those that `rt plant` makes of each crate's functions, which takes
 # hours: it lists those that the contracts let through.
@@ -109,17 +105,9 @@ wrong-bodies: dwline lib
 	tools/wrong-bodies.py
 	for crate in crates/dl_*; do (cd $$crate && ../../tools/rt plant) || exit 1; done
 
-# Every section of examples/, printed and compared with its expected dump; every option of every command; the
-# man page, the completions and what `make install` puts where; the library, from C, Rust and Python; what README.md shows.
-compare: dwline lib compare-built
+# The suites of tests/, over the program and the library.
+tests: dwline lib
+	tests/run
 
-# The same of what is built, side by side.
-compare-built:
-	$(MAKE) --jobs --output-sync $(tries)
-
-$(tries):
-	examples/$@
-
-.PHONY: dwline example lib archive library try install install-lib dist dist-built clean uninstall test edits wrong-bodies compare \
-	compare-proved compare-built \
-	$(tries)
+.PHONY: dwline example lib archive library try install install-lib dist dist-built clean uninstall test tests edits \
+	wrong-bodies tests-proved
