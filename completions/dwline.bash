@@ -23,7 +23,7 @@ _dwline() {
     esac
     local options
     case ${COMP_WORDS[1]} in
-        addr) options="-a --addresses -s --basenames --json --hex --base --all --stop -j --section -e --exe --older --address-size --version-5 --comp-dir --for --debug-dir --no-follow --verbose --big --line-str --str -h --help" ;;
+        addr) options="-a --addresses -s --basenames --json --decimal --hex --base --all --stop -j --section -e --exe --older --address-size --version-5 --comp-dir --for --debug-dir --no-follow --verbose --big --line-str --str -h --help" ;;
         index) options="--all --keep-going -j --section --address-size --version-5 --comp-dir --debug-dir --no-follow --verbose --list -o --output -h --help" ;;
         dump) options="--keep-going --header --operations --paths --comp-dir --json --unit --range --older --address-size --version-5 --debug-dir --no-follow --verbose --big --line-str --str -h --help" ;;
         check) options="--keep-going --older --address-size --version-5 --debug-dir --no-follow --verbose --big --files-from -0 --null --progress -h --help" ;;

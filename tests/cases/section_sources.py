@@ -73,7 +73,7 @@ SAME = [SUMMED, HIGH, ONE_ROW, UNSUMMED, ONE_ROW, SUMMED, HIGH, ONE_ROW]
 OTHER = [SUMMED, HIGH, ONE_ROW, SUMMED, RISING, ONE_ROW]
 
 # A path with two sums has a line for each, in their order, with the counts of the path. One that has a sum in one unit
-# and none in another has that sum.
+# and none in another has that sum. Sixteen zeros are none: GNU as writes them for a source without a sum.
 SUMS = [
     sources("a sum", "--md5", [SUMMED, RISING, ONE_ROW], f"{RISING_SUM} /s/a.c\n"),
     sources("a sum and none", "--rows --md5", SAME, f"3 24 {HIGH_SUM} /s/a.c\n"),
@@ -82,6 +82,8 @@ SUMS = [
             objects(dict(path="/s/a.c", rows=2, bytes=16, md5=RISING_SUM),
                     dict(path="/s/a.c", rows=2, bytes=16, md5=HIGH_SUM)), DIFFER, 1),
     sources("two sums that aren't asked for", "", OTHER, "/s/a.c\n"),
+    sources("zeros", "--md5", [SUMMED, bytes(16), ONE_ROW], "- /s/a.c\n"),
+    sources("a sum and zeros", "--md5", [SUMMED, RISING, ONE_ROW, SUMMED, bytes(16), ONE_ROW], f"{RISING_SUM} /s/a.c\n"),
     sources("no sums", "--md5", [RELATIVE], "- work/lib/m.c\n- work/m.c\n"),
     sources("an object without a sum", "--rows --md5 --json", [UNSUMMED, ONE_ROW],
             objects(dict(path="/s/a.c", rows=1, bytes=8, md5=None))),

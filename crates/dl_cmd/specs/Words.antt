@@ -1,6 +1,6 @@
 -- What the words ask for, as clap reads them.
 use Rattle.std.specs.Prelude.{ℕ, Bool, List, [], ◌∷◌, Option, Some, None, unwrap_or, codes, if◌then◌else◌, false, true}
-use Rattle.std.specs.Prelude.{drop, option_map}
+use Rattle.std.specs.Prelude.{drop, not, option_map}
 use Rattle.std.specs.Option.{option_map_or}
 use Rattle.std.specs.Str.{bytes_eq}
 use Rattle.clap.specs.Words.{Row, all_of, first_of, one_of}
@@ -42,7 +42,7 @@ addr_words_of rows = record {
       (texts_of (codes "address") rows)).0;
   addresses = (file_and_addresses (text_of (codes "exe") rows) (text_of (codes "file") rows)
       (texts_of (codes "address") rows)).1;
-  hex = flag_of (codes "hex") rows;
+  hex = not (flag_of (codes "decimal") rows);
   base = text_of (codes "base") rows;
   with_addresses = flag_of (codes "addresses") rows;
   basenames = flag_of (codes "basenames") rows;

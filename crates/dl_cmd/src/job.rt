@@ -195,7 +195,7 @@ pub struct AddrWords<'a> {
     pub file: Option<&'a str>,
     /// The addresses; where there is none, they come on standard input.
     pub addresses: Vec<&'a str>,
-    /// Digits without `0x` are hexadecimal too.
+    /// Digits without `0x` are hexadecimal too, unless `--decimal` is said.
     pub hex: bool,
     /// What is subtracted from each address.
     pub base: Option<&'a str>,

@@ -50,7 +50,7 @@ fn addr_words<'a>(alloc: Global, matches: &ArgMatches<'a>) -> Result<AddrWords<'
     Ok(AddrWords {
         file,
         addresses,
-        hex: flag(matches, "hex"),
+        hex: !flag(matches, "decimal"),
         base: text(matches, "base"),
         with_addresses: flag(matches, "addresses"),
         basenames: flag(matches, "basenames"),

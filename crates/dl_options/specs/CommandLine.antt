@@ -146,8 +146,8 @@ with_printing a =
 -- what addresses are asked for, and how they are answered
 abbrev pub with_settings : App → App
 with_settings a =
-    with_rule (with_rule (with_rule (with_rule (with_rule (with_printing a) (switch_rule (codes "hex"))) base_rule)
-    (switch_rule (codes "all"))) (switch_rule (codes "stop"))) section_rule
+    with_rule (with_rule (with_rule (with_rule (with_rule (with_rule (with_printing a) (switch_rule (codes "decimal")))
+    (switch_rule (codes "hex"))) base_rule) (switch_rule (codes "all"))) (switch_rule (codes "stop"))) section_rule
 
 abbrev pub with_addresses : App → App
 with_addresses a =
@@ -156,7 +156,7 @@ with_addresses a =
     (value_rule (codes "for")))) big_rule) line_str_rule) str_rule)
     exe_rule) file_rule) addresses_rule
 
--- `addr [-a] [-s] [--json] [--hex] [--base ADDRESS] [--all] [--stop] [-j NAME] [--older SIZE] [--address-size SIZE]
+-- `addr [-a] [-s] [--json] [--decimal] [--hex] [--base ADDRESS] [--all] [--stop] [-j NAME] [--older SIZE] [--address-size SIZE]
 -- [--version-5] [--comp-dir DIR] [--for FILE] [--debug-dir DIR].. [--no-follow] [--verbose] [--big] [--line-str PATH]
 -- [--str PATH] FILE [ADDRESS]..`, or with `-e FILE` in place of `FILE`
 abbrev pub addr_app : App

@@ -193,8 +193,8 @@ pub fn addresses<'a>(alloc: Global) -> Arg<'a>
         .action(ArgAction::Append)
         .value_name("ADDRESS")
         .help(
-            "Addresses to look up: 0x and hexadecimal digits, or decimal digits; without one they \
-             are read from standard input, one a line",
+            "Addresses to look up: hexadecimal digits, with or without 0x; without one they are read \
+             from standard input, one a line",
         )
 }
 

@@ -254,7 +254,13 @@ pub fn add_settings<'a>(
     ensures refused { OnErr command.entry LibraryRefused → OnErr result LibraryRefused }
 {
     let command = add_printing(alloc, command);
-    let hex = switch(alloc, "hex", "Read digits without 0x as hexadecimal too");
+    let decimal = switch(alloc, "decimal", "Read digits without 0x as decimal");
+    let hex = switch(
+        alloc,
+        "hex",
+        "Read digits without 0x as hexadecimal (default)",
+    );
+    let command = with_arg(command, decimal);
     let command = with_arg(command, hex);
     let command = with_arg(command, base(alloc));
     let command = with_arg(command, all(alloc));

@@ -1,7 +1,9 @@
 -- What the table of files of a unit tells of paths. DWARF 5, sections 3.1.1, 6.2.4 and 6.2.4.1.
-use Rattle.std.specs.Prelude.{ℕ, zero, suc, ◌+◌, Bool, if◌then◌else◌, List, [], ◌∷◌, length, Option, Some, None, option_map}
+use Rattle.std.specs.Prelude.{ℕ, zero, suc, ◌+◌, Bool, if◌then◌else◌, List, [], ◌∷◌, length, replicate, Option, Some, None}
+use Rattle.std.specs.Prelude.{option_map}
 use Rattle.std.specs.List.{flat_map}
 use Rattle.std.specs.Option.{option_and_then, option_to_list}
+use Rattle.std.specs.Str.{bytes_eq}
 use Rattle.dl_table.specs.EntryData.{value_of}
 use Rattle.dl_table.specs.Value.{Value, data16}
 use Rattle.dl_field.specs.HeaderData.{HeaderData}
@@ -20,8 +22,10 @@ numbers_from first (suc count) = first ∷ numbers_from (first + 1) count
 abbrev pub file_numbers : HeaderData → List ℕ
 file_numbers h = numbers_from (first_number h.params) (length h.files.entries)
 
+-- sixteen bytes that aren't all zero: each entry of a table has the same contents, so assemblers write zeros for a source
+-- without a sum
 abbrev pub sum_of_value : Value → Option (List ℕ)
-sum_of_value (data16 w) = Some w
+sum_of_value (data16 w) = if bytes_eq w (replicate 16 0) then None else Some w
 sum_of_value other = None
 
 -- content 5 (DW_LNCT_MD5)

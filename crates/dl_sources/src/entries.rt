@@ -84,12 +84,12 @@ fn sum_of(unit: &UnitTable<'_, '_>, number: u64) -> Option<[u8; 16]>
     }
 }
 
-/// The MD5 sum that an entry has.
+/// The MD5 sum that an entry has. Sixteen zeros are none.
 fn md5_of(entry: Entry<'_>) -> Option<[u8; 16]>
     ensures { result ≡ sum_in (entry_items entry.entry) }
 {
     match entry.get(MD5)? {
-        ValueRef::Data16(sum) => Some(sum),
+        ValueRef::Data16(sum) if sum != [0; 16] => Some(sum),
         _ => None,
     }
 }
