@@ -55,14 +55,12 @@ const ENTRIES: &[Entry<'static>] = &[
 
 const LAST_OFFSET: &[Entry<'static>] = &[(Form::Strp, &[ValueRef::Str(u64::MAX)], FITS)];
 
-/// The value of this content code in the first entry.
-fn first_value(table: &Table, content: u64) -> Option<ValueRef<'_>> {
-    table.entry(0)?.get(content)
-}
-
-/// Whether the table has no entry, or one with this value.
+/// Whether the table has no entry, or one with this value of content code 1.
 fn holds(table: &Table, value: Option<ValueRef<'_>>) -> bool {
-    table.len() == usize::from(value.is_some()) && first_value(table, 1) == value
+    match table.entry(0) {
+        Some(entry) => table.len() == 1 && entry.get(1) == value,
+        None => value.is_none(),
+    }
 }
 
 /// Asserts what an empty table answers to an entry of these values, and what it holds then.
@@ -189,84 +187,31 @@ fn made(params: Params, directories: Table, files: Table) -> Made {
     }
 }
 
-/// version, address_size, maximum_operations_per_instruction, line_range and opcode_base; the lengths of opcodes; the
-/// formats of the directories and of the files; and how many cells the header has, or why it is refused.
-type Parts<'a> = ([u8; 5], &'a [u8], [Format; 2], Result<u64, ParamFault>);
-
-const DWARF32: [Format; 2] = [Format::Dwarf32, Format::Dwarf32];
+/// version, address_size, maximum_operations_per_instruction, line_range and opcode_base; the lengths of opcodes; and how
+/// many cells the header has, or why it is refused.
+type Parts<'a> = ([u8; 5], &'a [u8], Result<u64, ParamFault>);
 
 const STANDARD: &[u8] = &[0, 1, 1, 1, 1, 0, 0, 0, 1, 0, 0, 1];
 
+const ELEVEN: &[u8] = &[0, 1, 1, 1, 1, 0, 0, 0, 1, 0, 0];
+
+const SECOND_ZERO: &[u8] = &[0, 0, 1, 1, 1, 0, 0, 0, 1, 0, 0, 1];
+
+const WRONG_LENGTH: Result<u64, ParamFault> = Err(ParamFault::StandardLength(2));
+
 const PARTS: &[Parts<'static>] = &[
-    ([5, 8, 1, 14, 13], STANDARD, DWARF32, Ok(10)),
-    (
-        [5, 3, 1, 14, 13],
-        STANDARD,
-        DWARF32,
-        Err(ParamFault::AddressSize),
-    ),
-    ([2, 8, 1, 14, 13], STANDARD, DWARF32, Ok(10)),
-    (
-        [1, 8, 1, 14, 13],
-        STANDARD,
-        DWARF32,
-        Err(ParamFault::Version),
-    ),
-    (
-        [6, 3, 1, 14, 13],
-        STANDARD,
-        DWARF32,
-        Err(ParamFault::Version),
-    ),
-    (
-        [3, 8, 2, 14, 13],
-        STANDARD,
-        DWARF32,
-        Err(ParamFault::MaxOps),
-    ),
-    ([4, 8, 2, 14, 13], STANDARD, DWARF32, Ok(10)),
-    (
-        [5, 8, 0, 14, 13],
-        STANDARD,
-        DWARF32,
-        Err(ParamFault::MaxOps),
-    ),
-    (
-        [5, 8, 1, 0, 13],
-        STANDARD,
-        DWARF32,
-        Err(ParamFault::LineRange),
-    ),
-    (
-        [5, 8, 1, 14, 0],
-        STANDARD,
-        DWARF32,
-        Err(ParamFault::OpcodeBase),
-    ),
-    (
-        [5, 8, 1, 14, 13],
-        &[0, 1, 1, 1, 1, 0, 0, 0, 1, 0, 0],
-        DWARF32,
-        Err(ParamFault::OpcodeBase),
-    ),
-    (
-        [5, 8, 1, 14, 13],
-        &[0, 0, 1, 1, 1, 0, 0, 0, 1, 0, 0, 1],
-        DWARF32,
-        Err(ParamFault::StandardLength(2)),
-    ),
-    (
-        [5, 8, 1, 14, 13],
-        STANDARD,
-        [Format::Dwarf32, Format::Dwarf64],
-        Err(ParamFault::TableFormat),
-    ),
-    (
-        [5, 8, 1, 14, 13],
-        STANDARD,
-        [Format::Dwarf64, Format::Dwarf32],
-        Err(ParamFault::TableFormat),
-    ),
+    ([5, 8, 1, 14, 13], STANDARD, Ok(10)),
+    ([5, 3, 1, 14, 13], STANDARD, Err(ParamFault::AddressSize)),
+    ([2, 8, 1, 14, 13], STANDARD, Ok(10)),
+    ([1, 8, 1, 14, 13], STANDARD, Err(ParamFault::Version)),
+    ([6, 3, 1, 14, 13], STANDARD, Err(ParamFault::Version)),
+    ([3, 8, 2, 14, 13], STANDARD, Err(ParamFault::MaxOps)),
+    ([4, 8, 2, 14, 13], STANDARD, Ok(10)),
+    ([5, 8, 0, 14, 13], STANDARD, Err(ParamFault::MaxOps)),
+    ([5, 8, 1, 0, 13], STANDARD, Err(ParamFault::LineRange)),
+    ([5, 8, 1, 14, 0], STANDARD, Err(ParamFault::OpcodeBase)),
+    ([5, 8, 1, 14, 13], ELEVEN, Err(ParamFault::OpcodeBase)),
+    ([5, 8, 1, 14, 13], SECOND_ZERO, WRONG_LENGTH),
 ];
 
 /// The params of most compilers in the 32-bit format, with these numbers and lengths of opcodes.
@@ -283,9 +228,14 @@ fn params_of(numbers: [u8; 5], lengths: &[u8]) -> Params {
     }
 }
 
-/// Asserts what comes of a header of these parts, two directories and no file.
-fn assert_made(rt: &impl Abort, alloc: Global, parts: &Parts<'_>) -> Result<(), BuildFault> {
-    let (numbers, lengths, [format, of_files], wanted) = *parts;
+/// Asserts what comes of a header of these parts, two directories and no file, whose tables have these formats.
+fn assert_made(
+    rt: &impl Abort,
+    alloc: Global,
+    [format, of_files]: [Format; 2],
+    parts: &Parts<'_>,
+) -> Result<(), BuildFault> {
+    let (numbers, lengths, wanted) = *parts;
     let directories = table_of(alloc, format, PAIRS, TEXTS_AND_BLOCKS)?;
     let files = Table::without_pairs(alloc, of_files);
     let made = made(params_of(numbers, lengths), directories, files);
@@ -298,17 +248,15 @@ fn assert_made(rt: &impl Abort, alloc: Global, parts: &Parts<'_>) -> Result<(), 
     Ok(())
 }
 
-/// Asserts the same for each of these.
-fn assert_all_made(rt: &impl Abort, alloc: Global, all: &[Parts<'_>]) -> Result<(), BuildFault> {
-    for parts in all {
-        assert_made(rt, alloc, parts)?;
-    }
-    Ok(())
-}
-
 #[test]
 fn headers_of_wrong_parts_are_refused(rt: HostRuntime) -> Result<(), Fail> {
-    assert_all_made(&rt, rt.alloc(), PARTS)?;
+    let (short, long) = (Format::Dwarf32, Format::Dwarf64);
+    for parts in PARTS {
+        assert_made(&rt, rt.alloc(), [short, short], parts)?;
+    }
+    let parts = ([5, 8, 1, 14, 13], STANDARD, Err(ParamFault::TableFormat));
+    assert_made(&rt, rt.alloc(), [short, long], &parts)?;
+    assert_made(&rt, rt.alloc(), [long, short], &parts)?;
     Ok(())
 }
 

@@ -1,9 +1,7 @@
 //! Growths that are refused: of a table, and of the header that a reader holds.
 
 use crate::building::{PAIRS, assert_pushed, why_refused};
-use crate::vectors::{
-    DWARF64_WITH_MD5, EACH_FORM, HUGE_DIRECTORY_COUNT, TWO_THOUSAND_DIRECTORIES, is_header_of,
-};
+use crate::vectors::{EACH_FORM, HUGE_DIRECTORY_COUNT, TWO_THOUSAND_DIRECTORIES, is_header_of};
 use dl_head::{
     BuildFault, Dialect, Fault, FaultKind, Format, HeadReader, HeadStep, Table, ValueRef,
 };
@@ -57,16 +55,13 @@ fn is_new(rt: &impl Abort, alloc: Global, table: &Table) -> bool {
     *table == empty(alloc).expect(rt, "a table")
 }
 
-/// Asserts that the entry is refused with so many bytes of memory, which leaves the table as it was.
-fn assert_refused(rt: &impl Abort, alloc: Global, spare: usize, table: &mut Table) {
-    let refused = push_with(rt, alloc, spare, table, ENTRY);
-    assert!(rt; refused == Err(BuildFault::NoMemory) && is_new(rt, alloc, table));
-}
-
-/// Asserts that the entry is refused at its first growth, and at its second, and is taken where there is memory.
+/// Asserts that the entry is refused at its first growth, and at its second, which leaves the table as it was, and is taken
+/// where there is memory.
 fn assert_needs_memory(rt: &impl Abort, alloc: Global, table: &mut Table) {
-    assert_refused(rt, alloc, 0, table);
-    assert_refused(rt, alloc, VALUES_SIZE, table);
+    for spare in [0, VALUES_SIZE] {
+        let refused = push_with(rt, alloc, spare, table, ENTRY);
+        assert!(rt; refused == Err(BuildFault::NoMemory) && is_new(rt, alloc, table));
+    }
     assert_pushed(rt, table, ENTRY, Ok(()));
 }
 
@@ -95,85 +90,43 @@ fn has_room(alloc: Global, size: usize) -> bool {
     block.is_ok()
 }
 
-/// What a reader answers, how many cells it holds then, and whether a block of some size can be had.
-type Fed = (HeadStep, u64, bool);
-
-fn feed(alloc: Global, reader: &mut HeadReader, piece: &[u8], size: usize) -> Fed {
-    let (_, last) = reader.offer(piece);
-    (last, reader.cells(), has_room(alloc, size))
-}
-
-/// What the reader answers to a count and then to an entry where one block is free; and whether the block can be had
-/// after the count, and most of it after the entry.
+/// What the reader answers to a count and then to an entry where one block is free; and whether that can be had after the
+/// count, and most of it after the entry.
 fn feed_claim(
     rt: &impl Abort,
     alloc: Global,
-    spare: usize,
     reader: &mut HeadReader,
     count: &[u8],
     entry: &[u8],
-) -> [Fed; 2] {
-    let blocks = hoard_but(alloc, spare).expect(rt, "memory");
-    let counted = feed(alloc, reader, count, spare);
-    let ended = feed(alloc, reader, entry, spare - spare / 34);
+) -> [(HeadStep, bool); 2] {
+    let blocks = hoard_but(alloc, CLAIMED_ROOM).expect(rt, "memory");
+    let (_, counted) = reader.offer(count);
+    let after_count = has_room(alloc, CLAIMED_ROOM);
+    let (_, ended) = reader.offer(entry);
+    let after_entry = has_room(alloc, 33_000);
     drop(blocks);
-    [counted, ended]
+    [(counted, after_count), (ended, after_entry)]
 }
 
-/// The header of `TWO_THOUSAND_DIRECTORIES` ends after its first directory.
-const OVERRUN: HeadStep = HeadStep::Fault(Fault {
-    offset: 38,
-    kind: FaultKind::HeaderOverrun,
-});
-
-const COUNTED: Fed = (HeadStep::More, 1, true);
-
-const REFUSED: Fed = (HeadStep::NoMemory, 1, true);
-
-/// The bytes of a header up to its one directory, which takes three; the size of the free block, which may be 0; and
-/// what is answered to the count and to the directory.
-type Claim<'a> = (&'a [u8], usize, [Fed; 2]);
-
-const CLAIMS: &[Claim<'static>] = &[
-    (
-        TWO_THOUSAND_DIRECTORIES,
-        CLAIMED_ROOM,
-        [COUNTED, (OVERRUN, 4, true)],
-    ),
-    (TWO_THOUSAND_DIRECTORIES, 0, [COUNTED, REFUSED]),
-    (HUGE_DIRECTORY_COUNT, 0, [COUNTED, REFUSED]),
-];
-
-fn assert_claim(
-    rt: &impl Abort,
-    alloc: Global,
-    reader: &mut HeadReader,
-    header: &[u8],
-    spare: usize,
-    wanted: [Fed; 2],
-) {
-    assert!(rt; header.len() > 36);
-    let (before, claim) = header.split_at(33);
-    let (count, entry) = claim.split_at(claim.len() - 3);
+/// Asserts that the count of `TWO_THOUSAND_DIRECTORIES`, whose header ends after its first one, takes no memory.
+fn assert_claim(rt: &impl Abort, alloc: Global, reader: &mut HeadReader) {
+    let (before, claim) = TWO_THOUSAND_DIRECTORIES.split_at(33);
+    let (count, entry) = claim.split_at(2);
     reader.offer(before);
-    let fed = feed_claim(rt, alloc, spare, reader, count, entry);
-    assert!(rt; fed == wanted, "{fed:?}");
+    let overrun = HeadStep::Fault(Fault {
+        offset: 38,
+        kind: FaultKind::HeaderOverrun,
+    });
+    let fed = feed_claim(rt, alloc, reader, count, entry);
+    assert!(rt; fed == [(HeadStep::More, true), (overrun, true)], "{fed:?}");
 }
 
-/// Asserts the same of new readers.
-fn assert_claims(rt: &impl Abort, alloc: Global, claims: &[Claim<'_>]) {
-    for (header, spare, wanted) in claims {
-        let reader = &mut HeadReader::new(alloc, Dialect::version_5(Order::Little));
-        assert_claim(rt, alloc, reader, header, *spare, *wanted);
-    }
-}
-
-/// A count that is claimed takes no memory, also where there is enough: the one free block stays free until the bytes of
-/// an entry come, and these take no more than a small part of it. The first growth that is refused is that of the
-/// first cell after the count.
+/// A count that is claimed takes no memory, also where there is enough: the one free block stays free until the bytes of an
+/// entry come, and these take no more than a small part of it.
 #[test]
 fn a_claimed_count_takes_no_room(rt: HostRuntime) {
-    assert_claims(&rt, rt.alloc(), CLAIMS);
+    let reader = &mut HeadReader::new(rt.alloc(), Dialect::version_5(Order::Little));
+    assert_claim(&rt, rt.alloc(), reader);
 }
 
 /// How many bytes the reader took, and how many cells it holds.
@@ -236,83 +189,24 @@ fn step_all(
     (last, refused)
 }
 
-/// What the reader answers to a piece while all memory is taken, and how many of its bytes it takes.
-fn offer_without_memory(
-    rt: &impl Abort,
-    alloc: Global,
-    reader: &mut HeadReader,
-    piece: &[u8],
-) -> (usize, HeadStep) {
-    let blocks = hoard(alloc).expect(rt, "memory");
-    let offered = reader.offer(piece);
-    drop(blocks);
-    offered
-}
-
-/// The last answer to the bytes in pieces, each up to a growth that is refused; the byte of that is given again. And how
-/// many were refused.
-fn offer_all(
-    rt: &impl Abort,
-    alloc: Global,
-    reader: &mut HeadReader,
-    bytes: &[u8],
-) -> (HeadStep, u64) {
-    let mut rest = bytes;
-    let mut last = HeadStep::More;
-    let mut refused = 0u64;
-    for _ in 0..bytes.len() {
-        let (used, answer) = offer_without_memory(rt, alloc, reader, rest);
-        last = answer;
-        let Some((byte, tail)) = rest.get(used..).unwrap_or(&[]).split_first() else {
-            break;
-        };
-        assert!(rt; answer == HeadStep::NoMemory);
-        refused = refused.saturating_add(1);
-        last = reader.step(*byte);
-        rest = tail;
-    }
-    (last, refused)
-}
-
-/// Asserts that the reader has the header of `EACH_FORM` after its last answer.
-fn assert_grown(rt: &impl Abort, alloc: Global, reader: &HeadReader, last: HeadStep) {
+/// Asserts that growths of `EACH_FORM` are refused, and that the reader has its header in the end.
+fn assert_grows(rt: &impl Abort, alloc: Global, reader: &mut HeadReader) {
+    let (last, refused) = step_all(rt, alloc, reader, EACH_FORM);
     assert!(rt; last == HeadStep::Done && counts(reader) == (160, 47));
-    assert!(rt; is_header_of(alloc, EACH_FORM, reader.header()));
-}
-
-/// Asserts that the growths of `EACH_FORM` that are refused in pieces are as many as byte by byte. Neither reader frees
-/// memory before that, which the growths of the other could have.
-fn assert_same_growths(
-    rt: &impl Abort,
-    alloc: Global,
-    bytewise: &mut HeadReader,
-    piecewise: &mut HeadReader,
-) {
-    let (last_byte, refused_bytes) = step_all(rt, alloc, bytewise, EACH_FORM);
-    let (last_piece, refused_pieces) = offer_all(rt, alloc, piecewise, EACH_FORM);
-    assert!(rt; 0 < refused_bytes && refused_pieces == refused_bytes);
-    assert_grown(rt, alloc, bytewise, last_byte);
-    assert_grown(rt, alloc, piecewise, last_piece);
+    assert!(rt; 0 < refused && is_header_of(alloc, EACH_FORM, reader.header()));
 }
 
 /// The same where most memory is taken.
-fn assert_growths(
-    rt: &impl Abort,
-    alloc: Global,
-    bytewise: &mut HeadReader,
-    piecewise: &mut HeadReader,
-) {
+fn assert_growths(rt: &impl Abort, alloc: Global, reader: &mut HeadReader) {
     let most = hoard_most(alloc).expect(rt, "memory");
-    assert_same_growths(rt, alloc, bytewise, piecewise);
+    assert_grows(rt, alloc, reader);
     drop(most);
 }
 
-/// In pieces the growths are refused that are refused byte by byte.
 #[test]
 fn each_growth_of_a_header_is_refused_once(rt: HostRuntime) {
-    let bytewise = &mut HeadReader::new(rt.alloc(), Dialect::version_5(Order::Little));
-    let piecewise = &mut HeadReader::new(rt.alloc(), Dialect::version_5(Order::Little));
-    assert_growths(&rt, rt.alloc(), bytewise, piecewise);
+    let reader = &mut HeadReader::new(rt.alloc(), Dialect::version_5(Order::Little));
+    assert_growths(&rt, rt.alloc(), reader);
 }
 
 /// Asserts that the last byte of a huge count is refused without memory, and is taken when it is given again.

@@ -6,7 +6,7 @@ mod building;
 #[cfg(test)]
 mod growths;
 #[cfg(test)]
-mod num;
+mod numbers;
 #[cfg(test)]
 mod reading;
 #[cfg(test)]

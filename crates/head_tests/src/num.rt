@@ -1,3 +1,0 @@
-//! Spellings of numbers, read and written.
-
-mod numbers;
