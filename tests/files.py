@@ -5,10 +5,10 @@ import functools
 import os
 import subprocess
 
-from cases import elf_cases, elf_contents, elf_jobs, elf_lookups, elf_members
+from cases import elf_cases, elf_contents, elf_jobs, relocations
 from lib.program import DWLINE, ENVIRONMENT, SECONDS, Ran, by_hand, differences, folder, numbered
 
-GROUPS = [*elf_cases.GROUPS, *elf_contents.GROUPS, *elf_jobs.GROUPS, *elf_lookups.GROUPS, *elf_members.GROUPS]
+GROUPS = elf_cases.GROUPS + elf_contents.GROUPS + elf_jobs.GROUPS + relocations.GROUPS
 
 
 def cases():

@@ -21,6 +21,7 @@ class Form:
     file_type: int = ET_EXEC
     empty: int = 0  # how many sections without a name come before the others
     escapes: bool = False  # the number of sections and that of the name table stand in section 0
+    machine: int = EM_X86_64
 
     def pack(self, codes, *numbers):
         return struct.pack((">" if self.big else "<") + codes, *numbers)
@@ -57,7 +58,7 @@ def file_header(form, table, count):
     ident = b"\x7fELF" + bytes([2 if form.wide else 1, 2 if form.big else 1, 1]) + bytes(9)
     count, names = (0, 0xFFFF) if form.escapes else (count, count - 1)
     size, entry = (64, 64) if form.wide else (52, 40)
-    return ident + form.pack("HHIQQQIHHHHHH" if form.wide else "HHIIIIIHHHHHH", form.file_type, EM_X86_64, 1, 0, 0,
+    return ident + form.pack("HHIQQQIHHHHHH" if form.wide else "HHIIIIIHHHHHH", form.file_type, form.machine, 1, 0, 0,
                              table, 0, size, 0, 0, entry, count, names)
 
 
