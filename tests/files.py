@@ -5,10 +5,10 @@ import functools
 import os
 import subprocess
 
-from cases import elf_cases, elf_contents, elf_jobs, relocations
+from cases import directories, elf_cases, elf_contents, elf_jobs, relocations
 from lib.program import DWLINE, ENVIRONMENT, SECONDS, Ran, by_hand, differences, folder, numbered
 
-GROUPS = elf_cases.GROUPS + elf_contents.GROUPS + elf_jobs.GROUPS + relocations.GROUPS
+GROUPS = (elf_cases.GROUPS + elf_contents.GROUPS + elf_jobs.GROUPS + relocations.GROUPS + directories.GROUPS)
 
 
 def cases():
