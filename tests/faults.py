@@ -9,7 +9,6 @@ import functools
 import os
 import re
 import shutil
-import struct
 import subprocess
 import tempfile
 import zlib
@@ -58,6 +57,8 @@ def made_files():
     program, older, object_file = (data(name, "program") for name in ("gcc-O2", "gcc-dwarf4", "object-gcc"))
     long_line, _ = elf.line_unit(elf.LITTLE_64, [(0x1000 + 16 * n, 1 + n) for n in range(600)])
     rows, _ = elf.line_unit(elf.LITTLE_64, [(0x1000, 7)])
+    # A stream with another check value.
+    compressed = elf.LITTLE_64.pack("IIQQ", 1, 0, len(rows), 1) + zlib.compress(rows)[:-1] + b"\xff"
     build_id = elf.Section(".note.gnu.build-id", b"\4\0\0\0\4\0\0\0\3\0\0\0GNU\0\xc0\xff\xee\1", elf.NOTE)
     apart = elf.image(elf.LITTLE_64, [elf.Section(".debug_line", rows), build_id])
     link = b"apart.debug\0" + zlib.crc32(apart).to_bytes(4, "little")
@@ -67,6 +68,7 @@ def made_files():
         "object.o": object_file,
         "compressed": data("compressed", "program"),
         "compressed.o": data("compressed-object", "program"),
+        "damaged": elf.image(elf.LITTLE_64, [elf.Section(".debug_line", compressed, flags=elf.COMPRESSED)]),
         "long": elf.image(elf.LITTLE_64, [elf.Section(".debug_line", long_line)]),
         "by-id": elf.image(elf.LITTLE_64, [build_id]),
         "debug/.build-id/c0/ffee01.debug": apart,
@@ -291,24 +293,15 @@ def small_steps(trial):
 # ---- bytes of a file that can't be read
 
 
-def places(file):
-    """Where the bytes of each section of a little-endian file of 64 bits begin and end."""
-    table, = struct.unpack_from("<Q", file, 40)
-    count, names = struct.unpack_from("<HH", file, 60)
-    headers = [struct.unpack_from("<IIQQQQ", file, table + 64 * n) for n in range(count)]
-    names = file[headers[names][4]:]
-    return {names[header[0]:names.index(b"\0", header[0])].decode(): (header[4], header[4] + header[5])
-            for header in headers if header[1] != elf.NOBITS and header[5]}
-
-
 def unreadable(words, name, needed, library, files):
     trial = Trial(Line(words, (), ANSWERS), library, files)
-    sections = places(files[name])
-    for section, (start, end) in sections.items():
+    sections = elf.sections_of(files[name])
+    for section, start, end, _ in sections:
         fault = f"range fail {start} {end}"
         if section in needed:
             trial.over(fault, FILE + UNREAD["fail"])
         elif not trial.is_whole(trial.run(fault)):
             trial.blame(fault, trial.run(fault), f"{section} isn't needed")
-    trial.wrong += [f"{name} has no section {section}" for section in needed if section not in sections]
+    trial.wrong += [f"{name} has no section {section}" for section in needed
+                    if not any(section == other for other, *_ in sections)]
     return trial.told()

@@ -5,10 +5,11 @@ import functools
 import os
 import subprocess
 
-from cases import directories, elf_cases, elf_contents, elf_jobs, relocations
+from cases import archives, directories, elf_cases, elf_contents, elf_jobs, relocations
 from lib.program import DWLINE, ENVIRONMENT, SECONDS, Ran, by_hand, differences, folder, numbered
 
-GROUPS = (elf_cases.GROUPS + elf_contents.GROUPS + elf_jobs.GROUPS + relocations.GROUPS + directories.GROUPS)
+GROUPS = [group for module in (elf_cases, elf_contents, elf_jobs, relocations, directories, archives)
+          for group in module.GROUPS]
 
 
 def cases():

@@ -9,6 +9,7 @@ from lib.elf import (
     ALLOC, BIG_32, BIG_64, COMPRESSED, CREL, ET_CORE, ET_DYN, ET_EXEC, ET_REL, EXECINSTR, LITTLE_32, LITTLE_64, NOBITS,
     OBJECT, REL, RELA, SYMTAB, SYMTAB_SHNDX, WRITE, Form, Section, changed, compact, image, line_unit, place_of,
     relocation, symbol, unit_text)
+from lib.program import data
 
 # `copy` refuses object files, so what else is wrong with them isn't asked of it.
 LOOKING = [words for words in COMMANDS if words[0] != "copy"]
@@ -312,6 +313,82 @@ def sections_of_symbols():
     yield located("section 0x12345", file, ["-j", ".first"], [3])
 
 
+def places_of_relocations():
+    """The first of several relocations at an address says its section, and one beside it says nothing."""
+    sections = [LINES, Section(".first"), Section(".second"), TEXT]
+    symbols = Section(".symtab", b"".join(symbol(OBJECT, 0, number) for number in (0, 2, 3)), SYMTAB)
+    data, (one, two) = line_unit(OBJECT, [(0x10, 1), (0x20, 2)])
+    for name, entries, first, second in [
+        ("falling", [(two, 1, SET_8, 0x20), (one, 2, SET_8, 0x10), (one, 1, SET_8, 0x10)], [2], [1]),
+        ("rising", [(one, 1, SET_8, 0x10), (one, 2, SET_8, 0x10), (two, 2, SET_8, 0x20)], [1], [2]),
+        ("beside", [(one + 4, 1, SET, 0), (two, 1, SET_8, 0x20)], [2], []),
+    ]:
+        contents = b"".join(relocation(OBJECT, *entry) for entry in entries)
+        file = image(OBJECT, [replace(LINES, data=data), *sections[1:], symbols, relocations(contents, RELA, 5)])
+        for words, answers in ((".first", first), (".second", second)):
+            yield located(f"{name}, {words}", file, ["-j", words], answers, 2)
+
+
+def unread_sequences():
+    """After a reserved length, and of a sequence that doesn't end, nothing answers."""
+    data, (one, two) = line_unit(OBJECT, [(0x10, 1), (0x20, 2)])
+    # The second sequence without DW_LNE_end_sequence.
+    cut = OBJECT.pack("I", len(data) - 7) + data[4:-3]
+    for name, data, moved, answers, fault in [
+        ("a reserved length", b"\xf0\xff\xff\xff" + data, 4, [], "dwline: damage at 0x0: reserved initial length\n"),
+        ("no end", cut, 0, [1], ""),
+    ]:
+        symbols = Section(".symtab", symbol(OBJECT) + symbol(OBJECT, 0, 4), SYMTAB)
+        contents = b"".join(relocation(OBJECT, place + moved, 1, SET_8, 0x10 * k)
+                            for k, place in enumerate((one, two), 1))
+        file = image(OBJECT, [replace(LINES, data=data), symbols, relocations(contents, RELA, 2), TEXT])
+        yield replace(located(name, file, ["-j", ".text"], answers, 2), errors=fault)
+
+
+# A unit by an assembler. The path of its directory has DW_FORM_line_strp, at byte 32, and those of its files have
+# DW_FORM_strp, at byte 40.
+OPERATIONS = data("operations", "debug_line")
+DIRECTORY, FILE = 32, 40
+
+
+def changed_units(*changes):
+    """The unit once for each of these, with other bytes at places."""
+    section = b""
+    for places in changes:
+        unit = bytearray(OPERATIONS)
+        for place, byte in places.items():
+            unit[place] = byte
+        section += bytes(unit)
+    return section
+
+
+def named_strings():
+    """A .debug_str that can't be inflated is refused where a table of any unit names it, as far as units are cut by their
+    lengths; --version-5 passes over a unit of version 4."""
+    none, directory = {FILE: 0x1f}, {DIRECTORY: 0x0e, FILE: 0x1f}
+    reserved = {0: 0xf0, 1: 0xff, 2: 0xff, 3: 0xff}
+    refused = "elf: section .debug_str is compressed with zstd; run objcopy --decompress-debug-sections"
+    no_line, size = "no line for this address", "damage at 0x6: bad address size"
+    unread = "elf: 1 unit of version 4 is not read\ndwline: " + no_line
+    for name, units, fault in [
+        ("no unit", [], no_line),
+        ("files", [{}], refused),
+        ("neither", [none, none], no_line),
+        ("a directory of the second unit", [none, directory], refused),
+        ("files of the second unit", [none, {}], refused),
+        ("files behind version 4", [{4: 4}, {}], refused),
+        ("neither behind version 4", [{4: 4}, none], unread),
+        ("in version 4", [{4: 4, 0: 0x92}, {}], unread),
+        ("files behind an address size of 3", [{6: 3}, {}], refused),
+        ("neither behind an address size of 3", [{6: 3}, none], size),
+        ("in a unit with an address size of 3", [{6: 3, 0: 0x92}, {}], size),
+        ("behind a reserved length", [reserved, {}], "damage at 0x0: reserved initial length"),
+    ]:
+        strings = Section(".debug_str", flagged(LITTLE_64, 9, 2), flags=COMPRESSED)
+        file = image(LITTLE_64, [Section(".debug_line", changed_units(*units)), strings])
+        yield Case(name, file, ["find", "--version-5", "1", "elf"], 1, "", f"dwline: {fault}\n")
+
+
 def not_relative():
     """No section may be named where no relocation changes the line section."""
     fault = "its addresses are not relative to a section"
@@ -396,4 +473,5 @@ def findings():
 
 
 GROUPS = [streams, damaged_streams, damaged_strings, refused, applied, not_applied, claimed_sizes, object_files,
-          relocated_streams, numbers, sections_of_symbols, not_relative, code, findings]
+          relocated_streams, numbers, sections_of_symbols, places_of_relocations, unread_sequences, named_strings,
+          not_relative, code, findings]

@@ -77,6 +77,7 @@ OF_OTHER_FILES = [
     Line("dump compressed", (150, 0, 15, 1)),
     Line("addr compressed", (180, 2, 40, 1), ANSWERS, stdin=ASKED),
     Line("dump compressed.o", (150, 0, 15, 1)),
+    Line("dump damaged", (150, 0, 15, 1)),
     Line("dump long", (150, 0, 15, 2)),
     # Files whose line table stands in another one.
     Line("dump --debug-dir debug by-id", (150, 0, 20, 1), open=(AGAIN, UNTOLD, MISTOLD)),
