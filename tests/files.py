@@ -5,11 +5,12 @@ import functools
 import os
 import subprocess
 
-from cases import archives, directories, elf_cases, elf_contents, elf_jobs, relocations
+from cases import (
+    archives, directories, elf_cases, elf_contents, elf_jobs, elf_lookups, elf_members, relocations)
 from lib.program import DWLINE, ENVIRONMENT, SECONDS, Ran, by_hand, differences, folder, numbered
 
-GROUPS = [group for module in (elf_cases, elf_contents, elf_jobs, relocations, directories, archives)
-          for group in module.GROUPS]
+TABLES = (elf_cases, elf_contents, elf_jobs, elf_lookups, elf_members, relocations, directories, archives)
+GROUPS = [group for table in TABLES for group in table.GROUPS]
 
 
 def cases():

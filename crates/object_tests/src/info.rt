@@ -1,7 +1,0 @@
-//! Units that compilers made, and some made by hand.
-
-mod compiled;
-mod forms;
-mod made;
-mod row;
-mod units;
