@@ -3,7 +3,7 @@ import os
 from functools import lru_cache, partial
 
 from cases import section_dump, section_sources
-from cases.command_lines import ADDRESSES, RANGES, REFUSED, SAME
+from cases.command_lines import ADDRESSES, HEXADECIMAL, RANGES, REFUSED, SAME
 from cases.elf_lookups import INDEX, NOTE_OF_BUILD
 from cases.section_addr import PATHS, RELATIVE
 from lib.elf import ALLOC, BIG_64, DIRECTORY, EXECINSTR, LITTLE_64, Section, image, line_unit, unit_text
@@ -58,7 +58,9 @@ def cases():
         for line in lines:
             yield line, partial(expect, line.split(), "", pattern(text), 2)
     for word, address in ADDRESSES:
-        yield f"the address {word!r}", partial(says_address, word, address)
+        yield f"the address {word!r}", partial(says_address, ["--decimal"], word, address)
+    for word, address in HEXADECIMAL:
+        yield f"the hexadecimal address {word!r}", partial(says_address, [], word, address)
     for word, limits in RANGES:
         yield f"the range {word!r}", partial(says_range, word, limits)
 
@@ -105,11 +107,12 @@ def all_differ():
     return "\n".join(alike) or None
 
 
-def says_address(word, address):
+def says_address(options, word, address):
     """An address that has no row is printed as it was read."""
+    words = ["addr", "-a", *options, "-", "--", word]
     if address is None:
-        return expect(["addr", "-a", "-", "--", word], "", told(f"{word} is no address"), 2)
-    return expect(["addr", "-a", "-", "--", word], f"0x{address:016x} ??:0\n", "", 1)
+        return expect(words, "", told(f"{word} is no address"), 2)
+    return expect(words, f"0x{address:016x} ??:0\n", "", 1)
 
 
 # Sequences of 4 bytes around the ends of ranges, each with its line.

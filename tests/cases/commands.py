@@ -160,7 +160,7 @@ PARTS = [
     (THREE_ROWS, ("--range", "0-0x401000"), "", b""),
     (THREE_ROWS, ("--range", "0x401006-0x402000"), "", b""),
     (THREE_ROWS, ("--range", "0x401001-0x401000"), "", b""),
-    (THREE_ROWS, ("--range", "4198400-4198401"), THREE_DUMP, b""),
+    (THREE_ROWS, ("--range", "401000-401001"), THREE_DUMP, b""),
     (WITH_FILE + THREE_ROWS, ("--range", "0x401000-0x401001"), at(len(WITH_FILE), THREE_DUMP), b""),
     (THREE_ROWS_AND_A_BYTE + THREE_ROWS, ("--keep-going", "--range", "0x401000-0x401001"), THREE_DUMP + at(53, THREE_DUMP),
      damage(52, ENDS_INSIDE)),

@@ -125,7 +125,7 @@ def addresses():
     """Addresses among the words and on the input, of the file that has both string sections."""
     file = image(LITTLE_32, ELF_STRINGS)
     for words, status, output in [
-        ("0x401000 4198403", 0, "cd/yz:1\ncd/yz:1\n"),
+        ("0x401000 401003", 0, "cd/yz:1\ncd/yz:1\n"),
         ("0x401004 0x401000", 1, "??:0\ncd/yz:1\n"),
         ("--hex --base 1000 -a -s --all 402000 401000 fff", 1,
          "0x0000000000402000 yz:1\n0x0000000000401000 ??:0\n0x0000000000000fff ??:0\n"),
@@ -136,7 +136,7 @@ def addresses():
     for asked, status, output, errors in [
         (b"0x401000\n", 0, "cd/yz:1\n", ""),
         (b"\n\n", 0, "", ""),
-        (b"\nmain\n 4198400\r\n", 1, "??:0\ncd/yz:1\n", "dwline: line 2: main is no address\n"),
+        (b"\nmain\n 401000\r\n", 1, "??:0\ncd/yz:1\n", "dwline: line 2: main is no address\n"),
     ]:
         yield Case(f"{asked}", file, ["addr", "elf"], status, output, errors, asked, 0)
     yield on_input("both", BOTH_STRINGS, "addr - 0x401000 --line-str line --str other", 0, "cd/yz:1\n")

@@ -84,7 +84,7 @@ OTHER = "dwline: elf: made of another file\n"
 def answers():
     """Addresses among the words, beside which the input isn't read, or in its lines."""
     for words, status, output in [
-        ("elf 0x401000 0x401003 0x401004 4198405", 0, "/src/a.c:2\n/src/a.c:2\n/src/lib/a.c:3:7\n/src/lib/a.c:3:7\n"),
+        ("elf 0x401000 0x401003 0x401004 401005", 0, "/src/a.c:2\n/src/a.c:2\n/src/lib/a.c:3:7\n/src/lib/a.c:3:7\n"),
         ("elf 0x400fff 0x401006 0x401010 0x401011 0x401012 0xffffffffffffffff", 1,
          "??:0\n??:0\n??:9\n??:9\n??:0\n??:0\n"),
         ("--for program elf 0x401000", 0, "/src/a.c:2\n"),

@@ -30,7 +30,7 @@ class Line(NamedTuple):
     unknown: str = "??:0\n"
 
 
-ASKED = "0x4010b0\n4198576\nmain\n0x401099\n"
+ASKED = "0x4010b0\n4010b0\nmain\n0x401099\n"
 STRINGS = "--line-str debug_line_str --str debug_str"
 NO_LINE = "??\n"
 

@@ -17,7 +17,7 @@ LOCATIONS = [
     ("gcc-O2", "0x401000 0x401017 0x40101a 0x40109c 0x40109d 0x4010ac 0x401000", [
         f"{SERIES}:8:23", f"{SERIES}:6:9", f"{RANGE}:19:44", f"{SERIES}:24:1", f"{SERIES}:30:18", f"{SERIES}:32:5",
         f"{SERIES}:8:23"]),
-    ("gcc-O2", "4198630 0x4010b0 0x40110c", ["/boxantrel/grammar.y:70004:27", f"{MAIN}:22:1", f"{MAIN}:28:9"]),
+    ("gcc-O2", "4010e6 0x4010b0 0x40110c", ["/boxantrel/grammar.y:70004:27", f"{MAIN}:22:1", f"{MAIN}:28:9"]),
     # Below all rows, in the gap between two sequences, and behind the last one.
     ("gcc-O2", "0 0x400fff 0x401000 0x4010ad 0x4010af 0x40110d", [NONE, NONE, f"{SERIES}:8:23", NONE, NONE, NONE]),
     ("gcc-O2", "0xffffffffffffffff", [NONE]),

@@ -162,7 +162,7 @@ ANSWERS = [
     addr("the first sequence answers", "0x140 0x17f 0x180 0x45", [OVER, DEAD, PATHS],
          "/o/one.c:1:1\n/o/one.c:1:1\n/o/two.c:2:2\n/d/dead.c:2:2\n"),
     # The base is subtracted first, and the address stands before its location as it was given.
-    asked("bases and addresses", "-a --base 0x555500000000", b"0x555500001010\n4112\nmain\n0xffffffffffffffff", [PATHS],
+    asked("bases and addresses", "-a --base 0x555500000000", b"0x555500001010\n1010\nmain\n0xffffffffffffffff", [PATHS],
           "0x0000555500001010 /src/main.c:11:1\n0x0000000000001010 ??:0\n??:0\n0xffffffffffffffff ??:0\n", 1,
           not_address(3, "main")),
     # The whole units before a fault answer, and then the fault is told.
@@ -314,8 +314,8 @@ def answered(*addresses):
 
 
 OF_LINES = [
-    asked("lines", "-a", LINES, [TOP], answered(0x10, 17, 18, None, None, None), 1, not_address(5, "main")),
-    asked("lines of hexadecimal digits", "-a --hex", LINES, [TOP], answered(0x10, 0x17, 0x18, None, None, 0x1f), 1,
+    asked("lines", "-a", LINES, [TOP], answered(0x10, 0x17, 0x18, None, None, 0x1f), 1, not_address(5, "main")),
+    asked("lines of decimal digits", "-a --decimal", LINES, [TOP], answered(0x10, 17, 18, None, None, None), 1,
           not_address(5, "main")),
 ]
 

@@ -227,7 +227,7 @@ UNITS = [
 
 def of_range(low, high, section, *texts):
     return Case(f"{len(section)} bytes, 0x{low:x} to 0x{high:x}",
-                f"dump --operations --range {low}-{high} --older 8", section, "".join(texts))
+                f"dump --operations --range {low:x}-0x{high:x} --older 8", section, "".join(texts))
 
 
 MOST = (1 << 64) - 1
