@@ -45,6 +45,8 @@ def cases():
     for language, program in blocks(text):
         if language in PROGRAMS:
             yield f"the program in {language}", functools.partial(try_program, language, program)
+    for number, block in enumerate(block for language, block in blocks(read("examples/README.md")) if language == "console"):
+        yield f"examples/README.md, block {number + 1}", functools.partial(try_examples, block)
     for target in sorted(targets(text)):
         yield f"make {target}".strip(), functools.partial(try_target, target)
     yield "make try with other words", try_words
@@ -129,19 +131,28 @@ def consoles(text):
     """The commands whose output is shown."""
     for language, block in blocks(text):
         if language == "console":
-            for part in re.split(r"^\$ ", block, flags=re.MULTILINE)[1:]:
-                line, _, shown = part.partition("\n")
-                yield re.sub(r"\s+# .*", "", line), shown.rstrip()
+            yield from commands(block)
+
+
+def commands(block):
+    """The commands of a block, each with its output."""
+    for part in re.split(r"^\$ ", block, flags=re.MULTILINE)[1:]:
+        line, _, shown = part.partition("\n")
+        yield re.sub(r"\s+# .*", "", line), shown.rstrip()
+
+
+def is_shown(shown, printed):
+    """Whether a text is as it is shown, where a line `...` stands for any lines."""
+    parts = [re.escape(part) for part in re.split(r"^\.\.\.$", shown, flags=re.MULTILINE)]
+    return re.fullmatch(".*".join(parts), printed, re.DOTALL) is not None
 
 
 def try_shown(command, shown):
-    """A text is as it is shown, where a line `...` stands for any lines."""
     missing = peer_missing(command)
     if missing:
         return missing
-    parts = [re.escape(part) for part in re.split(r"^\.\.\.$", shown, flags=re.MULTILINE)]
     printed = shell(command)[1]
-    return None if re.fullmatch(".*".join(parts), printed, re.DOTALL) else f"{command} prints\n{printed}"
+    return None if is_shown(shown, printed) else f"{command} prints\n{printed}"
 
 
 def in_tables(text):
@@ -222,6 +233,20 @@ def try_rattle(program):
         assert file.read() == given.read(), f"crates/list_rows isn't run over {section}"
     rows = read("crates/list_rows/stdout").splitlines()
     return unlike("crates/list_rows", (int(count), first), (len(rows), rows[0]))
+
+
+def try_examples(block):
+    """The commands of a block of examples/README.md, one after the other, print what it shows."""
+    if not os.path.exists(os.path.join(TOP, "out/libboxantrel.a")):
+        return Skipped("the library isn't built (make lib)")
+    if "cargo" in block and not shutil.which("cargo"):
+        return Skipped("cargo isn't installed")
+    target = folder()
+    for command, shown in commands(block):
+        status, printed = shell(f"CARGO_TARGET_DIR={target} {command}")
+        if status or not is_shown(shown, printed):
+            return f"{command} ends with {status} and prints\n{printed}"
+    return None
 
 
 # ---- make

@@ -1,6 +1,6 @@
 //! ELF files of 32 bits and little-endian order, made by hand from the tables of the System V ABI, chapter 4: the file
 //! header, the sections' bytes, their names, and the section headers, each of which is two lines. The last section is the
-//! name table. examples/try-files.py tries what becomes of such files, damaged ones among them.
+//! name table. tests/files.py tries what becomes of such files, damaged ones among them.
 
 /// A line section of these bytes.
 pub const PLAIN: &[u8] = b"\x7fELF\x01\x01\x01\0\0\0\0\0\0\0\0\0\

@@ -1,4 +1,4 @@
-//! Streams, and what zlib says of them: written by examples/zlib-streams.py.
+//! Streams, and what zlib says of them: written by tests/cases/make_streams.py.
 
 pub static NOTHING: [u8; 8] = [120, 156, 3, 0, 0, 0, 0, 1];
 
