@@ -139,7 +139,8 @@ def findings(where):
     for archive in ARCHIVES:
         for words in ("lint", "lint --json", "lint --keep-going"):
             yield archive_case(where, words, archive, MEMBERS, counted, 1)
-    yield archive_case(where, "lint --verbose", "lib.a", MEMBERS, counted + "lib.a: 2 members without a line table\n", 1)
+    yield archive_case(where, "lint --verbose", "lib.a", MEMBERS, counted + "lib.a: 2 members without a line table\n",
+                       1)
     # One of two members has a finding.
     for words in ("lint --rule duplicate-file", "lint --no-rule unused-file"):
         yield archive_case(where, words, "lib.a", MEMBERS, "findings: duplicate-file=1\n", 1)

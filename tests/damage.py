@@ -1,7 +1,7 @@
 """Sections and files of which one byte is changed, each in turn, or that end early.
 
-A section: the unit that the byte belongs to may be damaged, or say something else. What the bytes before it tell is told
-first. The units before its own are told as before, and so are those after it, but where the byte is of its initial
+A section: the unit that the byte belongs to may be damaged, or say something else. What the bytes before it tell is
+told first. The units before its own are told as before, and so are those after it, but where the byte is of its initial
 length: from there on the section may be cut otherwise. Each damaged unit is told in a line, and counted by `check`.
 Where it is damaged, addresses are answered as over the section without that unit. An object file: its addresses are
 looked up in each section with code. The units that aren't damaged answer as before, and nobody for the one that is. A
@@ -229,8 +229,8 @@ def headers_first(file):
 
 
 def cases_of_cuts(name, file, of=None):
-    """The file is cut at each byte of its headers, and at some others. `of` is the folder with its dump where a cut file
-    has to have one."""
+    """The file is cut at each byte of its headers, and at some others. `of` is the folder with its dump where a cut
+    file has to have one."""
     start, end = table(file)
     cuts = [cut for cut in range(len(file)) if cut < 64 or start <= cut < end or cut % 37 == 0]
     for first in range(0, len(cuts), CUTS):

@@ -1,7 +1,7 @@
 """The files of tests/data: what each command writes of them, and of their sections on standard input.
 
-A file's expected dump is not of dwline; README.md says whence it is. What other commands write is worked out from it, or
-is what another command writes of the same file."""
+A file's expected dump is not of dwline; README.md says whence it is. What other commands write is worked out from it,
+or is what another command writes of the same file."""
 
 import functools
 import json

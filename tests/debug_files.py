@@ -99,7 +99,7 @@ def in_a_cache():
 
 
 def linked():
-    """A folder with bin/program, whose debug link is of apart/program.debug; a link has no symbolic links on its way."""
+    """A folder with bin/program, whose debug link is of apart/program.debug. Its path has no symbolic links."""
     where = os.path.realpath(folder({"apart/none": b"", "bin/none": b""}))
     objcopy("--only-keep-debug", GCC, f"{where}/apart/program.debug")
     objcopy("--strip-debug", f"--add-gnu-debuglink={where}/apart/program.debug", GCC, f"{where}/bin/program")

@@ -93,8 +93,8 @@ def names_of(pattern):
 
 
 def proofs():
-    """The map of the proofs has each file of lemmas, and the guarantees each crate. Each lemma that the way from a clause
-    to its proof names is declared in a file of that name."""
+    """The map of the proofs has each file of lemmas, and the guarantees each crate. Each lemma that the way from a
+    clause to its proof names is declared in a file of that name."""
     page = read("docs/PROOFS.md")
     for name in sorted(set(names_of("crates/*/proofs/*.antt")) - {"Lib"}):
         yield f"docs/PROOFS.md has {name}", lambda name=name: (
@@ -115,13 +115,14 @@ def try_lemma(file, lemma):
 
 
 # Under these lines of a crate's list stands what each file says in its first line.
-MARKS = [("-- What the public contracts say", ""), ("-- For what a value stands", "No promise rests on how this is said."),
+MARKS = [("-- What the public contracts say", ""), ("-- For what a value stands",
+                                                    "No promise rests on how this is said."),
          ("-- Of contracts inside the crate", "No promise rests on this file.")]
 
 
 def definitions():
-    """What a promise rests on: each file of definitions says in its first line what the list of its crate says of it, and
-    those that public contracts rest on are named in the definitions in words, or hold laws."""
+    """What a promise rests on: each file of definitions says in its first line what the list of its crate says of it,
+    and those that public contracts rest on are named in the definitions in words, or hold laws."""
     for lib in files("crates/*/specs/Lib.antt"):
         mark = ""
         for line in read(lib).splitlines():

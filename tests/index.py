@@ -141,8 +141,8 @@ def changed_indices():
 
 
 def try_changed(some):
-    """A fault is told, and nothing is listed. `addr` answers, or tells one fault, and nothing else; what no longer begins
-    as an index is no ELF file, of which no address has an answer."""
+    """A fault is told, and nothing is listed. `addr` answers, or tells one fault, and nothing else; what no longer
+    begins as an index is no ELF file, of which no address has an answer."""
     path = os.path.join(folder(), "index")
     for name, index in some:
         write(path, index)

@@ -303,8 +303,8 @@ def try_around(name):
 
 
 def try_where(name):
-    """Of an ELF file the index is the one that `dwline index` makes, its list the same, and at the ends of its stretches
-    what `dwline addr` says of the file."""
+    """Of an ELF file the index is the one that `dwline index` makes, its list the same, and at the ends of its
+    stretches what `dwline addr` says of the file."""
     file, where = program(name), folder()
     for words in ([], ["--all"], ["--keep-going"]):
         index = run("index", *words, file, "-o", "-")

@@ -1,10 +1,10 @@
 """What README.md shows: every command and every program, and what they print.
 
-A block `console` has commands behind `$ `, each with its output below it, standard error too; a line `...` stands for any
-lines. The commands of other projects are run where they have the version that README.md names. Each command in a table is
-run over a file of tests/data, and has to print something and to end well. The programs in C, Rust and Python are compiled
-over the library as they say themselves; that in Rattle is the code of crates/list_rows. `make try` is run with --all: it
-takes minutes.
+A block `console` has commands behind `$ `, each with its output below it, standard error too; a line `...` stands for
+any lines. The commands of other projects are run where they have the version that README.md names. Each command in a
+table is run over a file of tests/data, and has to print something and to end well. The programs in C, Rust and Python
+are compiled over the library as they say themselves; that in Rattle is the code of crates/list_rows. `make try` is run
+with --all: it takes minutes.
 
 Lines have at most 120 columns and paragraphs four lines, and what a link of a page names is there."""
 
@@ -45,7 +45,8 @@ def cases():
     for language, program in blocks(text):
         if language in PROGRAMS:
             yield f"the program in {language}", functools.partial(try_program, language, program)
-    for number, block in enumerate(block for language, block in blocks(read("examples/README.md")) if language == "console"):
+    for number, block in enumerate(block for language,
+                                   block in blocks(read("examples/README.md")) if language == "console"):
         yield f"examples/README.md, block {number + 1}", functools.partial(try_examples, block)
     for target in sorted(targets(text)):
         yield f"make {target}".strip(), functools.partial(try_target, target)
@@ -229,7 +230,8 @@ def try_rattle(program):
     assert program.splitlines() == code, "README.md has another program in Rattle than crates/list_rows"
     section, count, first = re.search(r"list_rows && rt try < ../../([^`]+)`\s+prints (\d+) rows, .*\s`([^`]+)`",
                                       read("README.md")).groups()
-    with open(os.path.join(TOP, section), "rb") as file, open(os.path.join(TOP, "crates/list_rows/stdin"), "rb") as given:
+    with open(os.path.join(TOP, section), "rb") as file, open(os.path.join(TOP, "crates/list_rows/stdin"),
+                                                              "rb") as given:
         assert file.read() == given.read(), f"crates/list_rows isn't run over {section}"
     rows = read("crates/list_rows/stdout").splitlines()
     return unlike("crates/list_rows", (int(count), first), (len(rows), rows[0]))

@@ -66,8 +66,8 @@ def try_paths():
 
 
 def newer(directory):
-    """What the dump of the unit becomes as one of version 5: under a directory 0 that is said, or is `.`, and with a file
-    0 that is file 1."""
+    """What the dump of the unit becomes as one of version 5: under a directory 0 that is said, or is `.`, and with a
+    file 0 that is file 1."""
     for text in dump("fpc-dwarf2").decode().splitlines():
         text = re.sub(r" time=0 size=0$", "", re.sub(r"version [234] ", "version 5 ", text))
         if text.startswith("file 1 "):
@@ -125,8 +125,8 @@ def try_objects():
 
 
 def try_compressed_info():
-    """.debug_info that is compressed says the same directory. Where its stream is damaged, its check value being wrong, no
-    directory is known."""
+    """.debug_info that is compressed says the same directory. Where its stream is damaged, its check value being wrong,
+    no directory is known."""
     if not shutil.which("objcopy"):
         return Skipped("objcopy isn't installed")
     where = folder({"packed": data("gcc-dwarf4", "program")})
@@ -165,8 +165,8 @@ def try_rows_before_the_end():
 
 
 def try_fields():
-    """Versions 2 and 3 say no maximum of operations, and versions 2 to 4 no formats. peers/headers.py compares each field
-    with other tools."""
+    """Versions 2 and 3 say no maximum of operations, and versions 2 to 4 no formats. peers/headers.py compares each
+    field with other tools."""
     head = dump("clang-dwarf2").splitlines()[0].decode()
     wanted = [head, "unit_length 458", "header_length 50", "minimum_instruction_length 1", "default_is_stmt 1",
               "line_base -5", "line_range 14", "opcode_base 13", "lengths 0 1 1 1 1 0 0 0 1 0 0 1",

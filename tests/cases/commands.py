@@ -3,7 +3,8 @@ from lib.dumps import UNIT, TRUNCATED, Run, counts_of, damage, error, row, text
 from cases.headers import DWARF64_DUMP, EACH_FORM_DUMP
 from cases.programs import THREE_DUMP
 from cases.units import (
-    BIG_DWARF64_WITH_MD5, BIG_OPERATIONS, DWARF64_WITH_MD5, EACH_FORM, EMPTY_PROGRAM, FOREIGN, NO_TABLES, OPCODE_BASE_10, PADDED,
+    BIG_DWARF64_WITH_MD5, BIG_OPERATIONS, DWARF64_WITH_MD5, EACH_FORM, EMPTY_PROGRAM, FOREIGN, NO_TABLES,
+    OPCODE_BASE_10, PADDED,
     PADDED_COPIED, PADDING_OF_THREE_BYTES, SMALLEST, THREE_ROWS, THREE_ROWS_AND_A_BYTE, WITH_FILE, unit_of)
 
 NOT_FOUND = error("no line for this address")
@@ -66,7 +67,8 @@ def fields(unit_length, header_length, directories="", files="", opcode_base=13,
     """The lines of the fields of a header."""
     return (f"unit_length {unit_length}\nheader_length {header_length}\nminimum_instruction_length 1\n"
             "maximum_operations_per_instruction 1\ndefault_is_stmt 1\nline_base -5\nline_range 14\n"
-            f"opcode_base {opcode_base}\nlengths {lengths}\ndirectory_format{directories}\nfile_format{files}\n{padding}")
+            f"opcode_base {opcode_base}\nlengths {lengths}\ndirectory_format{directories}\nfile_format{files}\n"
+            f"{padding}")
 
 
 def with_fields(dump, lines):
@@ -77,7 +79,8 @@ def with_fields(dump, lines):
 
 OF_MD5 = fields(66, 54, " path=string", " path=string dir=udata md5=data16")
 OF_EACH_FORM = fields(
-    156, 148, " path=block2 dir=block4 time=data2 size=data4 md5=data8 0x6=string 0x7=block 0x8=block1 0x9=data1 0xa=strp"
+    156, 148, " path=block2 dir=block4 time=data2 size=data4 md5=data8 0x6=string 0x7=block 0x8=block1 0x9=data1"
+              " 0xa=strp"
     " 0xb=udata 0xc=strp_sup 0xd=data16 0xe=line_strp", " path=udata dir=block")
 
 # A section, and what `dump --header` prints of it. Section 6.2.4.
@@ -141,8 +144,9 @@ NO_UNIT = error("no unit at this offset")
 NOT_UNDERSTOOD = error("words not understood")
 ENDS_INSIDE = "unit ends inside an opcode"
 
-# A section, words of `dump` by which a part of it is printed, the part, and what is told: units before the one at an offset may be
-# damaged, and nothing after it is read; the sequence of three rows covers the addresses from 0x401000 on and below 0x401006.
+# A section, words of `dump` by which a part of it is printed, the part, and what is told: units before the one at an
+# offset may be damaged, and nothing after it is read; the sequence of three rows covers the addresses from 0x401000 on
+# and below 0x401006.
 PARTS = [
     (THREE_ROWS * 2, ("--unit", "52"), at(52, THREE_DUMP), b""),
     (THREE_ROWS * 2, ("--unit", "0x34"), at(52, THREE_DUMP), b""),
@@ -162,12 +166,14 @@ PARTS = [
     (THREE_ROWS, ("--range", "0x401001-0x401000"), "", b""),
     (THREE_ROWS, ("--range", "401000-401001"), THREE_DUMP, b""),
     (WITH_FILE + THREE_ROWS, ("--range", "0x401000-0x401001"), at(len(WITH_FILE), THREE_DUMP), b""),
-    (THREE_ROWS_AND_A_BYTE + THREE_ROWS, ("--keep-going", "--range", "0x401000-0x401001"), THREE_DUMP + at(53, THREE_DUMP),
+    (THREE_ROWS_AND_A_BYTE + THREE_ROWS, ("--keep-going", "--range", "0x401000-0x401001"),
+     THREE_DUMP + at(53, THREE_DUMP),
      damage(52, ENDS_INSIDE)),
 ]
 
-# A section, words of `sources`, the paths of the unit at an offset, with the rows and bytes of code that they have, or their sums,
-# and what is told: none of a unit that is damaged. Where no unit is, the first one that is damaged is told, if there is one.
+# A section, words of `sources`, the paths of the unit at an offset, with the rows and bytes of code that they have, or
+# their sums, and what is told: none of a unit that is damaged. Where no unit is, the first one that is damaged is told,
+# if there is one.
 OF_UNIT = "/s/a.c\n"
 SUM = "000102030405060708090a0b0c0d0e0f"
 UNIT_SOURCES = [
@@ -193,7 +199,8 @@ UNIT_SOURCES = [
     (THREE_ROWS_AND_A_BYTE + WITH_FILE, ("--unit", "0"), "", damage(52, ENDS_INSIDE)),
     (THREE_ROWS_AND_A_BYTE + WITH_FILE, ("--unit", "52"), "", damage(52, ENDS_INSIDE)),
     (WITH_FILE + THREE_ROWS_AND_A_BYTE, ("--unit", "0"), OF_UNIT, b""),
-    (WITH_FILE + bytes.fromhex("f0 ff ff ff"), ("--unit", "200"), "", damage(len(WITH_FILE), "reserved initial length")),
+    (WITH_FILE + bytes.fromhex("f0 ff ff ff"), ("--unit", "200"), "",
+     damage(len(WITH_FILE), "reserved initial length")),
 ]
 
 NO_FILE = "file-index: row {} at 0x{:016x} names file 1 of 0, numbered from 0\n"
@@ -208,8 +215,8 @@ TWICE_OBJECT = ('{"offset":101,"rule":"overlap","row":3,"address":"0x00000000004
 
 
 def spans(*both, falls=False):
-    """A unit of 34 bytes and a sequence of 17 for each pair of addresses, where it begins and where it ends. One that falls has
-    a row more, above the address where it ends."""
+    """A unit of 34 bytes and a sequence of 17 for each pair of addresses, where it begins and where it ends. One that
+    falls has a row more, above the address where it ends."""
     program = b""
     for first, end in both:
         program += b"\0\x09\x02" + first.to_bytes(8, "little") + b"\x01"
@@ -221,8 +228,8 @@ def spans(*both, falls=False):
     return unit_of(NO_TABLES, program)
 
 
-# Sections, and of each sequence that covers a place of one before it the offset, number and address of its end row, that place, and
-# the unit of the first one that covers it.
+# Sections, and of each sequence that covers a place of one before it the offset, number and address of its end row,
+# that place, and the unit of the first one that covers it.
 OVERLAPS = [
     # One ends where the other one begins.
     (spans((0x1000, 0x1010), (0x1010, 0x1020)), []),
@@ -232,7 +239,8 @@ OVERLAPS = [
     (spans((0x1008, 0x1010)) + spans((0x1000, 0x1018)), [("0x63", 2, 0x1018, 0x1008, "0x0")]),
     (spans((0x1000, 0x1018)) + spans((0x1008, 0x1010)), [("0x63", 2, 0x1010, 0x1008, "0x0")]),
     # The first place that is covered is one of the second unit, and then one that the first two cover.
-    (spans((0x1010, 0x1020)) + spans((0x1000, 0x1008)) + spans((0x1000, 0x1018)), [("0x96", 2, 0x1018, 0x1000, "0x33")]),
+    (spans((0x1010, 0x1020)) + spans((0x1000, 0x1008)) + spans((0x1000, 0x1018)),
+     [("0x96", 2, 0x1018, 0x1000, "0x33")]),
     (spans((0x1000, 0x1010), (0x1004, 0x1014), (0x1006, 0x1008)),
      [("0x41", 4, 0x1014, 0x1004, "0x0"), ("0x52", 6, 0x1008, 0x1006, "0x0")]),
     # One that covers nothing, and those whose rows fall.

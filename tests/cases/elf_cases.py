@@ -220,4 +220,5 @@ def debug_links():
             yield Linked(f"{form}, {what}", image(form, [TEXT, section]), CHECK, *answer, beside=beside)
 
 
-GROUPS = [classes_and_orders, names, escapes, file_headers, section_headers, cut_files, without_headers, notes, debug_links]
+GROUPS = [classes_and_orders, names, escapes, file_headers, section_headers, cut_files, without_headers, notes,
+          debug_links]

@@ -147,8 +147,8 @@ COMPACT_NO_ADDEND = relocations(compact([(PLACE, 1, SET)]), CREL)
 
 
 def applied():
-    """Relocations of the line section, and the address that they make of 0x1000: the value of the symbol, 0x100 of symbol
-    1, and the addend, 0x2000 or else what stands there."""
+    """Relocations of the line section, and the address that they make of 0x1000: the value of the symbol, 0x100 of
+    symbol 1, and the addend, 0x2000 or else what stands there."""
     for name, sections, address in [
         ("an addend", [ADDEND], 0x2000),
         ("no symbol table", [replace(ADDEND, link=0)], 0x2000),
@@ -201,7 +201,8 @@ def claimed_sizes():
 
 
 def object_files():
-    """An object file whose line section no relocation changes, or whose section of them has no entry: it isn't copied."""
+    """An object file whose line section no relocation changes, or whose section of them has no entry. It isn't
+    copied."""
     for form in FORMS:
         line = line_section(2, form=form)
         for name, section in [
@@ -217,7 +218,7 @@ def object_files():
 
 
 def relocated_streams():
-    """Relocations are applied to what a line section inflates to, and the faults of its stream are told before theirs."""
+    """Relocations are applied to what a line section inflates to. The faults of its stream are told before theirs."""
     size, whole, empty = len(MOVED.data), zlib.compress(MOVED.data, 9), b"\x78\xda\x03\x00\x00\x00\x00\x01"
     damaged, cut = "section .debug_line: damaged zlib stream at 0x", whole[:-2]
     for what, section, fault in [
@@ -255,12 +256,13 @@ def with_sequences(form, sections, symbols, entries=(), section_type=RELA, wide=
 
 
 def located(name, file, words, answers, count=5, fault=None):
-    """A case in which `addr` is asked for the addresses 0x10, 0x20 and so on, of which those in `answers` are of rows in
-    the lines 1, 2 and so on."""
+    """A case in which `addr` is asked for the addresses 0x10, 0x20 and so on, of which those in `answers` are of rows
+    in the lines 1, 2 and so on."""
     addresses = [f"0x{0x10 * k:x}" for k in range(1, count + 1)]
     output = "".join(f"??:{k if k in answers else 0}\n" for k in range(1, count + 1))
     status = 0 if len(answers) == count else 1
-    return Case(name, file, ["addr", *words, "elf", *addresses], status, output, f"dwline: elf: {fault}\n" if fault else "")
+    return Case(name, file, ["addr", *words, "elf", *addresses], status, output,
+                f"dwline: elf: {fault}\n" if fault else "")
 
 
 CODE = Section(".text.first", flags=ALLOC | EXECINSTR)
@@ -363,8 +365,8 @@ def changed_units(*changes):
 
 
 def named_strings():
-    """A .debug_str that can't be inflated is refused where a table of any unit names it, as far as units are cut by their
-    lengths; --version-5 passes over a unit of version 4."""
+    """A .debug_str that can't be inflated is refused where a table of any unit names it, as far as units are cut by
+    their lengths; --version-5 passes over a unit of version 4."""
     none, directory = {FILE: 0x1f}, {DIRECTORY: 0x0e, FILE: 0x1f}
     reserved = {0: 0xf0, 1: 0xff, 2: 0xff, 3: 0xff}
     refused = "elf: section .debug_str is compressed with zstd; run objcopy --decompress-debug-sections"
@@ -434,16 +436,18 @@ NO_CODE = "0x0 no-code: no sequence covers an address of the {} bytes of code fr
 
 
 def end_offset(form, number):
-    """Where the end row of a sequence of `line_unit` stands, from 0 on: it takes 3 bytes behind an address and 8 others."""
+    """Where the end row of a sequence of `line_unit` stands, from 0 on: it takes 3 bytes behind an address and 8
+    others."""
     return 34 + (number + 1) * (19 if form.wide else 15) - 3
 
 
 def findings():
-    """What `lint` finds of sequences: in a linked file with code those are live that begin there, and its ranges are known; of
-    another one nothing is found, since there addresses may be relative to sections."""
+    """What `lint` finds of sequences: in a linked file with code those are live that begin there, and its ranges are
+    known; of another one nothing is found, since there addresses may be relative to sections."""
     def linted(name, form, sections, addresses, findings, counts, words=()):
         lines = Section(".debug_line", line_unit(form, [(address, 1) for address in addresses])[0])
-        return Case(name, image(form, [*sections, lines]), ["lint", "elf", *ABOUT_CODE, *words], 1 if findings else 0, findings,
+        return Case(name, image(form, [*sections, lines]), ["lint", "elf", *ABOUT_CODE, *words], 1 if findings else 0,
+                    findings,
                     f"findings: {counts}\n" if findings else "")
     for form in FORMS:
         for file_type in (ET_EXEC, ET_DYN, ET_REL, ET_CORE):
@@ -453,9 +457,11 @@ def findings():
             addresses = [0x401000, 0x402000, 0x401002, 0x402002]
             live = COVERED.format(end_offset(form, 2), 6, 0x401006, 0x401002)
             if linked:
-                yield linted(f"{form}", form, PARTS, addresses, DEAD.format(2, 0x402000) + live + NO_CODE.format(13, 0x1000),
+                yield linted(f"{form}", form, PARTS, addresses,
+                             DEAD.format(2, 0x402000) + live + NO_CODE.format(13, 0x1000),
                              "overlap=1 dead-sequence=1 no-code=1")
-                yield linted(f"{form}, one", form, PARTS, [0x1000, 0x3000], DEAD.format(1, 0x3000) + NO_CODE.format(4, 0x401000),
+                yield linted(f"{form}, one", form, PARTS, [0x1000, 0x3000],
+                             DEAD.format(1, 0x3000) + NO_CODE.format(4, 0x401000),
                              "dead-sequence=1 no-code=1")
             else:
                 yield linted(f"{form}", form, PARTS, addresses, "", "")

@@ -130,7 +130,8 @@ def addresses():
         ("--hex --base 1000 -a -s --all 402000 401000 fff", 1,
          "0x0000000000402000 yz:1\n0x0000000000401000 ??:0\n0x0000000000000fff ??:0\n"),
         ("--json 0x401000", 0,
-         '{"address":"0x0000000000401000","path":"cd/yz","line":1,"column":0,"discriminator":0,"is_stmt":true,"unit":"0x0"}\n'),
+         '{"address":"0x0000000000401000","path":"cd/yz","line":1,"column":0,"discriminator":0,"is_stmt":true,'
+         '"unit":"0x0"}\n'),
     ]:
         yield Case(words, file, ["addr", "elf", *words.split()], status, output)
     for asked, status, output, errors in [

@@ -1,12 +1,13 @@
-"""Runs of dwline over an input and over one with twice as many parts: of each command, and over inputs that are made to take
-long."""
+"""Runs of dwline over an input and over one with twice as many parts: of each command, and over inputs that are made to
+take long."""
 from dataclasses import dataclass
 from typing import Callable
 
 import cases.growth_inputs as inputs
 from lib.elf import CREL
 from cases.growth_inputs import (
-    BASE, LINE_STRP, STRP, Input, asked, compressed_elf, directories, elf, lines, long_name, older_directories, older_units,
+    BASE, LINE_STRP, STRP, Input, asked, compressed_elf, directories, elf, lines, long_name, older_directories,
+    older_units,
     units)
 
 
@@ -41,7 +42,8 @@ def over_file(name, count, words, files, status=0, **bounds):
 def sections():
     """Each command over a section on the input."""
     for words, status in [
-        (["dump"], 0), (["dump", "--header"], 0), (["dump", "--json"], 0), (["dump", "--range", "0-0xffffffffffff"], 0), (["lint"], 1),
+        (["dump"], 0), (["dump", "--header"], 0), (["dump", "--json"], 0), (["dump", "--range", "0-0xffffffffffff"], 0),
+        (["lint"], 1),
         (["check"], 0), (["find", NONE], 1), (["copy"], 0), (["addr", "-", FIRST, NONE], 1),
     ]:
         yield over_input("a section", 1500, words, units, status)
@@ -59,7 +61,8 @@ def many_files():
 def files():
     """Each command over an ELF file, and some over one whose line section is compressed."""
     for words, status in [
-        (["dump", "elf"], 0), (["check", "elf"], 0), (["find", NONE, "elf"], 1), (["copy", "elf"], 0), (ADDR, 0), (LINES, 0),
+        (["dump", "elf"], 0), (["check", "elf"], 0), (["find", NONE, "elf"], 1), (["copy", "elf"], 0), (ADDR, 0),
+        (LINES, 0),
         (MAKE, 0), (["lint", "elf"], 1), (["dump", "--json", "elf"], 0),
     ]:
         yield over_file("a file", 1500, words, lambda n: elf(units(n)), status)
@@ -68,8 +71,8 @@ def files():
 
 
 def indices():
-    """An index of as many units: the look-up of an address takes hardly more. Where lines are asked of it, it may be read
-    whole."""
+    """An index of as many units: the look-up of an address takes hardly more. Where lines are asked of it, it may be
+    read whole."""
     yield over_file("an index", 1500, ["index", "--list", "made"], lambda n: elf(units(n)))
     yield over_file("an index", 1500, ["addr", "made", FIRST], lambda n: elf(units(n)), least=0.9, most=1.1)
     yield over_file("an index", 1500, MADE, lambda n: elf(units(n)), least=0.9)
@@ -92,10 +95,11 @@ def lines_of_the_input():
 
 
 def sequences():
-    """Sequences that lie over one another or fall, and rows at one address, in one unit; sequences and as many addresses, in
-    one unit and in as many; and sections of code."""
+    """Sequences that lie over one another or fall, and rows at one address, in one unit; sequences and as many
+    addresses, in one unit and in as many; and sections of code."""
     for name, made, count in [
-        ("sequences alike", inputs.alike, 3000), ("nested sequences", inputs.nested, 3000), ("stairs", inputs.stairs, 3000),
+        ("sequences alike", inputs.alike, 3000), ("nested sequences", inputs.nested, 3000),
+        ("stairs", inputs.stairs, 3000),
         ("falling sequences", inputs.falling, 3000), ("rows at an address", inputs.one_address, 80_000),
     ]:
         yield over_file(name, count, MAKE, lambda n, made=made: elf(made(n)))
@@ -103,9 +107,11 @@ def sequences():
         yield Case(f"{name}: addr - ADDRESS..", 3000, lambda n, made=made: Input(["addr", "-", *asked(n)], made(n)))
     yield Case("units: addr - ADDRESS..", 1500, lambda n: Input(["addr", "-", *asked(n, 64)], units(n)))
     yield over_file("sections of code", 1500, MAKE, inputs.code)
-    for name, made in [("sequences alike", inputs.alike), ("nested sequences", inputs.nested), ("stairs", inputs.stairs)]:
+    for name, made in [("sequences alike", inputs.alike), ("nested sequences", inputs.nested),
+                       ("stairs", inputs.stairs)]:
         yield over_input(name, 3000, ["lint", "--rule", "overlap"], made, 1)
-    yield over_file("sections of code without sequences", 1500, ["lint", "--rule", "no-code", "elf"], lambda n: inputs.code(n, n), 1)
+    yield over_file("sections of code without sequences", 1500, ["lint", "--rule", "no-code", "elf"],
+                    lambda n: inputs.code(n, n), 1)
 
 
 def headers():
@@ -151,4 +157,5 @@ def parts_of_files():
 
 
 CASES = [case for group in (
-    sections, files, many_files, indices, addresses, lines_of_the_input, sequences, headers, damage, parts_of_files) for case in group()]
+    sections, files, many_files, indices, addresses, lines_of_the_input, sequences, headers, damage,
+    parts_of_files) for case in group()]

@@ -18,12 +18,14 @@ class Depth:
 
 
 COMMANDS = [
-    (["dump", "elf"], 0), (["dump", "--json", "elf"], 0), (["dump", "--range", "0-0xffffffffffff", "elf"], 0), (["lint", "--rule", "padding", "elf"], 0),
+    (["dump", "elf"], 0), (["dump", "--json", "elf"], 0), (["dump", "--range", "0-0xffffffffffff", "elf"], 0),
+    (["lint", "--rule", "padding", "elf"], 0),
     (["check", "elf"], 0), (["find", FIRST, "elf"], 0), (["copy", "elf"], 0), (ADDR, 0),
     (["addr", "-s", "elf"], 0), (["addr", "--json", "elf"], 0), (MAKE, 0), (["addr", "made", FIRST], 0),
     (["addr", "-s", "made"], 0), (["addr", "--json", "made"], 0), (["index", "--list", "made"], 0),
 ]
-ON_INPUT = [(["dump"], 0), (["lint", "--rule", "padding"], 0), (["check"], 0), (["find", FIRST], 0), (["copy"], 0), (["addr", "-", FIRST], 0)]
+ON_INPUT = [(["dump"], 0), (["lint", "--rule", "padding"], 0), (["check"], 0), (["find", FIRST], 0), (["copy"], 0),
+            (["addr", "-", FIRST], 0)]
 
 
 def asked(files):
@@ -51,7 +53,8 @@ def lines_of_the_input():
 def kinds_of_files():
     """Files without long texts, for the stack that each kind takes."""
     for name, files in [
-        ("a compressed file", lambda: compressed_elf(units(100))), ("units of version 4", lambda: elf(older_units(100))),
+        ("a compressed file", lambda: compressed_elf(units(100))),
+        ("units of version 4", lambda: elf(older_units(100))),
         ("directories", lambda: inputs.lent_directories(100)), ("code", lambda: inputs.code(100)),
     ]:
         yield Depth(name, asked(files), [(words, 0) for words, _ in COMMANDS if words[0] not in ("copy", "find")])

@@ -7,7 +7,8 @@ import zlib
 from dataclasses import dataclass, field
 
 from lib.elf import (
-    ALLOC, COMPRESSED, CREL, EXECINSTR, LITTLE_64, OBJECT, RELA, SYMTAB, Form, Section, compact, image, line_unit, relocation,
+    ALLOC, COMPRESSED, CREL, EXECINSTR, LITTLE_64, OBJECT, RELA, SYMTAB, Form, Section, compact, image, line_unit,
+    relocation,
     symbol)
 from cases.units import FIELDS, table, uleb, unit_of
 
@@ -20,8 +21,8 @@ BASE, STEP = 0x10000, 4
 
 @dataclass(frozen=True)
 class Input:
-    """The words of a run, what it reads on the input, files by their names, the words of a run that comes before, and the
-    status that is wanted."""
+    """The words of a run, what it reads on the input, files by their names, the words of a run that comes before, and
+    the status that is wanted."""
     words: list
     input: bytes = b""
     files: dict = field(default_factory=dict)
@@ -182,7 +183,8 @@ def blocks(count):
 
 def code(count, more=0):
     """A linked file with a section of code for each sequence, and as many more without one."""
-    parts = [Section(".text", bytes(64), flags=ALLOC | EXECINSTR, address=BASE + 64 * part) for part in range(count + more)]
+    parts = [Section(".text", bytes(64), flags=ALLOC | EXECINSTR,
+                     address=BASE + 64 * part) for part in range(count + more)]
     return {"elf": image(LITTLE_64, [Section(".debug_line", units(count)), *parts])}
 
 
@@ -193,12 +195,13 @@ def sections(count):
 
 
 def object_file(count, section_type=RELA, falls=False):
-    """An object file of as many units with a sequence each, whose addresses are relocations by a symbol each, maybe from the
-    last one to the first."""
+    """An object file of as many units with a sequence each, whose addresses are relocations by a symbol each, maybe
+    from the last one to the first."""
     unit_of_object, (place,) = line_unit(OBJECT, [(0, 2)])
     size, parts = len(unit_of_object), range(count)
     entries = [(size * part + place, part + 1, 1, 0x100) for part in (reversed(parts) if falls else parts)]
-    relocations = compact(entries) if section_type == CREL else b"".join(relocation(OBJECT, *entry) for entry in entries)
+    relocations = compact(entries) if section_type == CREL else b"".join(relocation(OBJECT,
+                                                                                    *entry) for entry in entries)
     symbols = symbol(OBJECT) + b"".join(symbol(OBJECT, 16 * part, 1) for part in parts)
     return {"elf": image(OBJECT, [
         Section(".text", b"code", flags=EXECINSTR), Section(".debug_line", unit_of_object * count),
@@ -250,7 +253,8 @@ def one_directory(count, texts=1):
     """Units whose directories are texts by turns, with as many bytes together as the units."""
     size = 20 * count // texts
     strings = b"".join(b"/%d" % text + b"d" * (size - 3) + b"\0" for text in range(texts))
-    return with_info(count, 1, STRP, lambda part: struct.pack("<I", size * (part % texts)), abbreviation(1, STRP) + b"\0",
+    return with_info(count, 1, STRP, lambda part: struct.pack("<I", size * (part % texts)),
+                     abbreviation(1, STRP) + b"\0",
                      Section(".debug_str", strings))
 
 
@@ -276,5 +280,6 @@ def archive(member, count):
     entries = []
     for number in range(count):
         name = b"part_%d/" % number
-        entries.append(b"%-16s%-12d%-6d%-6d%-8d%-10d`\n" % (name, 0, 0, 0, 644, len(member)) + member + b"\n" * (len(member) % 2))
+        entries.append(b"%-16s%-12d%-6d%-6d%-8d%-10d`\n" % (name, 0, 0, 0, 644,
+                                                            len(member)) + member + b"\n" * (len(member) % 2))
     return b"!<arch>\n" + b"".join(entries)

@@ -19,7 +19,8 @@ PROGRAMS = [
      [row(0x401000, 0, 2), row(0x401004, 0, 3), row(0x401004, 0, 3, "stmt end")]),
     ("flags of one row", "00 02 04 07 0a 01 01", [],
      [row(0, 0, 1, "stmt prologue disc 7"), row(0, 0, 1), "open\n"]),
-    # Several operations in an instruction: minimum_instruction_length is byte 12, maximum_operations_per_instruction 13.
+    # Several operations in an instruction: minimum_instruction_length is byte 12, maximum_operations_per_instruction
+    # 13.
     ("operations", "00 09 02 00 10 00 00 00 00 00 00 20 20 20", [(12, 0x10), (13, 3)],
      [row(0x1000, 1, 1), row(0x1000, 2, 1), row(0x1010, 0, 1), "open\n"]),
     ("a huge advance", "20 02 ff ff ff ff ff ff ff ff ff 01 01", [(13, 3)],

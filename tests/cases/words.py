@@ -312,8 +312,8 @@ def objects():
     # Lines that are no addresses.
     yield Case(f"addr --json {GCC}", first + '{"address":null}\n{"address":"0x0000000000000000"}\n',
                "dwline: line 2: main is no address\n", 1, b"0x401008\nmain\n0\n")
-    # A path with a quote, a backslash, control bytes, the two bytes of an e with an accent, and a byte that is no UTF-8.
-    # words.py has Python read this line.
+    # A path with a quote, a backslash, control bytes, the two bytes of an e with an accent, and a byte that is no
+    # UTF-8. words.py has Python read this line.
     yield Case(f"addr --json {PACKED_LINES} --str MADE/name - 0x20000", ODD_ANSWER, stdin=line("operations"),
                made={"name": ODD_NAMES})
     # A directory whose name isn't there puts nothing before a path; an object has null where the path isn't known.
@@ -336,7 +336,8 @@ def code():
     no_code = changed(shorter, place_of(elf, 1, "flags"), 2)
     asked = "0x40109c 0x40109d 0x4010b0"
     each = told(f"{SERIES}:24:1", f"{SERIES}:30:18", f"{MAIN}:22:1")
-    yield Case(f"addr MADE/shorter {asked}", told(f"{SERIES}:24:1", "??:0", "??:0"), status=1, made={"shorter": shorter})
+    yield Case(f"addr MADE/shorter {asked}", told(f"{SERIES}:24:1", "??:0", "??:0"), status=1,
+               made={"shorter": shorter})
     yield Case(f"addr --all MADE/shorter {asked}", each, made={"shorter": shorter})
     yield Case(f"addr MADE/no_code {asked}", each, made={"no_code": no_code})
     yield Case(f"addr MADE/object {asked}", each, made={"object": changed(shorter, 16, 1)})
@@ -518,7 +519,8 @@ REFUSED = [
         *each(["dump", "check", "find 1", "copy", "sources"], "--older 8", FILE),
         *each(["dump", "check", "find 1", "addr", "sources", "lines"], "--version-5 --address-size 4", FILE),
         f"addr --json -a {FILE} 1", f"addr -a {FILE} 1 --json",
-        *each(["dump", "check", "find 1", "addr", "index -o none", "sources", "lines"], "--no-follow --debug-dir a", FILE),
+        *each(["dump", "check", "find 1", "addr", "index -o none", "sources", "lines"], "--no-follow --debug-dir a",
+              FILE),
         *each(["dump", "sources"], "--unit 0 --keep-going", FILE),
         f"index --list --no-follow {FILE}", f"index --list --debug-dir a {FILE}", "check --files-from a --big",
         "check --older 8 --files-from a"]),
@@ -594,7 +596,8 @@ def far_places():
         those = far.to_bytes(8, "little")
         for file, content, fault in [
             ("far_headers", replaced(elf, 40, those), "damaged ELF file: section headers"),
-            ("far_offset", replaced(elf, place_of(elf, number, "offset"), those), "damaged ELF file: section .debug_line"),
+            ("far_offset", replaced(elf, place_of(elf, number, "offset"), those),
+             "damaged ELF file: section .debug_line"),
             ("far_size", replaced(elf, place_of(elf, number, "size"), those), "damaged ELF file: section .debug_line"),
             ("far_note", replaced(stripped, place_of(stripped, 1, "offset"), those), "no section .debug_line"),
         ]:
@@ -611,7 +614,8 @@ def compressed_files():
     elf = data("compressed", "program")
     _, start, end = section_of(elf, ".debug_line")
     for command in COMMANDS:
-        yield Case(asks(command, "MADE/zstd"), no_answer(command), f"dwline: MADE/zstd: {ZSTD.format('.debug_line')}\n", 1,
+        yield Case(asks(command, "MADE/zstd"), no_answer(command), f"dwline: MADE/zstd: {ZSTD.format('.debug_line')}\n",
+                   1,
                    made={"zstd": changed(elf, start, 2)})
     damaged = {"damaged": replaced(elf, end - 4, bytes(4))}
     fault = f"dwline: MADE/damaged: section .debug_line: damaged zlib stream at 0x{end - start - 1:x}\n"
@@ -628,8 +632,8 @@ def outside(elf, name):
 
 
 def unnamed_strings():
-    """.debug_str, compressed by another method or outside the file. Where no header of the line section names it, all is
-    answered as of the file without that."""
+    """.debug_str, compressed by another method or outside the file. Where no header of the line section names it, all
+    is answered as of the file without that."""
     compressed = data("compressed", "program")
     row = 'file 1 path="series.c" dir=0\nrow 0x0000000000401000 0 1 8 23 stmt\n'
     for name, elf in [
@@ -649,7 +653,8 @@ def named_strings():
     number, _, _ = section_of(elf, ".debug_str")
     # The section is flagged as compressed, and is 32 bytes at the end: a compression header of zstd and 8 bytes more.
     flagged = replaced(elf, place_of(elf, number, "flags"), (0x800).to_bytes(8, "little"))
-    placed = replaced(flagged, place_of(elf, number, "offset"), len(elf).to_bytes(8, "little") + (32).to_bytes(8, "little"))
+    placed = replaced(flagged, place_of(elf, number, "offset"),
+                      len(elf).to_bytes(8, "little") + (32).to_bytes(8, "little"))
     zstd = placed + b"".join(value.to_bytes(8, "little") for value in (2, 16, 1)) + b"packed.c"
     for name, file, fault in [
         ("outside", outside(elf, ".debug_str"), "damaged ELF file: section .debug_str"),
@@ -662,8 +667,8 @@ def named_strings():
 
 
 def directories_that_are_not_known():
-    """Where .debug_abbrev lies outside the file no directory is known; nor is one whose text stands in a .debug_str that
-    does. words.py has .debug_info that is compressed."""
+    """Where .debug_abbrev lies outside the file no directory is known; nor is one whose text stands in a .debug_str
+    that does. words.py has .debug_info that is compressed."""
     elf = data("gcc-dwarf4", "program")
     for section in (".debug_abbrev", ".debug_str"):
         made = {"outside": outside(elf, section)}
@@ -677,8 +682,8 @@ COMPACT = bytes.fromhex("84 01 97 02 11 82 02 14 24 0b 54 08 2c 09 2c 09 57 71 7
 
 
 def relocations():
-    """An object file of a machine whose relocations aren't known; one whose relocations are compact, at its end; and one
-    whose section lacks the last byte of them."""
+    """An object file of a machine whose relocations aren't known; one whose relocations are compact, at its end; and
+    one whose section lacks the last byte of them."""
     elf = data("object-aarch64", "program")
     number, _, _ = section_of(elf, ".rela.debug_line")
     placed = replaced(elf + COMPACT, place_of(elf, number, "offset"), len(elf).to_bytes(8, "little"))
@@ -705,7 +710,9 @@ def help_and_version():
                                                 r"are read"))
 
 
-GROUPS = [operations, string_sections, order, stops, files, lines_of_files, source_files, parts, directories, older_units,
-          units_not_read, addresses, objects, code, object_files, lines_of_input, other_lines, sections_of_names, faults,
+GROUPS = [operations, string_sections, order, stops, files, lines_of_files, source_files, parts, directories,
+          older_units,
+          units_not_read, addresses, objects, code, object_files, lines_of_input, other_lines, sections_of_names,
+          faults,
           keep_going, addr_goes_on, addr_words, refused, damaged_files, far_places, compressed_files, unnamed_strings,
           named_strings, directories_that_are_not_known, relocations, help_and_version]

@@ -158,8 +158,8 @@ def relocation(form, place, symbol, kind, addend=None):
 
 
 def compact(entries):
-    """The contents of a section of type SHT_CREL, of entries with a place, a symbol, a type and maybe an addend: how many
-    there are, times 8, with 4 where they have addends; and of each, how it differs from the one before it."""
+    """The contents of a section of type SHT_CREL, of entries with a place, a symbol, a type and maybe an addend: how
+    many there are, times 8, with 4 where they have addends; and of each, how it differs from the one before it."""
     bits, flags, high = (3, 7, 4) if len(entries[0]) == 4 else (2, 3, 0)
     contents, last = uleb(8 * len(entries) + high), (0, 0, 0, 0)
     for entry in entries:

@@ -1,11 +1,11 @@
-"""look.py [--big] [--older SIZE] [--keep-going] [--rows | --copy | --addr LINE_STR STR ADDRESS.. | --lines LINE_STR STR PATH
-LINE.. | --exact-lines LINE_STR STR PATH LINE.. | --sources LINE_STR STR | --findings LINE_STR STR | ADDRESS..]: of the
-section on standard input, what `dwline check` prints of it; with --rows the rows that `dwline dump` prints, with --copy what
-`dwline copy` writes, with --addr and the files of both string sections what `dwline addr` prints; with --lines what `dwline
-lines` prints of each line of the path, but for the paths, and with --exact-lines what it prints with --exact; with --sources
-what `dwline sources --rows --md5` prints; with --findings the numbers of what `dwline lint` finds; or with addresses the row
-that answers for each as `dwline find` prints it. With --keep-going the units after a damaged one count too, and answer with
---addr, --lines, --sources and --findings; the first fault is said."""
+"""look.py [--big] [--older SIZE] [--keep-going] [--rows | --copy | --addr LINE_STR STR ADDRESS.. | --lines LINE_STR STR
+PATH LINE.. | --exact-lines LINE_STR STR PATH LINE.. | --sources LINE_STR STR | --findings LINE_STR STR | ADDRESS..]: of
+the section on standard input, what `dwline check` prints of it; with --rows the rows that `dwline dump` prints, with
+--copy what `dwline copy` writes, with --addr and the files of both string sections what `dwline addr` prints; with
+--lines what `dwline lines` prints of each line of the path, but for the paths, and with --exact-lines what it prints
+with --exact; with --sources what `dwline sources --rows --md5` prints; with --findings the numbers of what `dwline
+lint` finds; or with addresses the row that answers for each as `dwline find` prints it. With --keep-going the units
+after a damaged one count too, and answer with --addr, --lines, --sources and --findings; the first fault is said."""
 
 import pathlib
 import sys

@@ -1,5 +1,6 @@
-"""where.py [--all] [--keep-going] [--index | --list] FILE [ADDRESS..]: over an ELF file, or an index of one, what `dwline addr`
-prints of the addresses; with --list what `dwline index --list` prints of the index; with --index the index itself."""
+"""where.py [--all] [--keep-going] [--index | --list] FILE [ADDRESS..]: over an ELF file, or an index of one, what
+`dwline addr` prints of the addresses; with --list what `dwline index --list` prints of the index; with --index the
+index itself."""
 
 import sys
 from typing import List, Optional

@@ -1,7 +1,7 @@
 #!/usr/bin/env python3
 """Compares the fields of headers that `dwline dump --header` prints with those of llvm-dwarfdump and readelf, field by
-field: of each file of tests/data, or of those that are named. readelf alone tells the formats of entries: how many columns
-a table has, and what they are."""
+field: of each file of tests/data, or of those that are named. readelf alone tells the formats of entries: how many
+columns a table has, and what they are."""
 
 from readers import COLUMNS, DWLINE, by_llvm, by_readelf, compare_each, output
 

@@ -1,11 +1,12 @@
 #!/usr/bin/env python3
-"""Compares the addresses that `dwline lines` prints with those of gdb's `info line`, for each line from the first to the
-last one that the rows of a file have, and two behind it, of each file of tests/data, or of those that are named.
+"""Compares the addresses that `dwline lines` prints with those of gdb's `info line`, for each line from the first to
+the last one that the rows of a file have, and two behind it, of each file of tests/data, or of those that are named.
 
-gdb tells the first address of a line, or of the least one above it that has one, once for each of its tables that it takes
-for the file. Each of these has to be among ours. It was used with gdb 13.1 of Debian 12: of four programs 70,241 lines are
-the same, and 6 aren't. Two ask for line 0, of which gdb tells nothing. Four ask for a line whose one statement has no byte
-of code: the row behind it, of another file, has its address, and gdb takes the next line there."""
+gdb tells the first address of a line, or of the least one above it that has one, once for each of its tables that it
+takes for the file. Each of these has to be among ours. It was used with gdb 13.1 of Debian 12: of four programs 70,241
+lines are the same, and 6 aren't. Two ask for line 0, of which gdb tells nothing. Four ask for a line whose one
+statement has no byte of code: the row behind it, of another file, has its address, and gdb takes the next line
+there."""
 
 import re
 import sys

@@ -2,9 +2,9 @@
 """Compares the operations that `dwline dump --operations` prints with those of llvm-dwarfdump and readelf: where each
 begins, its name and its operands, of each file of tests/data, or of those that are named.
 
-Operands that one doesn't tell aren't compared. Of an advance both tell what it adds to the address. Where an instruction
-holds several operations, readelf tells how many operations it adds, and llvm-dwarfdump 14 doesn't count them, so that
-there only names are compared. LLVM keeps 16 bits of a column."""
+Operands that one doesn't tell aren't compared. Of an advance both tell what it adds to the address. Where an
+instruction holds several operations, readelf tells how many operations it adds, and llvm-dwarfdump 14 doesn't count
+them, so that there only names are compared. LLVM keeps 16 bits of a column."""
 
 import re
 

@@ -156,7 +156,8 @@ SETS = [("Set basic block", "block"), ("Set prologue_end", "prologue"), ("Set ep
 
 
 def by_readelf(path):
-    """It tells what each operation does to which register; a row stands at each special opcode, copy and end of sequence."""
+    """It tells what each operation does to which register. A row stands at each special opcode, copy and end of
+    sequence."""
     units, registers = [], {}
     lines = iter(output("readelf", "--debug-dump=rawline", path).splitlines())
     for line in lines:
@@ -218,8 +219,8 @@ def programs():
 
 
 def compare_each(what, differences):
-    """Ends with status 1 where a file differs, or nothing is compared. `differences` says of a file what differs, a line
-    each, and how many were compared."""
+    """Ends with status 1 where a file differs, or nothing is compared. `differences` says of a file what differs, a
+    line each, and how many were compared."""
     told, count = [], 0
     for path in programs():
         found, some = differences(path)

@@ -1,11 +1,11 @@
 #!/usr/bin/env python3
-"""Compares each expected.dump with what llvm-dwarfdump and readelf make of its file: offsets, formats, directories, files
-and every row, of each folder of tests/data, or of the files that are named.
+"""Compares each expected.dump with what llvm-dwarfdump and readelf make of its file: offsets, formats, directories,
+files and every row, of each folder of tests/data, or of the files that are named.
 
     rows.py --dump FILE
 
-prints what llvm-dwarfdump makes of an ELF file, in the form of `dwline dump`. LLVM keeps 16 bits of a column, and doesn't
-know op_index: where an instruction holds several operations readelf's rows count alone."""
+prints what llvm-dwarfdump makes of an ELF file, in the form of `dwline dump`. LLVM keeps 16 bits of a column, and
+doesn't know op_index: where an instruction holds several operations readelf's rows count alone."""
 
 import os
 import re
@@ -92,7 +92,8 @@ def differences(path):
         for what, ours, theirs in pairs_of_unit(*units):
             count += 1
             if ours != theirs:
-                told.append(f"{path}: unit {units[0].offset:#x}: {what}: {ours} in expected.dump, {theirs} by the other")
+                told.append(f"{path}: unit {units[0].offset:#x}: {what}: {ours} in expected.dump, "
+                            f"{theirs} by the other")
     return told, count
 
 

@@ -1,10 +1,10 @@
 #!/usr/bin/env python3
-"""Compares the paths that `dwline sources` prints with those that `llvm-dwarfdump --show-sources` and `debugedit -l` tell, of
-each file of tests/data, or of those that are named.
+"""Compares the paths that `dwline sources` prints with those that `llvm-dwarfdump --show-sources` and `debugedit -l`
+tell, of each file of tests/data, or of those that are named.
 
-Paths are compared without `.` and `..`, which debugedit takes away. It stops at 64-bit DWARF and at forms that it doesn't
-know, and tells nothing of such a file. Debian 12: apt-get install llvm-19 debugedit. It was used with llvm-dwarfdump 19
-(version 14 doesn't have the option) and debugedit 5.0."""
+Paths are compared without `.` and `..`, which debugedit takes away. It stops at 64-bit DWARF and at forms that it
+doesn't know, and tells nothing of such a file. Debian 12: apt-get install llvm-19 debugedit. It was used with
+llvm-dwarfdump 19 (version 14 doesn't have the option) and debugedit 5.0."""
 
 import os
 import shutil

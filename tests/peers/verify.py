@@ -1,11 +1,11 @@
 #!/usr/bin/env python3
-"""Compares what `dwline lint` finds with what `llvm-dwarfdump --verify` tells of line tables: of each file of tests/data, or
-of those that are named, and of programs with bytes of their line tables changed.
+"""Compares what `dwline lint` finds with what `llvm-dwarfdump --verify` tells of line tables: of each file of
+tests/data, or of those that are named, and of programs with bytes of their line tables changed.
 
-Each row with a file that isn't in the table, each file with a directory that isn't, each row below the one before it and
-each file that is one of the files before it, as llvm-dwarfdump 19 tells them, has to be a finding. It takes two files for
-the same by their whole paths alone, and `lint` by all of their values. So a duplicate isn't one of ours where the tables say
-of both files different sums, lengths or times; those are counted. Debian 12: apt-get install llvm-19."""
+Each row with a file that isn't in the table, each file with a directory that isn't, each row below the one before it
+and each file that is one of the files before it, as llvm-dwarfdump 19 tells them, has to be a finding. It takes two
+files for the same by their whole paths alone, and `lint` by all of their values. So a duplicate isn't one of ours where
+the tables say of both files different sums, lengths or times; those are counted. Debian 12: apt-get install llvm-19."""
 
 import json
 import os
@@ -21,12 +21,13 @@ LLVM = "llvm-dwarfdump-19"
 UNIT = r"\.debug_line\[0x(\w+)\]"
 TOLD = [
     ("file-index", re.compile(UNIT + r"\[(\d+)\] has invalid file index (\d+)")),
-    ("directory-index", re.compile(UNIT + r"\.prologue\.file_names\[(\d+)\]\.dir_idx contains an invalid index: (\d+)")),
+    ("directory-index",
+     re.compile(UNIT + r"\.prologue\.file_names\[(\d+)\]\.dir_idx contains an invalid index: (\d+)")),
     ("duplicate-file", re.compile(UNIT + r"\.prologue\.file_names\[(\d+)\] is a duplicate of file_names\[(\d+)\]")),
     ("falling-place", re.compile(UNIT + r" row\[(\d+)\] decreases in address")),
 ]
-# Bytes of the line section of gcc-O2/program, by their offsets: the operand of DW_LNS_set_file and a directory index; an address
-# below the rows before it in place of other operations.
+# Bytes of the line section of gcc-O2/program, by their offsets: the operand of DW_LNS_set_file and a directory index;
+# an address below the rows before it in place of other operations.
 CHANGES = [
     {0x64: b"\x09", 0x3e: b"\x09"},
     {0x57: b"\0\x09\x02\0\x0f\x40\0\0\0\0\0"},
@@ -35,7 +36,8 @@ CHANGES = [
 
 def units(path):
     """The offsets of the units, from the last one to the first."""
-    return sorted((int(line.split()[1], 16) for line in output(DWLINE, "dump", path).splitlines() if line.startswith("unit ")),
+    return sorted((int(line.split()[1], 16) for line in output(DWLINE, "dump",
+                                                               path).splitlines() if line.startswith("unit ")),
                   reverse=True)
 
 
