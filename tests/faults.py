@@ -15,8 +15,11 @@ import zlib
 from typing import NamedTuple
 
 from cases.faults import (
-    AGAIN, ANSWERS, ENDLESS, ENDS, FRONT, GOES_ON, LINES, MASKED, MISTOLD, NEEDED, PARTS, SPARED, UNTOLD, Line)
+    AGAIN, ANSWERS, ENDLESS, ENDS, FRONT, GOES_ON, LINES, MASKED, MISTOLD, NEAR, NEEDED, PARTS, READS, SPARED,
+    UNTOLD, Line)
+from cases.indices import many
 from lib import elf
+from lib.indices import index
 from lib.program import ALL, by_hand, data, folder, path, run, shown
 
 CALLS = ("growth", "read", "pread", "write")
@@ -37,6 +40,8 @@ def cases():
         for call in (refused_growths, failing_reads, early_ends, failing_writes, small_steps):
             yield (f"{line.words}{stdin}: {call.__name__.replace('_', ' ')}",
                    functools.partial(tried, call, line, library, files))
+    for first, second, most in NEAR:
+        yield f"reads of an index, 0x{first:x} 0x{second:x}", functools.partial(few_reads, first, second, most, library)
     for words, *row in NEEDED:
         yield f"{words}: unreadable sections", functools.partial(unreadable, words, *row, library, files)
 
@@ -288,6 +293,19 @@ def small_steps(trial):
                 outcome = trial.run(fault)
                 if not trial.is_whole(outcome):
                     trial.blame(fault, outcome, "it changes what the command does")
+
+
+# ---- how many reads there are
+
+
+def few_reads(first, second, most, library):
+    """An address of an index takes few reads, and the one after it so many at most."""
+    large = {"index": index(many(20_000))}
+    alone, both = (Trial(Line(f"addr index {words}", ()), library, large).whole.counts["pread"]
+                   for words in (f"0x{first:x}", f"0x{first:x} 0x{second:x}"))
+    if alone > READS or both - alone > most:
+        return f"{alone} reads, wanted {READS}; and {both - alone} after them, wanted {most}"
+    return None
 
 
 # ---- bytes of a file that can't be read

@@ -1,9 +1,10 @@
 """The bytes of indices: of rows `index` writes those that lib/indices.py writes of their stretches, and of such bytes
 `index --list` and `addr` tell the stretches, or their damage."""
 
+import bisect
 import functools
 
-from cases.indices import CHANGES, CUT, ODD, ODD_LISTING, OTHER, ROWS, SAMPLE, SUM
+from cases.indices import BASE, CHANGES, CUT, ODD, ODD_LISTING, OTHER, ROWS, SAMPLE, SIZES, SUM, many
 from lib.elf import ALLOC, EXECINSTR, LITTLE_64, NOTE, Section, changed, image, sleb, uleb
 from lib.indices import ALL_SEQUENCES, END, File, Stretch, index, listing, with_sums
 from lib.program import expect, folder
@@ -19,6 +20,8 @@ def cases():
     for name, stretches, build_id in [("a sample", SAMPLE, BUILD_ID), ("the last address", OTHER, bytes([7] * 32)),
                                       ("nothing", [], b""), ("places of texts", ODD, b"")]:
         yield name, functools.partial(told, stretches, build_id)
+    for count, step in SIZES:
+        yield f"{count} stretches", functools.partial(asked_far_apart, count, step)
     for name, place, byte, fault in CHANGES:
         made = changed(index(SAMPLE, 0, BUILD_ID), place, byte)
         yield name, functools.partial(damaged, made if fault == SUM else with_sums(made), fault)
@@ -96,7 +99,8 @@ def of_all_sequences():
 
 def answer(stretches, address):
     """The object of an address, as addr --json prints it."""
-    found = next((stretch for stretch in reversed(stretches) if stretch.start <= address), None)
+    at = bisect.bisect([stretch.start for stretch in stretches], address)
+    found = stretches[at - 1] if at else None
     if not found or not found.file:
         return f'{{"address":"0x{address:016x}"}}\n'
     path = f'"{found.file.path()}"' if found.file.texts else "null"
@@ -106,10 +110,21 @@ def answer(stretches, address):
 
 
 def all_answers(name, stretches, where):
-    """At the ends of each stretch, in its midst and around all: asked in words and in lines."""
+    """At the ends of each stretch, in its midst and around all."""
     ends = [stretch.start for stretch in stretches[1:]] + [END]
-    addresses = sorted({0, END - 1} | {address for stretch, end in zip(stretches, ends)
-                                       for address in (stretch.start, (stretch.start + end) // 2, end - 1)})
+    addresses = {address for stretch, end in zip(stretches, ends)
+                 for address in (stretch.start, (stretch.start + end) // 2, end - 1)}
+    return answers(name, stretches, sorted(addresses | {0, END - 1}), where)
+
+
+def asked_far_apart(count, step):
+    stretches = many(count)
+    addresses = [BASE - 3 + step * k for k in range(600)] + [0, END - 1]
+    return answers("index", stretches, addresses, folder({"index": index(stretches)}))
+
+
+def answers(name, stretches, addresses, where):
+    """What is told of these addresses, asked in words and in lines."""
     objects = [answer(stretches, address) for address in addresses]
     status = int(any('"line"' not in line for line in objects))
     asked = [hex(address) for address in addresses]

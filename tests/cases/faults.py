@@ -3,6 +3,8 @@ wanted then, and makes the files."""
 
 from typing import NamedTuple
 
+from cases.indices import BASE
+
 # How what is out may differ from the whole output. It is a front of it. Or of addresses each line is the same one, or
 # tells that nothing is known. Or of files and members, of which the next one follows, lines are left out.
 FRONT, ANSWERS, PARTS = "front", "answers", "parts"
@@ -123,6 +125,22 @@ OF_SECTIONS = [
 LINES = (OF_A_PROGRAM + OF_OTHER_FILES + OF_SEVERAL + OF_INDICES
          + [line._replace(open=line.open[:-1] if UNTOLD in line.open else line.open) for line in OF_SECTIONS])
 
+
+# An address of an index of 20,000 stretches takes so many reads: six to open it; five halvings of its starts leave one
+# piece, and then come that piece and nine numbers and rows; and three of its texts.
+READS = 24
+# Two addresses, and how many reads the second one takes. Stretches begin every 5 addresses, and a piece of starts is
+# some 3,000 addresses long.
+NEAR = [
+    # Of the same stretch: its texts alone.
+    (BASE + 53, BASE + 54, 3),
+    # Of another one in the piece: the numbers and rows of that.
+    (BASE + 53, BASE + 61, 12),
+    (BASE + 61, BASE + 53, 12),
+    # Of another piece.
+    (BASE + 53, BASE + 90_000, 18),
+    (BASE + 90_000, BASE + 53, 18),
+]
 
 # Command lines over a file, and the sections whose bytes are read: the status is 3 where one can't be, and no other
 # section makes a difference.

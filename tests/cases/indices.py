@@ -86,6 +86,19 @@ ODD = [Stretch(16, File(0, ("/home/user\udcc3", "\udca9\\c/", "\nain.c")), 10), 
 ODD_LISTING = ("0x0000000000000010 0x0000000000000014 /home/user\\xc3\\xa9\\\\c/\\x0aain.c:10\n"
                "0x0000000000000014 0x10000000000000000 ??:0\n")
 
+# How many stretches an index has, and how far the addresses stand apart that are asked of it.
+SIZES = [(1, 1), (2, 1), (500, 7), (2047, 19), (2048, 19), (2049, 19), (20_000, 167)]
+BASE = 0x401000
+TOLD = [File(0x40, ("/src/", "a.c")), File(0x40, ("/src/", "lib/", "b.h")), File(0x140)]
+
+
+def many(count):
+    """So many stretches, of seven of which one is a gap."""
+    return [Stretch(BASE + 5 * k + k % 4) if k % 7 == 6 else
+            Stretch(BASE + 5 * k + k % 4, TOLD[k % 3], 31 * k % 100_000, k % 200, k % 5, k % 2 == 0)
+            for k in range(count)]
+
+
 # ---- damage
 
 NO_INDEX = "not an index"

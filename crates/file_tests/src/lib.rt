@@ -1,9 +1,5 @@
-//! Files: the reads of line tables, members of archives, and streams of zlib.
+//! An index in a file that is larger than any that can be made.
 #![tactic(auto)]
 
 #[cfg(test)]
-mod archive;
-#[cfg(test)]
-mod elf;
-#[cfg(test)]
-mod zlib;
+mod index_file;

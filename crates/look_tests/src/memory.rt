@@ -1,8 +1,7 @@
-//! Growths that are refused.
+//! Growths of an index that are refused.
 use crate::rows::place;
-use dl_look::{Finders, Index};
+use dl_look::Index;
 use dl_memory::NoMemory;
-use std::alloc::{AllocError, Global};
 use std::test::Fail;
 use test_support::{end, hoard_but, hoard_most, row};
 
@@ -24,37 +23,6 @@ fn refused_growths(rt: HostRuntime) -> Result<(), Fail> {
             Ok(index) => {
                 assert_eq!(rt; index.find(place(0x130, 0)).map(|row| row.line), Some(19));
                 assert_eq!(rt; index.find(place(0x138, 0)), None);
-                assert!(rt; 4 < refusals);
-                return Ok(());
-            }
-            Err(error) => assert_eq!(rt; error, NoMemory),
-        }
-        refusals = refusals.saturating_add(1);
-    }
-    assert!(rt; false);
-    Ok(())
-}
-
-/// Each growth of `Finders::build` is refused in turn, and in the end none is.
-#[test]
-fn refused_growths_of_finders(rt: HostRuntime) -> Result<(), Fail> {
-    let mut places = Vec::new(rt.alloc());
-    for i in 0..20u64 {
-        places.push(place(0x130 - 8 * i, 0))?;
-    }
-    let mut refusals = 0u32;
-    let _most = hoard_most(rt.alloc())?;
-    for step in 0..100usize {
-        let blocks = hoard_but(rt.alloc(), 16 + step * 128)?;
-        let built = Finders::build(rt.alloc(), places.as_slice());
-        drop(blocks);
-        match built {
-            Ok(mut finders) => {
-                finders.row(&row(0x100, 0, 1));
-                finders.row(&end(0x130, 0, 1));
-                finders.end_unit();
-                assert_eq!(rt; finders.answer(0), None);
-                assert_eq!(rt; finders.answer(1), Some(row(0x100, 0, 1)));
                 assert!(rt; 4 < refusals);
                 return Ok(());
             }

@@ -1,101 +1,161 @@
 //! Worked rows with the answers that they must have.
 use crate::rows::{answers, place};
-use dl_look::{Index, Probed};
-use dl_memory::NoMemory;
+use dl_look::Index;
 use dl_rows::Row;
+use std::alloc::{AllocError, Global};
 use std::test::Fail;
 use test_support::{end, row};
 
-/// A rising sequence with two rows in one place, one that falls, and rows without an end row.
-fn look_up_rows() -> [Row; 9] {
-    [
-        row(0x10, 0, 5),
-        row(0x10, 0, 6),
-        row(0x14, 0, 7),
-        end(0x18, 0, 7),
-        row(0x30, 0, 1),
-        row(0x20, 0, 2),
-        end(0x40, 0, 2),
-        row(0x50, 0, 1),
-        row(0x60, 0, 1),
-    ]
+/// The address, op_index and line of a row, and whether it ends its sequence.
+type Step = (u64, u8, u64, bool);
+
+const LAST: u64 = u64::MAX;
+
+/// Rows, how many probes a look-up takes at most, and places with the line that answers.
+struct Case {
+    name: &'static str,
+    steps: &'static [Step],
+    most: u128,
+    lines: &'static [(u64, u8, Option<u64>)],
+}
+
+const CASES: &[Case] = &[
+    Case {
+        name: "no rows",
+        steps: &[],
+        most: 1,
+        lines: &[(0, 0, None), (LAST, 255, None)],
+    },
+    Case {
+        name: "a rising sequence with two rows in one place, one that falls, and rows without an end",
+        steps: &[
+            (0x10, 0, 5, false),
+            (0x10, 0, 6, false),
+            (0x14, 0, 7, false),
+            (0x18, 0, 7, true),
+            (0x30, 0, 1, false),
+            (0x20, 0, 2, false),
+            (0x40, 0, 2, true),
+            (0x50, 0, 1, false),
+            (0x60, 0, 1, false),
+        ],
+        most: 7,
+        lines: &[
+            (0x10, 0, Some(6)),
+            (0x13, 0, Some(6)),
+            (0x17, 0, Some(7)),
+            (0x0f, 0, None),
+            (0x18, 0, None),
+            (0x25, 0, None),
+            (0x35, 0, None),
+            (0x55, 0, None),
+        ],
+    },
+    Case {
+        name: "sequences of every kind",
+        steps: &[
+            // Above those after it.
+            (0x200, 0, 1, false),
+            (0x210, 0, 1, true),
+            (0x100, 0, 2, false),
+            (0x108, 0, 3, false),
+            (0x120, 0, 3, true),
+            // Over the end of the one before it.
+            (0x110, 0, 4, false),
+            (0x130, 0, 4, true),
+            // Falls once, over the one after it.
+            (0x300, 0, 5, false),
+            (0x2ff, 255, 6, false),
+            (0x305, 0, 6, false),
+            (0x310, 0, 6, true),
+            (0x2f0, 0, 7, false),
+            (0x308, 0, 7, true),
+            // Its end row is below the row before it.
+            (0x320, 0, 8, false),
+            (0x340, 0, 8, false),
+            (0x330, 0, 8, true),
+            // Ends where it starts.
+            (0x350, 0, 9, false),
+            (0x350, 0, 9, true),
+            // An end row alone.
+            (0x360, 0, 10, true),
+            // Within one instruction, and falling within one.
+            (0x400, 1, 11, false),
+            (0x400, 3, 12, false),
+            (0x400, 5, 12, true),
+            (0x500, 2, 13, false),
+            (0x500, 1, 13, false),
+            (0x510, 0, 13, true),
+            // The ends of the addresses.
+            (LAST, 0, 14, false),
+            (LAST, 255, 14, true),
+            (0, 0, 15, false),
+            (1, 0, 15, true),
+        ],
+        most: 12 + 5 + 1,
+        lines: &[
+            (0x200, 0, Some(1)),
+            (0x20f, 255, Some(1)),
+            (0x210, 0, None),
+            (0xff, 255, None),
+            (0x107, 255, Some(2)),
+            (0x115, 0, Some(3)),
+            (0x120, 0, Some(4)),
+            (0x12f, 0, Some(4)),
+            (0x130, 0, None),
+            (0x300, 0, Some(7)),
+            (0x2ff, 255, Some(7)),
+            (0x309, 0, None),
+            (0x325, 0, None),
+            (0x345, 0, None),
+            (0x350, 0, None),
+            (0x360, 0, None),
+            (0x400, 0, None),
+            (0x400, 1, Some(11)),
+            (0x400, 2, Some(11)),
+            (0x400, 4, Some(12)),
+            (0x400, 5, None),
+            (0x500, 2, None),
+            (0x501, 0, None),
+            (LAST, 0, Some(14)),
+            (LAST, 254, Some(14)),
+            (LAST, 255, None),
+            (0, 0, Some(15)),
+            (0, 255, Some(15)),
+            (1, 0, None),
+        ],
+    },
+];
+
+/// The rows of these steps.
+fn rows_of(alloc: Global, steps: &[Step]) -> Result<Vec<Row>, AllocError> {
+    let mut rows = Vec::new(alloc);
+    for (address, op_index, line, is_end) in steps {
+        rows.push(if *is_end {
+            end(*address, *op_index, *line)
+        } else {
+            row(*address, *op_index, *line)
+        })?;
+    }
+    Ok(rows)
 }
 
 #[test]
 fn worked_rows(rt: HostRuntime) -> Result<(), Fail> {
-    let rows = look_up_rows();
-    let index = Index::build(rt.alloc(), rows.as_slice())
-        .ok()
-        .ok_or("memory")?;
-    for (address, line) in [
-        (0x10, Some(6)),
-        (0x13, Some(6)),
-        (0x17, Some(7)),
-        (0x0f, None),
-        (0x18, None),
-        (0x25, None),
-        (0x35, None),
-        (0x55, None),
-    ] {
-        answers(&rt, &index, rows.as_slice(), place(address, 0), line, 7);
+    for case in CASES {
+        let rows = rows_of(rt.alloc(), case.steps)?;
+        let rows = rows.as_slice();
+        let index = Index::build(rt.alloc(), rows).ok().ok_or("memory")?;
+        for (address, op_index, line) in case.lines {
+            answers(
+                &rt,
+                &index,
+                rows,
+                place(*address, *op_index),
+                *line,
+                case.most,
+            );
+        }
     }
-    Ok(())
-}
-
-/// The row that is answered is the whole row.
-#[test]
-fn whole_row(rt: HostRuntime) -> Result<(), Fail> {
-    let mut rows = look_up_rows();
-    rows[2].file = 9;
-    rows[2].column = 8;
-    rows[2].isa = 7;
-    rows[2].discriminator = 6;
-    rows[2].is_stmt = false;
-    rows[2].prologue_end = true;
-    let index = Index::build(rt.alloc(), rows.as_slice())
-        .ok()
-        .ok_or("memory")?;
-    assert_eq!(rt; index.find(place(0x15, 0)), Some(rows[2]));
-    Ok(())
-}
-
-#[test]
-fn empty_index(rt: HostRuntime) -> Result<(), Fail> {
-    let index = Index::build(rt.alloc(), &[]).ok().ok_or("memory")?;
-    answers(&rt, &index, &[], place(0, 0), None, 1);
-    answers(&rt, &index, &[], place(u64::MAX, 255), None, 1);
-    Ok(())
-}
-
-#[test]
-fn small_index(rt: HostRuntime) -> Result<(), Fail> {
-    let rows = [
-        row(0x401000, 0, 2),
-        row(0x401004, 0, 3),
-        end(0x401006, 0, 3),
-    ];
-    let index = Index::build(rt.alloc(), rows.as_slice())
-        .ok()
-        .ok_or("memory")?;
-    answers(&rt, &index, rows.as_slice(), place(0x401005, 0), Some(3), 4);
-    answers(&rt, &index, rows.as_slice(), place(0x401006, 0), None, 4);
-    Ok(())
-}
-
-#[test]
-fn probes(rt: HostRuntime) -> Result<(), Fail> {
-    let rows = look_up_rows();
-    let index = Index::build(rt.alloc(), rows.as_slice())
-        .ok()
-        .ok_or("memory")?;
-    let mut probe = index.probe();
-    assert_eq!(rt; (probe.rows(), probe.sequences(), probe.count()), (9, 2, 0));
-    let span = probe.sequence(1);
-    assert_eq!(rt; (span.start, span.len, span.rising), (4, 3, false));
-    assert_eq!(rt; (span.first, span.last), (place(0x30, 0), place(0x40, 0)));
-    assert_eq!(rt; probe.row(8), rows[8]);
-    assert_eq!(rt; probe.count(), 2);
-    let refused = NoMemory;
-    assert_eq!(rt; refused, NoMemory);
     Ok(())
 }

@@ -2,9 +2,10 @@
 
 use dl_crc::crc_32;
 use dl_elf::ReadAt;
-use dl_index_file::open_index;
+use dl_index_file::{FileFinder, open_index};
 use std::cell::Cell;
 use std::io;
+use std::io::ErrorKind;
 use std::test::Fail;
 
 /// How many stretches there are.
@@ -49,16 +50,31 @@ fn header() -> [u8; 128] {
     header
 }
 
-/// The file, which counts its reads.
+/// The file, which counts its reads. Those from `fails_at` on fail.
 #[derive(Drop)]
 struct Ones {
     header: [u8; 128],
     count: Cell<u32>,
+    fails_at: Cell<u32>,
+}
+
+impl Ones {
+    fn new() -> Ones {
+        Ones {
+            header: header(),
+            count: Cell::new(0),
+            fails_at: Cell::new(u32::MAX),
+        }
+    }
 }
 
 impl ReadAt for Ones {
     fn read_at(&self, offset: u64, buffer: &mut [u8]) -> io::Result<usize> {
-        self.count.set(self.count.get().wrapping_add(1));
+        let count = self.count.get();
+        if self.fails_at.get() <= count {
+            return Err(io::Error::from(ErrorKind::BrokenPipe));
+        }
+        self.count.set(count.wrapping_add(1));
         let n = buffer.len().min(LEN.saturating_sub(offset) as usize);
         for i in 0..n {
             let at = offset.wrapping_add(i as u64);
@@ -72,21 +88,46 @@ impl ReadAt for Ones {
     }
 }
 
+/// How many reads an address takes: 50 halvings leave 512 starts, one piece; then come that piece and nine numbers and rows.
+const READS: u32 = 60;
+
 #[test]
 fn no_more_than_64_reads(rt: HostRuntime) -> Result<(), Fail> {
-    let ones = Ones {
-        header: header(),
-        count: Cell::new(0),
-    };
+    let ones = Ones::new();
     let file = open_index(&ones)?;
+    assert!(rt; file.count() == COUNT && !file.has_all_sequences());
     ones.count.set(0);
     let found = file.find(u64::MAX)?;
     let is_found = match found {
         Some(found) => found.line == 1 && !found.is_stmt && found.texts.third.is_some(),
         None => false,
     };
-    // 50 halvings leave 512 starts, one piece; then come that piece and nine numbers and rows.
-    assert!(rt; ones.count.get() == 60);
+    assert!(rt; ones.count.get() == READS);
     assert!(rt; is_found);
+    Ok(())
+}
+
+/// Whether an address isn't answered since a read fails.
+fn fails(finder: &mut FileFinder<'_, '_, Ones>, address: u64) -> bool {
+    match finder.find(address) {
+        Ok(_) => false,
+        Err(error) => error.kind() == ErrorKind::BrokenPipe,
+    }
+}
+
+/// A read that fails leaves nothing behind that answers later.
+#[test]
+fn a_failure_is_not_kept(rt: HostRuntime) -> Result<(), Fail> {
+    let ones = Ones::new();
+    let file = open_index(&ones)?;
+    for before in 0..READS {
+        let mut finder = FileFinder::of(&file);
+        ones.count.set(0);
+        ones.fails_at.set(before);
+        assert!(rt; fails(&mut finder, u64::MAX), "{before}");
+        assert!(rt; fails(&mut finder, u64::MAX), "{before}");
+        ones.fails_at.set(u32::MAX);
+        assert!(rt; !fails(&mut finder, u64::MAX), "{before}");
+    }
     Ok(())
 }

@@ -1,6 +1,0 @@
-//! Indices, opened and asked.
-
-mod answers;
-mod damage;
-mod listings;
-mod sample;

@@ -1,6 +1,0 @@
-//! Indices, made of stretches and names.
-
-mod faults;
-mod listed;
-mod made;
-mod sample;
