@@ -9,13 +9,10 @@ use std::test::Fail;
 use test_support::{end, hoard, row, unit_of};
 
 /// A unit of the 64-bit format with an empty program: the directory `/s`, and the file `a.c` in it with its MD5. Little.
-const DWARF64_WITH_MD5: &[u8] = &[
-    0xff, 0xff, 0xff, 0xff, 0x42, 0x00, 0x00, 0x00, 0x00, 0x00, 0x00, 0x00, 0x05, 0x00, 0x08, 0x00,
-    0x36, 0x00, 0x00, 0x00, 0x00, 0x00, 0x00, 0x00, 0x01, 0x01, 0x01, 0xfb, 0x0e, 0x0d, 0x00, 0x01,
-    0x01, 0x01, 0x01, 0x00, 0x00, 0x00, 0x01, 0x00, 0x00, 0x01, 0x01, 0x01, 0x08, 0x01, 0x2f, 0x73,
-    0x00, 0x03, 0x01, 0x08, 0x02, 0x0f, 0x05, 0x1e, 0x01, 0x61, 0x2e, 0x63, 0x00, 0x00, 0x00, 0x01,
-    0x02, 0x03, 0x04, 0x05, 0x06, 0x07, 0x08, 0x09, 0x0a, 0x0b, 0x0c, 0x0d, 0x0e, 0x0f,
-];
+const DWARF64_WITH_MD5: &[u8] = b"\xff\xff\xff\xff\x42\0\0\0\0\0\0\0\x05\0\x08\0\x36\0\0\0\
+    \0\0\0\0\x01\x01\x01\xfb\x0e\x0d\0\x01\x01\x01\x01\0\0\0\x01\0\
+    \0\x01\x01\x01\x08\x01/s\0\x03\x01\x08\x02\x0f\x05\x1e\x01a.c\
+    \0\0\0\x01\x02\x03\x04\x05\x06\x07\x08\x09\x0a\x0b\x0c\x0d\x0e\x0f";
 
 /// How many bytes the reader took, and how many cells.
 fn counts(reader: &Reader) -> (u64, u64) {
@@ -106,15 +103,9 @@ fn assert_many_rows(rt: &impl Abort, reader: &mut Reader, unit: &[u8]) {
     assert!(rt; feed_rest(rt, reader, unit) == (Event::End, 100_034));
 }
 
-/// Whether a byte can be had.
-fn has_memory(alloc: Global) -> bool {
-    Vec::<u8>::with_capacity(alloc, 1).is_ok()
-}
-
 /// Asserts what the reader tells of `many_rows` while all memory is taken.
 fn assert_rows_without_memory(rt: &impl Abort, alloc: Global, reader: &mut Reader, unit: &[u8]) {
     let blocks = hoard(alloc).expect(rt, "memory");
-    assert!(rt; !has_memory(alloc));
     assert_many_rows(rt, reader, unit);
     drop(blocks);
 }

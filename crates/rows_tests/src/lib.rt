@@ -2,10 +2,12 @@
 #![tactic(auto)]
 
 #[cfg(test)]
-mod emit;
-#[cfg(test)]
 mod growths;
+#[cfg(test)]
+mod refusals;
 #[cfg(test)]
 mod runs;
 #[cfg(test)]
 mod standing;
+#[cfg(test)]
+mod writers;

@@ -23,14 +23,11 @@ impl Listener for Counter {
 }
 
 /// A unit of three rows, and two bytes.
-const THREE_ROWS: &[u8] = &[
-    0x30, 0x00, 0x00, 0x00, 0x05, 0x00, 0x08, 0x00, 0x16, 0x00, 0x00, 0x00, 0x01, 0x01, 0x01, 0xfb,
-    0x0e, 0x0d, 0x00, 0x01, 0x01, 0x01, 0x01, 0x00, 0x00, 0x00, 0x01, 0x00, 0x00, 0x01, 0x00, 0x00,
-    0x00, 0x00, 0x00, 0x09, 0x02, 0x00, 0x10, 0x40, 0x00, 0x00, 0x00, 0x00, 0x00, 0x13, 0x4b, 0x02,
-    0x02, 0x00, 0x01, 0x01, 0x2c, 0x00,
-];
+const THREE_ROWS: &[u8] = b"\x30\0\0\0\x05\0\x08\0\x16\0\0\0\x01\x01\x01\xfb\x0e\x0d\0\x01\
+    \x01\x01\x01\0\0\0\x01\0\0\x01\0\0\0\0\0\x09\x02\0\x10\x40\
+    \0\0\0\0\0\x13\x4b\x02\x02\0\x01\x01\x2c\0";
 
-const RESERVED: &[u8] = &[0xf0, 0xff, 0xff, 0xff, 0x00];
+const RESERVED: &[u8] = b"\xf0\xff\xff\xff\0";
 
 const RESERVED_LENGTH: Fault = Fault {
     offset: 0,
@@ -78,13 +75,9 @@ fn assert_new(rt: &impl Abort, alloc: Global, case: &Case<'_>) {
     assert_run(rt, &mut reader, &mut Counter { events: 0 }, case);
 }
 
-fn assert_cases(rt: &impl Abort, alloc: Global, cases: &[Case<'_>]) {
-    for case in cases {
-        assert_new(rt, alloc, case);
-    }
-}
-
 #[test]
 fn a_unit_in_turns_is_heard_whole(rt: HostRuntime) {
-    assert_cases(&rt, rt.alloc(), CASES);
+    for case in CASES {
+        assert_new(&rt, rt.alloc(), case);
+    }
 }

@@ -6,38 +6,20 @@ use dl_rows::{Event, Finish, Reader, Row};
 use std::alloc::Global;
 use std::process::Abort;
 
-/// A unit without rows.
-const EMPTY_PROGRAM: &[u8] = &[
-    0x1e, 0x00, 0x00, 0x00, 0x05, 0x00, 0x08, 0x00, 0x16, 0x00, 0x00, 0x00, 0x01, 0x01, 0x01, 0xfb,
-    0x0e, 0x0d, 0x00, 0x01, 0x01, 0x01, 0x01, 0x00, 0x00, 0x00, 0x01, 0x00, 0x00, 0x01, 0x00, 0x00,
-    0x00, 0x00,
-];
-
 /// A unit of two rows, and a byte.
-const TWO_ROWS: &[u8] = &[
-    0x22, 0x00, 0x00, 0x00, 0x05, 0x00, 0x08, 0x00, 0x16, 0x00, 0x00, 0x00, 0x01, 0x01, 0x01, 0xfb,
-    0x0e, 0x0d, 0x00, 0x01, 0x01, 0x01, 0x01, 0x00, 0x00, 0x00, 0x01, 0x00, 0x00, 0x01, 0x00, 0x00,
-    0x00, 0x00, 0x01, 0x00, 0x01, 0x01, 0x05,
-];
+const TWO_ROWS: &[u8] = b"\x22\0\0\0\x05\0\x08\0\x16\0\0\0\x01\x01\x01\xfb\x0e\x0d\0\x01\
+    \x01\x01\x01\0\0\0\x01\0\0\x01\0\0\0\0\x01\0\x01\x01\x05";
 
 /// A unit without rows, whose header has three bytes after the last entry of its tables.
-const PADDED: &[u8] = &[
-    0x21, 0x00, 0x00, 0x00, 0x05, 0x00, 0x08, 0x00, 0x19, 0x00, 0x00, 0x00, 0x01, 0x01, 0x01, 0xfb,
-    0x0e, 0x0d, 0x00, 0x01, 0x01, 0x01, 0x01, 0x00, 0x00, 0x00, 0x01, 0x00, 0x00, 0x01, 0x00, 0x00,
-    0x00, 0x00, 0xff, 0x00, 0x80,
-];
+const PADDED: &[u8] = b"\x21\0\0\0\x05\0\x08\0\x19\0\0\0\x01\x01\x01\xfb\x0e\x0d\0\x01\
+    \x01\x01\x01\0\0\0\x01\0\0\x01\0\0\0\0\xff\0\x80";
 
 /// A unit of version 4, and a byte.
-const FOREIGN: &[u8] = &[
-    0x06, 0x00, 0x00, 0x00, 0x04, 0x00, 0xaa, 0xbb, 0xcc, 0xdd, 0x05,
-];
+const FOREIGN: &[u8] = b"\x06\0\0\0\x04\0\xaa\xbb\xcc\xdd\x05";
 
 /// A unit whose first opcode is faulty.
-const DAMAGED: &[u8] = &[
-    0x20, 0x00, 0x00, 0x00, 0x05, 0x00, 0x08, 0x00, 0x16, 0x00, 0x00, 0x00, 0x01, 0x01, 0x01, 0xfb,
-    0x0e, 0x0d, 0x00, 0x01, 0x01, 0x01, 0x01, 0x00, 0x00, 0x00, 0x01, 0x00, 0x00, 0x01, 0x00, 0x00,
-    0x00, 0x00, 0x00, 0x00,
-];
+const DAMAGED: &[u8] = b"\x22\0\0\0\x05\0\x08\0\x16\0\0\0\x01\x01\x01\xfb\x0e\x0d\0\x01\
+    \x01\x01\x01\0\0\0\x01\0\0\x01\0\0\0\0\0\0\0\0";
 
 /// What a call answers: how many bytes of the piece it used, and what came of them; or the fault.
 pub type Answer = Result<(usize, Event), Fault>;
@@ -96,22 +78,11 @@ const AFTER_HEADER: Standing = Standing {
     ..NEW
 };
 
-/// The same where the unit ends there.
+/// The same after three bytes of padding, where the unit ends.
 const WHOLE: Standing = Standing {
-    finish: Ok(Finish::Whole),
-    ..AFTER_HEADER
-};
-
-/// The same after three bytes of padding.
-const WHOLE_PADDED: Standing = Standing {
     answer: Ok((37, Event::Header)),
     taken: 37,
-    ..WHOLE
-};
-
-const ENDED: Standing = Standing {
-    answer: Ok((0, Event::End)),
-    ..WHOLE
+    ..LAST_ROW
 };
 
 const END_ROW: Row = Row {
@@ -176,11 +147,6 @@ const PASSED_OVER: Standing = Standing {
     ..NEW
 };
 
-const AFTER_FOREIGN: Standing = Standing {
-    answer: Ok((0, Event::End)),
-    ..PASSED_OVER
-};
-
 const EMPTY_OPCODE: Fault = Fault {
     offset: 34,
     kind: FaultKind::ExtendedEmpty,
@@ -193,58 +159,39 @@ const REFUSED: Standing = Standing {
     ..AFTER_HEADER
 };
 
-/// How long a unit without rows and its header without directories and files are.
+/// How long the header without directories and files is, in a unit of this length.
 const LENGTHS: HeaderLengths = HeaderLengths {
-    unit_length: 30,
+    unit_length: 34,
     header_length: 22,
     padding: 0,
+};
+
+const OF_PADDED: HeaderLengths = HeaderLengths {
+    unit_length: 33,
+    header_length: 25,
+    padding: 3,
 };
 
 /// The bytes of a unit and any after it; the places from which they are given one after the other, with how the reader
 /// stands then; and how long the unit and its header are, where it gives a header in the end.
 type Case<'a> = (&'a [u8], &'a [(usize, Standing)], Option<HeaderLengths>);
 
+const OF_ROWS: &[(usize, Standing)] = &[
+    (0, AFTER_HEADER),
+    (34, ROW),
+    (35, LAST_ROW),
+    (38, AFTER_ROWS),
+];
+
+const OF_FOREIGN: &[(usize, Standing)] = &[(0, FOREIGN_VERSION), (6, PASSED_OVER)];
+
+const OF_DAMAGED: &[(usize, Standing)] = &[(0, AFTER_HEADER), (34, REFUSED), (35, REFUSED)];
+
 const CASES: &[Case<'static>] = &[
-    (
-        EMPTY_PROGRAM,
-        &[(34, NEW), (0, WHOLE), (34, ENDED)],
-        Some(LENGTHS),
-    ),
-    (
-        PADDED,
-        &[(0, WHOLE_PADDED)],
-        Some(HeaderLengths {
-            unit_length: 33,
-            header_length: 25,
-            padding: 3,
-        }),
-    ),
-    (
-        TWO_ROWS,
-        &[
-            (0, AFTER_HEADER),
-            (34, ROW),
-            (35, LAST_ROW),
-            (38, AFTER_ROWS),
-        ],
-        Some(HeaderLengths {
-            unit_length: 34,
-            ..LENGTHS
-        }),
-    ),
-    (
-        FOREIGN,
-        &[(0, FOREIGN_VERSION), (6, PASSED_OVER), (10, AFTER_FOREIGN)],
-        None,
-    ),
-    (
-        DAMAGED,
-        &[(0, AFTER_HEADER), (34, REFUSED), (35, REFUSED)],
-        Some(HeaderLengths {
-            unit_length: 32,
-            ..LENGTHS
-        }),
-    ),
+    (PADDED, &[(37, NEW), (0, WHOLE)], Some(OF_PADDED)),
+    (TWO_ROWS, OF_ROWS, Some(LENGTHS)),
+    (FOREIGN, OF_FOREIGN, None),
+    (DAMAGED, OF_DAMAGED, Some(LENGTHS)),
 ];
 
 /// Asserts how the reader stands after it is given the bytes from each of these places on.
@@ -268,14 +215,10 @@ fn assert_case(rt: &impl Abort, alloc: Global, case: &Case<'_>) {
     assert!(rt; reader.into_header().is_some() == lengths.is_some());
 }
 
-fn assert_cases(rt: &impl Abort, alloc: Global, cases: &[Case<'_>]) {
-    for case in cases {
-        assert_case(rt, alloc, case);
-    }
-}
-
 /// A piece is used as far as its next event, and no byte after the unit is. A fault is answered again.
 #[test]
 fn readers_stand(rt: HostRuntime) {
-    assert_cases(&rt, rt.alloc(), CASES);
+    for case in CASES {
+        assert_case(&rt, rt.alloc(), case);
+    }
 }

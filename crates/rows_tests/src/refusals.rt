@@ -10,17 +10,12 @@ use std::process::Abort;
 use test_support::{Sink, header_of, row};
 
 /// The header of an empty program: the 32-bit format, addresses of 8 bytes, opcode_base 13, empty tables. Little.
-pub const EMPTY_PROGRAM: [u8; 34] = [
-    0x1e, 0x00, 0x00, 0x00, 0x05, 0x00, 0x08, 0x00, 0x16, 0x00, 0x00, 0x00, 0x01, 0x01, 0x01, 0xfb,
-    0x0e, 0x0d, 0x00, 0x01, 0x01, 0x01, 0x01, 0x00, 0x00, 0x00, 0x01, 0x00, 0x00, 0x01, 0x00, 0x00,
-    0x00, 0x00,
-];
+pub const EMPTY_PROGRAM: [u8; 34] = *b"\x1e\0\0\0\x05\0\x08\0\x16\0\0\0\x01\x01\x01\xfb\x0e\x0d\
+    \0\x01\x01\x01\x01\0\0\0\x01\0\0\x01\0\0\0\0";
 
 /// A header of opcode_base 10.
-const OPCODE_BASE_10: &[u8] = &[
-    0x1b, 0x00, 0x00, 0x00, 0x05, 0x00, 0x08, 0x00, 0x13, 0x00, 0x00, 0x00, 0x01, 0x01, 0x01, 0xfb,
-    0x0e, 0x0a, 0x00, 0x01, 0x01, 0x01, 0x01, 0x00, 0x00, 0x00, 0x01, 0x00, 0x00, 0x00, 0x00,
-];
+const OPCODE_BASE_10: &[u8] = b"\x1b\0\0\0\x05\0\x08\0\x13\0\0\0\x01\x01\x01\xfb\x0e\x0a\0\x01\
+    \x01\x01\x01\0\0\0\x01\0\0\0\0";
 
 /// The header that the bytes are.
 pub fn header(rt: &impl Abort, alloc: Global, bytes: &[u8]) -> Header {
@@ -106,23 +101,17 @@ fn assert_case(rt: &impl Abort, alloc: Global, case: &Case) {
     assert_refused_anew(rt, alloc, &head, &rows, EmitFault::RowRange(place));
 }
 
-fn assert_cases(rt: &impl Abort, alloc: Global, cases: &[Case]) {
-    for case in cases {
-        assert_case(rt, alloc, case);
+#[test]
+fn rows_out_of_range(rt: HostRuntime) {
+    for case in &CASES {
+        assert_case(&rt, rt.alloc(), case);
     }
 }
 
-#[test]
-fn rows_out_of_range(rt: HostRuntime) {
-    assert_cases(&rt, rt.alloc(), &CASES);
-}
-
 /// The unit of a row at address 4 and line 2, with addresses of 4 bytes.
-const BEGUN_ANEW: &[u8] = &[
-    0x26, 0x00, 0x00, 0x00, 0x05, 0x00, 0x04, 0x00, 0x16, 0x00, 0x00, 0x00, 0x01, 0x01, 0x01, 0xfb,
-    0x0e, 0x0d, 0x00, 0x01, 0x01, 0x01, 0x01, 0x00, 0x00, 0x00, 0x01, 0x00, 0x00, 0x01, 0x00, 0x00,
-    0x00, 0x00, 0x00, 0x05, 0x02, 0x04, 0x00, 0x00, 0x00, 0x13,
-];
+const BEGUN_ANEW: &[u8] = b"\x26\0\0\0\x05\0\x04\0\x16\0\0\0\x01\x01\x01\xfb\x0e\x0d\0\x01\
+    \x01\x01\x01\0\0\0\x01\0\0\x01\0\0\0\0\0\x05\x02\x04\0\0\
+    \0\x13";
 
 /// Appends the unit of this header and the rows of this program, part after part.
 fn append_unit(rt: &impl Abort, program: &Program, head: &Header, output: &mut Sink) {

@@ -1,4 +1,0 @@
-//! Units that aren't written, and writers that aren't perfect.
-
-mod refusals;
-mod writers;
