@@ -3,7 +3,7 @@ import os
 from functools import lru_cache, partial
 
 from cases import section_dump, section_sources
-from cases.command_lines import ADDRESSES, HEXADECIMAL, RANGES, REFUSED, SAME
+from cases.command_lines import ADDRESSES, RANGES, REFUSED, SAME
 from cases.elf_lookups import INDEX, NOTE_OF_BUILD
 from cases.section_addr import PATHS, RELATIVE
 from lib.elf import ALLOC, BIG_64, DIRECTORY, EXECINSTR, LITTLE_64, Section, image, line_unit, unit_text
@@ -57,10 +57,9 @@ def cases():
     for text, lines in REFUSED:
         for line in lines:
             yield line, partial(expect, line.split(), "", pattern(text), 2)
-    for word, address in ADDRESSES:
-        yield f"the address {word!r}", partial(says_address, ["--decimal"], word, address)
-    for word, address in HEXADECIMAL:
-        yield f"the hexadecimal address {word!r}", partial(says_address, [], word, address)
+    for word, hexadecimal, decimal in ADDRESSES:
+        yield f"the address {word!r}", partial(says_address, word, hexadecimal)
+        yield f"the decimal address {word!r}", partial(says_address, word, decimal, "--decimal")
     for word, limits in RANGES:
         yield f"the range {word!r}", partial(says_range, word, limits)
 
@@ -107,16 +106,16 @@ def all_differ():
     return "\n".join(alike) or None
 
 
-def says_address(options, word, address):
+def says_address(word, address, *words):
     """An address that has no row is printed as it was read."""
-    words = ["addr", "-a", *options, "-", "--", word]
+    words = ["addr", "-a", *words, "-", "--", word]
     if address is None:
         return expect(words, "", told(f"{word} is no address"), 2)
     return expect(words, f"0x{address:016x} ??:0\n", "", 1)
 
 
 # Sequences of 4 bytes around the ends of ranges, each with its line.
-AROUND = [(12, 1), (16, 2), (28, 3), (32, 4), ((1 << 64) - 5, 5)]
+AROUND = [(8, 1), (12, 2), (16, 3), (28, 4), (32, 5), ((1 << 64) - 5, 6)]
 
 
 def says_range(word, limits):

@@ -35,7 +35,7 @@ INDICES = [
          "addr -a --for elf index 0x10 0x400fff 0x401000 0x401005 0x401006",
          told((0x10, NOTHING), (0x400fff, NOTHING), (0x401000, "a.c:2"), (0x401005, "a.c:3"), (0x401006, NOTHING)), 1),
     Case("the index of all sequences", INDEXED, "index --all --comp-dir /d -o index elf", "", 0,
-         f"addr -a --for elf index 0xf 0x11 0x12 0x401003 {MOST}",
+         f"addr -a --for elf index 0xf 0x11 0x12 0x401003 {MOST:x}",
          told((0xf, NOTHING), (0x11, "/d/a.c:3"), (0x12, NOTHING), (0x401003, "/d/a.c:2"), (MOST, NOTHING)), 1),
     Case("the index around a damaged unit", SECOND_DAMAGED, "index --keep-going -o index elf",
          "dwline: damage at 0x70: empty extended opcode\n", 1,

@@ -61,7 +61,8 @@ SAME = [
     ["copy b", "copy -- b", "copy < section-b"],
     ["copy stripped"],
     # addr
-    ["addr a 0x401008 0x3000", "addr a 401008 3000", "addr --decimal a 4198408 12288", "addr -e a 0x401008 0x3000", "addr 0x401008 --exe=a 0x3000",
+    ["addr a 0x401008 0x3000", "addr a 401008 3000", "addr --decimal a 4198408 12288", "addr -e a 0x401008 0x3000",
+     "addr 0x401008 --exe=a 0x3000",
      "addr a < asked", "addr --debug-dir one stripped 0x401008 0x3000", "addr a -- 0x401008 0x3000"],
     ["addr --all a 0x401008 0x3000", "addr a 0x401008 0x3000 --all", "addr - 0x401008 0x3000 --older 8 < section"],
     ["addr -s --all a 0x401008 0x3000", "addr --basenames a --all 0x401008 0x3000"],
@@ -69,7 +70,8 @@ SAME = [
     ["addr -as --base 1 --all a 0x401009 0x3001", "addr a 0x401009 3001 -s --all --base=0x1 -a",
      "addr -a -s --base 1 --all --debug-dir one stripped 0x401009 0x3001"],
     ["addr --json a 0x401008 0x3000", "addr a 0x401008 0x3000 --json"],
-    ["addr --hex a 401008", "addr --hex a 0x401008", "addr a 401008", "addr --decimal a 0x401008"],
+    ["addr a 401008", "addr --hex a 401008", "addr a 0x401008", "addr --decimal a 4198408",
+     "addr --decimal a 0x401008"],
     ["addr --stop --all damaged 0x3000", "addr damaged 0x3000 --all --stop"],
     ["addr --all damaged 0x3000"],
     ["addr --comp-dir c --all a 0x3000", "addr --all a 0x3000 --comp-dir=c"],
@@ -175,20 +177,20 @@ REFUSED = [
 
 MOST = (1 << 64) - 1
 
-# A word, and the address that it says with --decimal, if it says one.
+# A word, and the address that it says, if it says one: where digits without 0x are hexadecimal, and where they are
+# decimal.
 ADDRESSES = [
-    ("0x401005", 4198405), ("16", 16), ("0xffffffffffffffff", MOST), ("18446744073709551615", MOST), ("0xAbC", 0xabc),
-    ("000000000000000000000016", 16), ("0x00000000000000000000000010", 16), ("0X1", None), ("0x", None), ("", None),
-    ("x", None), ("+1", None), ("-1", None), (" 1", None), ("1a", None), ("0x1g", None), ("0xffffffffffffffff0", None),
-    ("18446744073709551616", None), ("184467440737095516150", None)]
-
-# A word, and the address that it says without it.
-HEXADECIMAL = [
-    ("401005", 0x401005), ("0x401005", 0x401005), ("16", 0x16), ("AbC", 0xabc), ("0x16", 0x16), ("0000000000401005", 0x401005),
-    ("ffffffffffffffff", MOST), ("10000000000000000", None), ("g", None), ("x1", None), ("0x", None), ("-1", None)]
+    ("0x401005", 4198405, 4198405), ("16", 22, 16), ("0xffffffffffffffff", MOST, MOST),
+    ("ffffffffffffffff", MOST, None), ("10000000000000000", None, 10**16),
+    ("18446744073709551615", None, MOST), ("0xAbC", 0xabc, 0xabc), ("AbC", 0xabc, None), ("1a", 26, None),
+    ("000000000000000000000016", 22, 16), ("0x00000000000000000000000010", 16, 16), ("0X1", None, None),
+    ("0x", None, None), ("", None, None), ("x", None, None), ("+1", None, None), ("-1", None, None), (" 1", None, None),
+    ("0x1g", None, None), ("0xffffffffffffffff0", None, None), ("ffffffffffffffff0", None, None),
+    ("18446744073709551616", None, None), ("184467440737095516150", None, None)]
 
 # A word, and the range of addresses that it says, if it says one.
 RANGES = [
-    ("0x10-0x20", (16, 32)), ("10-0x20", (16, 32)), ("0-ffffffffffffffff", (0, MOST)), ("20-10", (32, 16)),
-    ("16", None), ("", None), ("-", None), ("16-", None), ("-16", None), ("16-17-18", None), ("16 -17", None),
-    ("g-h", None), ("0-10000000000000000", None)]
+    ("0x10-0x20", (16, 32)), ("10-0x20", (16, 32)), ("16-20", (22, 32)), ("a-b", (10, 11)),
+    ("0-ffffffffffffffff", (0, MOST)),
+    ("32-16", (50, 22)), ("16", None), ("", None), ("-", None), ("16-", None), ("-16", None), ("16-17-18", None),
+    ("16 -17", None), ("g-h", None), ("0-10000000000000000", None)]

@@ -147,7 +147,7 @@ def located(address, path, line, column, unit, discriminator=0, is_stmt=True):
 
 # Addresses in the order in which they are given, one of them twice; in gaps, at the end of a sequence, and above all
 # rows.
-EACH = "0x1040 0x1c0 {}0x100f 4160 0x10b0 0x10af 0xffffffffffffffff 0xfffffffffffffffe 0"
+EACH = "0x1040 0x1c0 {}0x100f 1040 0x10b0 0x10af 0xffffffffffffffff 0xfffffffffffffffe 0"
 EACH_TEXT = "/whole.c:14:4\n??:0\n{}/src/main.c:10\n/whole.c:14:4\n??:0\n??:30:2\n??:0\n/t/top.c:1:1\n??:0\n"
 EACH_LINES = EACH.format("main ").replace(" ", "\n").encode()
 
@@ -314,7 +314,8 @@ def answered(*addresses):
 
 
 OF_LINES = [
-    asked("lines", "-a", LINES, [TOP], answered(0x10, 0x17, 0x18, None, None, 0x1f), 1, not_address(5, "main")),
+    *(asked("lines", words, LINES, [TOP], answered(0x10, 0x17, 0x18, None, None, 0x1f), 1, not_address(5, "main"))
+      for words in ("-a", "-a --hex")),
     asked("lines of decimal digits", "-a --decimal", LINES, [TOP], answered(0x10, 17, 18, None, None, None), 1,
           not_address(5, "main")),
 ]

@@ -227,7 +227,7 @@ UNITS = [
 
 def of_range(low, high, section, *texts):
     return Case(f"{len(section)} bytes, 0x{low:x} to 0x{high:x}",
-                f"dump --operations --range {low:x}-0x{high:x} --older 8", section, "".join(texts))
+                f"dump --operations --range 0x{low:x}-{high:x} --older 8", section, "".join(texts))
 
 
 MOST = (1 << 64) - 1
@@ -250,7 +250,7 @@ RANGES = [
     of_range(0x1003, 0x2001, TWO, TWO_UNIT, TWO_FIRST, TWO_SECOND),
     of_range(0x1004, 0x2000, TWO),
     of_range(0, 0x1000, TWO),
-    Case("a range around damage", f"dump --operations --keep-going --range 0-{MOST} --older 8",
+    Case("a range around damage", f"dump --operations --keep-going --range 0-{MOST:x} --older 8",
          DAMAGED + OTHERS + OLDER, OLDER_TEXT, DAMAGE, 1),
 ]
 

@@ -1,8 +1,7 @@
-//! What the tests of several crates share: readers and writers that aren't perfect, want of memory,
-//! worked units, params of headers, and rows.
+//! What the tests of several crates share: a reader that doesn't end, a writer that isn't perfect, want of memory, a
+//! worked unit, params of headers, and rows.
 #![tactic(auto)]
 
-mod fault;
 mod headers;
 mod memory;
 mod readers;
@@ -10,10 +9,9 @@ mod rows;
 mod units;
 mod writers;
 
-pub use fault::Fault;
 pub use headers::{header_of, opcode_lengths, params};
 pub use memory::{hoard, hoard_but, hoard_most};
-pub use readers::{Endless, Hoarding, Repeated, Source};
+pub use readers::Repeated;
 pub use rows::{end, row};
-pub use units::{SMALLEST, THREE_ROWS, bytes, unit, unit_of};
+pub use units::unit_of;
 pub use writers::Sink;

@@ -1,17 +1,18 @@
 //! Writers that are short, are interrupted, fail or take nothing.
-use crate::fault::{Fault, Plan};
 use dl_output::Destination;
 use std::alloc::Global;
 use std::io;
 use std::io::{ErrorKind, Write};
 
-/// Takes `room` bytes in all, `most` at a time, and then fails or takes nothing.
+/// Takes `room` bytes in all, `most` at a time, and then fails or takes nothing. Each call is interrupted so many times before.
 #[derive(Drop)]
 pub struct Sink {
     pub held: Vec<u8>,
     room: usize,
     most: usize,
-    plan: Plan,
+    times: u32,
+    /// How many times the current call was interrupted.
+    interruptions: u32,
     pub fails: bool,
 }
 
@@ -21,23 +22,16 @@ impl Sink {
             held: Vec::new(alloc),
             room,
             most,
-            plan: Plan::perfect(),
+            times: 0,
+            interruptions: 0,
             fails: true,
-        }
-    }
-
-    /// Room for a megabyte, and a fault at the call that has `before` others before it.
-    pub fn with_fault(alloc: Global, most: usize, before: usize, fault: Fault) -> Sink {
-        Sink {
-            plan: Plan::once(before, fault),
-            ..Sink::new(alloc, 1 << 20, most)
         }
     }
 
     /// Room for a megabyte, each call being interrupted that many times.
     pub fn interrupted(alloc: Global, most: usize, times: u32) -> Sink {
         Sink {
-            plan: Plan::always(Fault::Interrupted(times)),
+            times,
             ..Sink::new(alloc, 1 << 20, most)
         }
     }
@@ -45,12 +39,16 @@ impl Sink {
 
 impl Write for Sink {
     fn write(&mut self, buf: &[u8]) -> io::Result<usize> {
-        let most = self.plan.next(self.most)?;
+        if self.interruptions < self.times {
+            self.interruptions += 1;
+            return Err(io::Error::from(ErrorKind::Interrupted));
+        }
+        self.interruptions = 0;
         if self.held.len() >= self.room && self.fails {
             return Err(io::Error::from(ErrorKind::BrokenPipe));
         }
         let left = self.room.saturating_sub(self.held.len());
-        let n = most.min(left).min(buf.len());
+        let n = self.most.min(left).min(buf.len());
         self.held.extend_from_slice(&buf[..n])?;
         Ok(n)
     }
