@@ -314,8 +314,8 @@ def answered(*addresses):
 
 
 OF_LINES = [
-    *(asked("lines", words, LINES, [TOP], answered(0x10, 0x17, 0x18, None, None, 0x1f), 1, not_address(5, "main"))
-      for words in ("-a", "-a --hex")),
+    *(asked(f"lines, {words}", words, LINES, [TOP], answered(0x10, 0x17, 0x18, None, None, 0x1f), 1,
+            not_address(5, "main")) for words in ("-a", "-a --hex")),
     asked("lines of decimal digits", "-a --decimal", LINES, [TOP], answered(0x10, 17, 18, None, None, None), 1,
           not_address(5, "main")),
 ]
