@@ -18,7 +18,7 @@ COMPLETIONS = ["completions/dwline.bash", "completions/_dwline"]
 FISH = "completions/dwline.fish"
 
 # How many commands, options and values the help names.
-NAMED = 10, 48, 10
+NAMED = 10, 49, 10
 
 # What reads these files says nothing.
 READERS = ["man -l --warnings docs/dwline.1", "groff -man -ww -z docs/dwline.1", "bash -n completions/dwline.bash",
