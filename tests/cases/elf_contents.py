@@ -266,22 +266,28 @@ def located(name, file, words, answers, count=5, fault=None):
 
 
 CODE = Section(".text.first", flags=ALLOC | EXECINSTR)
+FULL = replace(CODE, data=b"code")
 LINES = Section(".debug_line")
 
 
 def numbers():
-    """The section that a name is of, or else that with code: the first that isn't of the type NOBITS."""
+    """The section that a name is of, or else that with code: the first that has bytes and isn't of the type NOBITS, and
+    the first without where none has any."""
     nobits = Section(".text.first", section_type=NOBITS)
     sections = [LINES, nobits, CODE, CODE, TEXT]
     for form in FORMS:
         file = with_sequences(form, sections, [1, 2, 3, 4, 5])
         for name, number in [(".debug_line", 1), (".text.first", 3), (".text", 5)]:
             yield located(f"{name}, {form}", file, ["-j", name], [number])
+        behind = with_sequences(form, [LINES, CODE, FULL, FULL], [1, 2, 3, 4])
+        yield located(f".text.first behind an empty one, {form}", behind, ["-j", ".text.first"], [3], 4)
         for name in (".text.firs", ".text.first.more", "text", ".shstrtab"):
             yield located(f"{name}, {form}", file, ["-j", name], [], fault=f"no section {name}")
     for name, sections, answers in [
         ("code in .text", [LINES, nobits, CODE, TEXT], [4]),
         ("code in another section", [LINES, nobits, CODE, CODE], [3]),
+        ("code behind an empty .text", [LINES, replace(CODE, name=".text"), CODE, FULL], [4]),
+        ("an empty .text alone", [LINES, CODE, replace(CODE, name=".text")], [3]),
         ("no code", [LINES, nobits], [1, 2]),
     ]:
         count = len(sections)

@@ -1,5 +1,5 @@
 -- The first of some numbers that passes a test, and names in the name table byte by byte.
-use Rattle.std.proofs.Common.{◌≡◌, ℕ, zero, suc, ◌+◌, ◌-◌, ◌^◌, ◌<◌, ◌≤◌, Bool, true, false, nat_lt, List, [], ◌∷◌}
+use Rattle.std.proofs.Common.{◌≡◌, ℕ, zero, suc, ◌+◌, ◌-◌, ◌^◌, ◌<◌, ◌≤◌, ◌&&◌, Bool, true, false, nat_lt, List, [], ◌∷◌}
 use Rattle.std.proofs.Common.{◌++◌, length, take, drop, min, get_or, Option, Some, None, refl, sym, ap, ◌∙◌, arith}
 use Rattle.std.proofs.Common.{inl, inr}
 use Rattle.std.proofs.Common.{length-append, length-drop, length-take}
@@ -24,6 +24,10 @@ not_true false refuted = refl
 pub ok_map : {A E : Type 0} {P Q : A → Type 0} (r : Result A E) → ((a : A) → P a → Q a) → IfOk r P → IfOk r Q
 ok_map (Ok a) more holds = more a holds
 ok_map (Err e) more holds = tt
+
+-- whether two tests pass, by what they came to
+pub both_are : (a b x y r : Bool) → a ≡ x → b ≡ y → (a && b) ≡ r → (x && y) ≡ r
+both_are a b x y r one two is = sym (ap (λ z. z && b) one ∙ ap (λ z. x && z) two) ∙ is
 
 -- ---- the first number
 

@@ -1,7 +1,7 @@
 -- The number of a section, by its name or by what it holds. System V ABI, chapter 4, "Sections". f: the bytes of a
 -- file; e: the file as it is opened.
-use Rattle.std.specs.Prelude.{ℕ, zero, suc, ◌+◌, ◌-◌, ◌==◌, ◌&&◌, nat_lt, not, Bool, false, if◌then◌else◌, List, []}
-use Rattle.std.specs.Prelude.{◌∷◌, ◌++◌, length, bytes_eq, codes, Option, Some, None}
+use Rattle.std.specs.Prelude.{ℕ, zero, suc, ◌+◌, ◌-◌, ◌==◌, ◌&&◌, ◌||◌, nat_lt, not, Bool, false, true, if◌then◌else◌}
+use Rattle.std.specs.Prelude.{List, [], ◌∷◌, ◌++◌, length, bytes_eq, codes, Option, Some, None}
 use Rattle.dl_elf.specs.declared.section.SectionHeader.{SectionHeader}
 use Rattle.dl_elf.specs.declared.file.Elf.{Elf}
 use Rattle.dl_elf.specs.Elf.{bytes_at, is_executable}
@@ -29,6 +29,14 @@ is_code (Some s) = is_executable s
 abbrev pub is_code_at : Elf → List ℕ → ℕ → Bool
 is_code_at e f n = is_code (section_in e.header f n)
 
+abbrev pub has_bytes : Option SectionHeader → Bool
+has_bytes None = false
+has_bytes (Some s) = not (s.size == 0)
+
+-- section n has bytes, where that is asked for
+abbrev pub is_full_at : Elf → List ℕ → (full : Bool) → ℕ → Bool
+is_full_at e f full n = not full || has_bytes (section_in e.header f n)
+
 abbrev pub or_else : Option ℕ → Option ℕ → Option ℕ
 or_else None other = other
 or_else (Some n) other = Some n
@@ -39,13 +47,19 @@ first_upto p zero = None
 first_upto p (suc n) = or_else (first_upto p n) (if p (suc n) then Some (suc n) else None)
 
 -- the number of the first section of the name whose type isn't SHT_NOBITS
-abbrev pub section_number : Elf → List ℕ → (name : List ℕ) → Option ℕ
-section_number e f name = first_upto (is_named_at e f name) (e.count - 1)
+abbrev pub first_named : Elf → List ℕ → (full : Bool) → (name : List ℕ) → Option ℕ
+first_named e f full name = first_upto (λ n. is_named_at e f name n && is_full_at e f full n) (e.count - 1)
 
 -- of the first with instructions
-abbrev pub first_code : Elf → List ℕ → Option ℕ
-first_code e f = first_upto (is_code_at e f) (e.count - 1)
+abbrev pub first_code : Elf → List ℕ → (full : Bool) → Option ℕ
+first_code e f full = first_upto (λ n. is_code_at e f n && is_full_at e f full n) (e.count - 1)
 
--- of .text; where there is none, of the first with instructions
+-- the number of the first section of the name that has bytes; where none has, of the first
+abbrev pub section_number : Elf → List ℕ → (name : List ℕ) → Option ℕ
+section_number e f name = or_else (first_named e f true name) (first_named e f false name)
+
+-- of .text, or else of the first with instructions: among those that have bytes; where none has, among all
 abbrev pub code_section : Elf → List ℕ → Option ℕ
-code_section e f = or_else (section_number e f (codes ".text")) (first_code e f)
+code_section e f =
+    or_else (or_else (first_named e f true (codes ".text")) (first_code e f true))
+    (or_else (first_named e f false (codes ".text")) (first_code e f false))

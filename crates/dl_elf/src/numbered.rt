@@ -1,8 +1,9 @@
 //! The number of a section, by its name or by what it holds.
-ghost use Rattle.std.specs.Prelude.{◌≡◌, ◌↔◌, slice_get, Some, IsTrue, IfOk, IfErr};
+ghost use Rattle.std.specs.Prelude.{◌≡◌, ◌↔◌, codes, slice_get, Some, IsTrue, IfOk, IfErr};
 ghost use Rattle.dl_elf.specs.Source.{ForBytes};
 ghost use Rattle.dl_elf.specs.Window.{Shows};
-ghost use Rattle.dl_elf.specs.Numbered.{code_section, first_code, has_name, is_code_at, is_named_at, section_number};
+ghost use Rattle.dl_elf.specs.Numbered.{code_section, first_code, first_named, has_name, is_code_at, is_full_at};
+ghost use Rattle.dl_elf.specs.Numbered.{is_named_at, or_else, section_number};
 
 use crate::file::{Elf, section_at};
 use crate::section::{NOBITS, SectionHeader};
@@ -81,21 +82,59 @@ fn is_named_at<S: ReadAt>(
     has_name(source, names, elf, &section, name)
 }
 
-/// The number of the first section from number 1 on that has the name and whose type isn't SHT_NOBITS; None where there
-/// is none. The headers are looked at in one pass.
-pub fn section_number<S: ReadAt>(source: &S, elf: &Elf, name: &[u8]) -> io::Result<Option<u64>>
+/// Whether section `number` has bytes, where that is asked for.
+fn is_full_at<S: ReadAt>(
+    source: &S,
+    headers: &mut Window,
+    elf: &Elf,
+    full: bool,
+    number: u64,
+) -> io::Result<bool>
+    requires headers { Shows (S.all_bytes source.now) headers.old }
+    ensures headers { Shows (S.all_bytes source.now) headers.new }
+    ensures full { ForBytes (S.all_bytes source.now) (λ f.
+        IfOk result (λ is. is ≡ is_full_at elf.now f full number)) }
+    ensures fails { IfErr result (S.fails_with source.now) }
+{
+    if !full {
+        return Ok(true);
+    }
+    match section_at(source, headers, &elf.header, number)? {
+        Some(section) => Ok(section.size != 0),
+        None => Ok(false),
+    }
+}
+
+/// The number of the first section from number 1 on that has the name and whose type isn't SHT_NOBITS, with `full` of those
+/// that have bytes; None where there is none. The headers are looked at in one pass.
+fn first_named<S: ReadAt>(source: &S, elf: &Elf, full: bool, name: &[u8]) -> io::Result<Option<u64>>
     ensures number { ForBytes (S.all_bytes source.now) (λ f.
-        IfOk result (λ number. number ≡ section_number elf.now f name.now)) }
+        IfOk result (λ number. number ≡ first_named elf.now f full name.now)) }
     ensures fails { IfErr result (S.fails_with source.now) }
 {
     let mut headers = Window::new();
     let mut names = Window::new();
     for number in 1..elf.count {
-        if is_named_at(source, &mut headers, &mut names, elf, number, name)? {
+        let is_named = is_named_at(source, &mut headers, &mut names, elf, number, name)?;
+        let is_full = is_full_at(source, &mut headers, elf, full, number)?;
+        if is_named && is_full {
             return Ok(Some(number));
         }
     }
     Ok(None)
+}
+
+/// The number of the first section from number 1 on that has the name, has bytes and whose type isn't SHT_NOBITS, or where
+/// none has bytes, of the first without; None where there is none either.
+pub fn section_number<S: ReadAt>(source: &S, elf: &Elf, name: &[u8]) -> io::Result<Option<u64>>
+    ensures number { ForBytes (S.all_bytes source.now) (λ f.
+        IfOk result (λ number. number ≡ section_number elf.now f name.now)) }
+    ensures fails { IfErr result (S.fails_with source.now) }
+{
+    match first_named(source, elf, true, name)? {
+        Some(number) => Ok(Some(number)),
+        None => first_named(source, elf, false, name),
+    }
 }
 
 /// Whether section `number` has instructions that stand in memory while the program runs.
@@ -117,15 +156,17 @@ fn is_code_at<S: ReadAt>(
     }
 }
 
-/// The number of the first section with instructions.
-fn first_code<S: ReadAt>(source: &S, elf: &Elf) -> io::Result<Option<u64>>
+/// The number of the first section with instructions, with `full` of those that have bytes.
+fn first_code<S: ReadAt>(source: &S, elf: &Elf, full: bool) -> io::Result<Option<u64>>
     ensures number { ForBytes (S.all_bytes source.now) (λ f.
-        IfOk result (λ number. number ≡ first_code elf.now f)) }
+        IfOk result (λ number. number ≡ first_code elf.now f full)) }
     ensures fails { IfErr result (S.fails_with source.now) }
 {
     let mut headers = Window::new();
     for number in 1..elf.count {
-        if is_code_at(source, &mut headers, elf, number)? {
+        let is_code = is_code_at(source, &mut headers, elf, number)?;
+        let is_full = is_full_at(source, &mut headers, elf, full, number)?;
+        if is_code && is_full {
             return Ok(Some(number));
         }
     }
@@ -133,14 +174,27 @@ fn first_code<S: ReadAt>(source: &S, elf: &Elf) -> io::Result<Option<u64>>
 }
 
 /// The number of the section `.text`, or where there is none, of the first section with instructions (SHF_ALLOC and
-/// SHF_EXECINSTR); None where there is none either.
+/// SHF_EXECINSTR), with `full` of those that have bytes.
+fn text_or_code<S: ReadAt>(source: &S, elf: &Elf, full: bool) -> io::Result<Option<u64>>
+    ensures number { ForBytes (S.all_bytes source.now) (λ f.
+        IfOk result (λ number. number ≡ or_else (first_named elf.now f full (codes ".text")) (first_code elf.now f full))) }
+    ensures fails { IfErr result (S.fails_with source.now) }
+{
+    match first_named(source, elf, full, TEXT)? {
+        Some(number) => Ok(Some(number)),
+        None => first_code(source, elf, full),
+    }
+}
+
+/// The number of the section `.text`, or where there is none that has bytes, of the first section with instructions
+/// (SHF_ALLOC and SHF_EXECINSTR) that has; where none has bytes, of these without. None where there is none either.
 pub fn code_section<S: ReadAt>(source: &S, elf: &Elf) -> io::Result<Option<u64>>
     ensures number { ForBytes (S.all_bytes source.now) (λ f.
         IfOk result (λ number. number ≡ code_section elf.now f)) }
     ensures fails { IfErr result (S.fails_with source.now) }
 {
-    match section_number(source, elf, TEXT)? {
+    match text_or_code(source, elf, true)? {
         Some(number) => Ok(Some(number)),
-        None => first_code(source, elf),
+        None => text_or_code(source, elf, false),
     }
 }
