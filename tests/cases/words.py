@@ -677,8 +677,9 @@ def directories_that_are_not_known():
 
 
 # The relocations of object-aarch64's line section, 16 entries, as those of SHT_CREL: differences.
-COMPACT = bytes.fromhex("84 01 97 02 11 82 02 14 24 0b 54 08 2c 09 2c 09 57 71 7f 47 f1 06 01 d1 05 01 df 05 0d 01 d3 00"
-                        "24 0b 54 08 2c 07 2c 07 2c 0a 2c 09 57 74 7f f9 7e")
+COMPACT = bytes.fromhex(
+    "84 01 97 02 11 82 02 14 24 0b 54 08 2c 09 2c 09 57 71 7f 47 f1 06 01 d1 05 01 df 05 0d 01 d3 00"
+    "24 0b 54 08 2c 07 2c 07 2c 0a 2c 09 57 74 7f f9 7e")
 
 
 def relocations():
@@ -706,8 +707,8 @@ def help_and_version():
     yield Case("-V", "dwline 0.1.0\n")
     # Where FILE may be left out, the head of the page says what is read then.
     for command in ("dump", "check", "find", "copy"):
-        yield Case(f"{command} --help", pattern(r"\AWithout FILE (and --files-from )?the bytes of a section .debug_line "
-                                                r"are read"))
+        yield Case(f"{command} --help", pattern(
+            r"\AWithout FILE (and --files-from )?the bytes of a section .debug_line are read"))
 
 
 GROUPS = [operations, string_sections, order, stops, files, lines_of_files, source_files, parts, directories,
