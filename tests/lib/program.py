@@ -145,9 +145,11 @@ def pattern(text):
 
 
 def numbered(cases):
-    """The cases, in which a name that came before has a number behind it."""
+    """The cases, in which a name that came before has a number behind it. Names have no folders of this run."""
     seen = {}
+    made = re.escape(os.environ.get("TESTS_SCRATCH", "/none")) + "/[^/ )]*/?"
     for name, call in cases:
+        name = re.sub(made, "", name)
         seen[name] = seen.get(name, 0) + 1
         yield (name if seen[name] == 1 else f"{name} ({seen[name]})"), call
 
