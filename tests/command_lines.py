@@ -56,7 +56,7 @@ def cases():
         yield group[0], partial(do_the_same, group)
     for text, lines in REFUSED:
         for line in lines:
-            yield line, partial(expect, line.split(), "", pattern(text), 2)
+            yield line or "no word", partial(expect, line.split(), "", pattern(text), 2)
     for word, hexadecimal, decimal in ADDRESSES:
         yield f"the address {word!r}", partial(says_address, word, hexadecimal)
         yield f"the decimal address {word!r}", partial(says_address, word, decimal, "--decimal")

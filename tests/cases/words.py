@@ -502,62 +502,6 @@ def addr_words():
     yield Case(["addr", GCC, "0x\n1"], "", "dwline: 0x\\x0a1 is no address\n", 2)
 
 
-def each(commands, *words):
-    """The words of each command, with these behind it."""
-    return [" ".join([command, *words]) for command in commands]
-
-
-FILE = POWERPC
-# What the words may not say together, and others that aren't known or are missing. clap words these faults; here the
-# status alone is wanted, this text, and that nothing goes to standard output.
-REFUSED = [
-    ("cannot be used with", [
-        *each(["dump", "check", "find 1", "copy", "sources"], "--big", FILE),
-        *each(["dump", "check", "find 1", "copy", "sources"], FILE, "--big"),
-        *each(["dump", "find 1", "sources"], "--line-str operations/debug_line_str", FILE),
-        *each(["dump", "find 1", "sources"], FILE, "--str operations/debug_str"),
-        *each(["dump", "check", "find 1", "copy", "sources"], "--older 8", FILE),
-        *each(["dump", "check", "find 1", "addr", "sources", "lines"], "--version-5 --address-size 4", FILE),
-        f"addr --json -a {FILE} 1", f"addr -a {FILE} 1 --json",
-        *each(["dump", "check", "find 1", "addr", "index -o none", "sources", "lines"], "--no-follow --debug-dir a",
-              FILE),
-        *each(["dump", "sources"], "--unit 0 --keep-going", FILE),
-        f"index --list --no-follow {FILE}", f"index --list --debug-dir a {FILE}", "check --files-from a --big",
-        "check --older 8 --files-from a"]),
-    ("unexpected argument", [
-        *each(["dump", "find 1", "copy", "sources"], FILE, FILE),
-        *[f"{command} {word}" for command in ("dump", "find 1", "addr -", "copy", "sources", "lines - a:1")
-          for word in ("--files-from=a", "-0", "--progress")],
-        *[f"copy {word} {FILE}" for word in ("--debug-dir=a", "--no-follow", "--verbose")],
-        "copy --str a", "check --str a", "dump --version", "find 1 --op -1", "find 1 --keep-going", "copy --keep-going",
-        "addr --keep-going -", "check --header", "find 1 --header", "copy --header", "addr --header -",
-        "index --header -o a b", "check --operations", "find 1 --paths", "copy --operations", "addr --paths -",
-        "dump --rows", "sources --exact", "lines --json - a:1", "lines --keep-going - a:1"]),
-    ("required arguments were not provided", [
-        "find -j .text 0x10", "dump --version-5", "check --address-size 8", "find --version-5 0x10",
-        "find -j .text --big 0x10", "dump --version-5 --older 8", "copy --older 8", f"copy --comp-dir / {FILE}",
-        f"dump --comp-dir / {FILE}", f"copy --address-size 8 {FILE}", "copy --to-5 --address-size 8",
-        "sources --version-5", "sources --address-size 8", "sources --all", f"lines {FILE}", "lines --exact -",
-        *each(["dump", "check", "find 1", "sources"], "--no-follow"),
-        *each(["dump", "check", "find 1", "sources"], "--debug-dir a"),
-        "check -0", f"check --null {FILE}", "addr", "addr -a", "find", "lines"]),
-    ("unrecognized subcommand", ["walk"]),
-    ("invalid value", ["find 0x10 --op 256"]),
-    ("a value is required", ["addr -e"]),
-    ("cannot be used multiple times", [
-        "addr -e a -e b", "check --keep-going --keep-going", "dump --header --header",
-        "dump --operations --operations", "dump --paths --paths", "addr --stop --stop -", "sources --rows --rows",
-        "sources --unit 0 --unit 0", "lines --exact --exact - a:1"]),
-    ("requires a subcommand", [""]),
-]
-
-
-def refused():
-    for text, lines in REFUSED:
-        for words in lines:
-            yield Case(words, "", pattern(text), 2, b"")
-
-
 # ---- files that stop a command
 
 
@@ -715,5 +659,5 @@ GROUPS = [operations, string_sections, order, stops, files, lines_of_files, sour
           older_units,
           units_not_read, addresses, objects, code, object_files, lines_of_input, other_lines, sections_of_names,
           faults,
-          keep_going, addr_goes_on, addr_words, refused, damaged_files, far_places, compressed_files, unnamed_strings,
+          keep_going, addr_goes_on, addr_words, damaged_files, far_places, compressed_files, unnamed_strings,
           named_strings, directories_that_are_not_known, relocations, help_and_version]
