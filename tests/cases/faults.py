@@ -115,6 +115,7 @@ OF_SECTIONS = [
     Line("copy", (130, 2, 0, 1), open=(AGAIN, SPARED), stdin=b"debug_line"),
     Line(f"addr {STRINGS} - 0x4010b0 1", (150, 4, 0, 1), ANSWERS, stdin=b"debug_line"),
     Line(f"sources --rows {STRINGS}", (150, 4, 0, 1), stdin=b"debug_line"),
+    Line(f"sources --rows --unit 0 {STRINGS}", (150, 4, 0, 1), stdin=b"debug_line"),
     Line(f"lines {STRINGS} - series.c:5", (150, 4, 0, 1), ANSWERS, stdin=b"debug_line", unknown=NO_LINE),
     Line(f"lint {STRINGS}", (150, 4, 0, 1), stdin=b"debug_line"),
     Line("dump", (130, 4, 0, 3), stdin=b"long_line"),
