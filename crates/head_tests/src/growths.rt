@@ -108,10 +108,12 @@ fn feed_claim(
     [(counted, after_count), (ended, after_entry)]
 }
 
-/// Asserts that the count of `TWO_THOUSAND_DIRECTORIES`, whose header ends after its first one, takes no memory.
-fn assert_claim(rt: &impl Abort, alloc: Global, reader: &mut HeadReader) {
-    let (before, claim) = TWO_THOUSAND_DIRECTORIES.split_at(33);
-    let (count, entry) = claim.split_at(2);
+/// Asserts that the count of `TWO_THOUSAND_DIRECTORIES` takes no memory; its header ends after its first directory, which takes
+/// three bytes.
+fn assert_claim(rt: &impl Abort, alloc: Global, reader: &mut HeadReader, header: &[u8]) {
+    assert!(rt; header.len() > 36);
+    let (before, claim) = header.split_at(33);
+    let (count, entry) = claim.split_at(claim.len() - 3);
     reader.offer(before);
     let overrun = HeadStep::Fault(Fault {
         offset: 38,
@@ -126,7 +128,7 @@ fn assert_claim(rt: &impl Abort, alloc: Global, reader: &mut HeadReader) {
 #[test]
 fn a_claimed_count_takes_no_room(rt: HostRuntime) {
     let reader = &mut HeadReader::new(rt.alloc(), Dialect::version_5(Order::Little));
-    assert_claim(&rt, rt.alloc(), reader);
+    assert_claim(&rt, rt.alloc(), reader, TWO_THOUSAND_DIRECTORIES);
 }
 
 /// How many bytes the reader took, and how many cells it holds.
