@@ -123,6 +123,10 @@ def by_debug_link():
         yield case(["check", *words, "program"], counts, "", cwd=f"{where}/bin")
     where = linked()
     yield lacks(tried_of(where), f"{where}/bin/program", "--debug-dir", "x")
+    # A device, whose bytes have no end.
+    where = linked()
+    os.symlink("/dev/zero", f"{where}/bin/program.debug")
+    yield lacks(tried_of(where), f"{where}/bin/program", "--debug-dir", "x")
     # Another check value.
     where = linked()
     shutil.copy(GCC, f"{where}/bin/program.debug")

@@ -517,7 +517,7 @@ def damaged_files():
             ("no/such/file", "cannot open: No such file or directory (os error 2)", 3),
             ("sources", "cannot read: Is a directory (os error 21)", 3),
             ("make.sh", "not an ELF file", 1),
-            ("/dev/null", "not an ELF file", 1),
+            ("/dev/null", "cannot read: seek on unseekable file", 3),
             ("MADE/headless", "not an ELF file", 1),
             ("MADE/cut", "damaged ELF file: section headers", 1),
             ("MADE/no_sections", "no section .debug_line", 1),
