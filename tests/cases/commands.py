@@ -3,9 +3,9 @@ from lib.dumps import UNIT, TRUNCATED, Run, counts_of, damage, error, row, text
 from cases.headers import DWARF64_DUMP, EACH_FORM_DUMP
 from cases.programs import THREE_DUMP
 from cases.units import (
-    BIG_DWARF64_WITH_MD5, BIG_OPERATIONS, DWARF64_WITH_MD5, EACH_FORM, EMPTY_PROGRAM, FOREIGN, NO_TABLES,
-    OPCODE_BASE_10, PADDED,
-    PADDED_COPIED, PADDING_OF_THREE_BYTES, SMALLEST, THREE_ROWS, THREE_ROWS_AND_A_BYTE, WITH_FILE, unit_of)
+    BIG_DWARF64_WITH_MD5, BIG_OPERATIONS, DWARF64_WITH_MD5, EACH_FORM, EMPTY_PROGRAM, FIELDS, FOREIGN, NO_TABLES,
+    OPCODE_BASE_10, PADDED, PADDED_COPIED, PADDING_OF_THREE_BYTES, SMALLEST, THREE_ROWS, THREE_ROWS_AND_A_BYTE,
+    WITH_FILE, unit_of)
 
 NOT_FOUND = error("no line for this address")
 
@@ -144,6 +144,16 @@ NO_UNIT = error("no unit at this offset")
 NOT_UNDERSTOOD = error("words not understood")
 ENDS_INSIDE = "unit ends inside an opcode"
 
+# Two operations in an instruction: DW_LNE_set_address sets op_index to 0 (section 6.2.5.3), where it was 1.
+OP_INDEX_CLEARED = unit_of(NO_TABLES, bytes.fromhex("20 00 09 02 00 10 00 00 00 00 00 00 20 02 01 00 01 01"),
+                           FIELDS[:1] + b"\2" + FIELDS[2:])
+OP_INDEX_CLEARED_OPERATIONS = (
+    "operation 0x22 20 special 0x20 address 0 op_index 1 line 0\n" + row(0, 1, 1)
+    + "operation 0x23 0009020010000000000000 DW_LNE_set_address 0x0000000000001000\n"
+    + "operation 0x2e 20 special 0x20 address 0 op_index 1 line 0\n" + row(0x1000, 1, 1)
+    + "operation 0x2f 0201 DW_LNS_advance_pc 1\noperation 0x31 000101 DW_LNE_end_sequence\n"
+    + row(0x1001, 0, 1, "stmt end"))
+
 # A section, words of `dump` by which a part of it is printed, the part, and what is told: units before the one at an
 # offset may be damaged, and nothing after it is read; the sequence of three rows covers the addresses from 0x401000 on
 # and below 0x401006.
@@ -169,6 +179,7 @@ PARTS = [
     (THREE_ROWS_AND_A_BYTE + THREE_ROWS, ("--keep-going", "--range", "0x401000-0x401001"),
      THREE_DUMP + at(53, THREE_DUMP),
      damage(52, ENDS_INSIDE)),
+    (OP_INDEX_CLEARED, ("--operations",), UNIT + OP_INDEX_CLEARED_OPERATIONS, b""),
 ]
 
 # A section, words of `sources`, the paths of the unit at an offset, with the rows and bytes of code that they have, or
