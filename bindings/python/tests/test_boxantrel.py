@@ -12,7 +12,7 @@ import unittest
 
 from boxantrel import RULES, Counts, Damage, FileFault, Finding, Index, NoIndex, OtherVersion, Place, Section, SourceFile
 
-DATA = pathlib.Path(__file__).resolve().parents[2] / "tests" / "data"
+DATA = pathlib.Path(__file__).resolve().parents[3] / "tests" / "data"
 BYTES = (DATA / "gcc-O2" / "debug_line").read_bytes()
 LINE_STR = (DATA / "gcc-O2" / "debug_line_str").read_bytes()
 SERIES, RANGE = b"/boxantrel/series.c", b"/boxantrel/include/range.h"
