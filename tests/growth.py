@@ -25,6 +25,7 @@ STACK = 320 << 10
 
 # Nothing runs beside what is timed.
 ALONE = not VALGRIND
+FIRST = True
 
 
 def skipped():

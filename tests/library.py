@@ -29,7 +29,9 @@ ADDRESSES, LINES, FILES = 100, 50, 4
 CUTS, MANY, GROWTHS = [*range(121), *range(123, 505, 13)], 30, 40
 WARNINGS = ["-Wall", "-Wextra", "-Werror"]
 
-# The folder of what is built, and what the case at hand runs in it.
+FIRST = True
+
+# The folder of what is built.
 WHERE = None
 
 
