@@ -61,6 +61,9 @@ def built():
 def made_files():
     program, older, object_file = (data(name, "program") for name in ("gcc-O2", "gcc-dwarf4", "object-gcc"))
     long_line, _ = elf.line_unit(elf.LITTLE_64, [(0x1000 + 16 * n, 1 + n) for n in range(600)])
+    # Sequences of one line of a file /d/a, in no order.
+    sequences, _ = elf.line_unit(elf.LITTLE_64, [(0x8000 + 16 * (37 * n % 100), 7) for n in range(100)],
+                                 b"\1\1\x08\1/d\0" b"\1\1\x08\2a\0a\0")
     rows, _ = elf.line_unit(elf.LITTLE_64, [(0x1000, 7)])
     # A stream with another check value.
     compressed = elf.LITTLE_64.pack("IIQQ", 1, 0, len(rows), 1) + zlib.compress(rows)[:-1] + b"\xff"
@@ -74,6 +77,7 @@ def made_files():
         "compressed": data("compressed", "program"),
         "compressed.o": data("compressed-object", "program"),
         "damaged": elf.image(elf.LITTLE_64, [elf.Section(".debug_line", compressed, flags=elf.COMPRESSED)]),
+        "many": elf.image(elf.LITTLE_64, [elf.Section(".debug_line", sequences)]),
         "long": elf.image(elf.LITTLE_64, [elf.Section(".debug_line", long_line)]),
         "by-id": elf.image(elf.LITTLE_64, [build_id]),
         "debug/.build-id/c0/ffee01.debug": apart,

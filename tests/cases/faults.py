@@ -81,6 +81,18 @@ OF_OTHER_FILES = [
     Line("dump compressed.o", (150, 0, 15, 1)),
     Line("dump damaged", (150, 0, 15, 1)),
     Line("dump long", (150, 0, 15, 2)),
+    # What is sorted takes memory where there is much of it.
+    Line("lines many a:7", (150, 0, 30, 1), ANSWERS, unknown=NO_LINE),
+    Line("lines --stop many a:7", (150, 0, 30, 1), ANSWERS, unknown=NO_LINE),
+    Line("addr --stop many 0x8010 0x8630", (150, 0, 30, 1), ANSWERS),
+    Line("dump --keep-going many", (150, 0, 15, 1)),
+    Line("sources --keep-going many", (150, 0, 30, 1)),
+    Line("index --keep-going -o - many", (180, 0, 40, 1)),
+    Line("lint many", (150, 0, 20, 1)),
+    Line("sources --rows many", (150, 0, 30, 1)),
+    Line("index -o - many", (180, 0, 40, 1)),
+    Line("addr many", (180, 2, 40, 1), ANSWERS,
+         stdin="".join(f"0x{0x8000 + 32 * (17 * n % 50):x}\n" for n in range(50))),
     # Files whose line table stands in another one.
     Line("dump --debug-dir debug by-id", (150, 0, 20, 1), open=(AGAIN, UNTOLD, MISTOLD)),
     Line("addr --debug-dir debug by-id 0x1000", (150, 0, 30, 1), ANSWERS, (AGAIN, UNTOLD, MISTOLD)),
