@@ -51,7 +51,7 @@ SAME = [
     ["find 0x401008 --op=1 a", "find --op 1 0x401008 a", "find --op 1 0x401008 --debug-dir one stripped"],
     ["find 0x3000 a", "find --older 8 12288 < section"],
     ["find --version-5 0x3000 a", "find 0x3000 a --version-5"],
-    ["find -j .text.sum 0x20 object.o", "find 0x20 object.o --section=.text.sum"],
+    ["find -j .text.longest_run 0x20 object.o", "find 0x20 object.o --section=.text.longest_run"],
     ["find 0x20 object.o"],
     ["find -j .text 0x401008 a", "find 0x401008 --section=.text a"],
     # copy
@@ -93,7 +93,7 @@ SAME = [
     ["index --address-size 4 -o - a", "index a --address-size=4 -o -"],
     ["index --all --keep-going -o - damaged", "index damaged --keep-going --all --output -"],
     ["index --all -o - damaged"],
-    ["index -j .text.sum -o - object.o", "index object.o --section=.text.sum -o-"],
+    ["index -j .text.longest_run -o - object.o", "index object.o --section=.text.longest_run -o-"],
     ["index -o - object.o"],
     # sources
     ["sources a", "sources -- a", "sources --older 8 < section", "sources --debug-dir one stripped"],

@@ -49,7 +49,7 @@ LOCATIONS = [
         ("object-gcc", f"{option} .text.fail 0 0x10", [f"{SERIES}:30:18", NONE]),
     ]],
     ("object-gcc", "--section=.text._start 0 1", [f"{MAIN}:22:1", f"{MAIN}:24:17"]),
-    ("object-gcc", "0x20", [NONE]),
+    ("object-gcc", "0x20", [f"{RANGE}:19:44"]),
     ("object-gcc", "-j .text 0x20", [NONE]),
     ("object-gcc", "-j .comment 0x20", [NONE]),
     ("object-clang", "-j .text._Z11longest_runPKii5range 0 1", [f"{SERIES}:14", f"{SERIES}:18:23"]),

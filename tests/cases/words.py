@@ -348,9 +348,10 @@ def object_files():
     may be named; nor of a linked file, nor one that isn't there. locations.py has what is found."""
     yield Case(f"find -j .text.longest_run 0x20 {FUNCTIONS}",
                'file 1 path="series.c" dir=0\nrow 0x0000000000000020 0 1 19 15\n')
-    yield Case(f"find 0x20 {FUNCTIONS} --section .text.sum",
-               'file 2 path="range.h" dir=1\nrow 0x000000000000001a 0 2 19 44\n')
-    yield Case(f"find 0x20 {FUNCTIONS}", "", NOT_FOUND, 1)
+    # The section .text is empty, so the first with code is meant where none is named.
+    for words in ("--section .text.sum", ""):
+        yield Case(f"find 0x20 {FUNCTIONS} {words}", 'file 2 path="range.h" dir=1\nrow 0x000000000000001a 0 2 19 44\n')
+    yield Case(f"find 0x20 -j .text {FUNCTIONS}", "", NOT_FOUND, 1)
     for absolute in (OPERATIONS, GCC):
         relative = f"dwline: {absolute}: its addresses are not relative to a section\n"
         yield Case(f"addr -j .text {absolute} 0x20000", "??:0\n", relative, 1)
