@@ -251,13 +251,13 @@ class Sources(unittest.TestCase):
             self.assertEqual(section.sources(), [told])
 
     def test_many_files(self) -> None:
-        # Each unit has a name of its own, of as many bytes.
+        # Each unit has a name of its own, of as many bytes. Sixteen zeros are no sum.
         names = [f"{number:03}" for number in range(200)]
         section = Section(b"".join(SUMMED.replace(b"a.c", name.encode()) + bytes(16) + ONE_ROW for name in names))
-        told = [SourceFile(f"/s/{name}".encode(), 1, 8, [bytes(16)]) for name in names]
+        told = [SourceFile(f"/s/{name}".encode(), 1, 8, []) for name in names]
         self.assertEqual(section.sources(), told)
-        section = Section(b"".join(SUMMED + number.to_bytes(16, "big") + ONE_ROW for number in range(200)))
-        sums = [number.to_bytes(16, "big") for number in range(200)]
+        sums = [number.to_bytes(16, "big") for number in range(1, 201)]
+        section = Section(b"".join(SUMMED + each + ONE_ROW for each in sums))
         self.assertEqual(section.sources(), [SourceFile(b"/s/a.c", 200, 1600, sums)])
 
     def test_a_damaged_unit(self) -> None:
