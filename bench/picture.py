@@ -82,7 +82,7 @@ def machine():
     with open("/etc/os-release") as file:
         system = re.search(r'PRETTY_NAME="(.*)"', file.read()).group(1)
     gibibytes = os.sysconf("SC_PAGE_SIZE") * os.sysconf("SC_PHYS_PAGES") / 2**30
-    load = os.getloadavg()[1]
+    load = os.getloadavg()[0]
     return [f"{os.cpu_count()} processors {' '.join(model.split())}, {gibibytes:.0f} GiB, {system}",
             f"User and system time, the least of {ROUNDS} runs; peak resident memory. Load of the machine meanwhile: {load:.1f}."]
 

@@ -3,8 +3,8 @@
 A block `console` has commands behind `$ `, each with its output below it, standard error too; a line `...` stands for
 any lines. The commands of other projects are run where they have the version that README.md names. Each command in a
 table is run over a file of tests/data, and has to print something and to end well. The programs in C, Rust and Python
-are compiled over the library as they say themselves; that in Rattle is the code of crates/list_rows. `make try` is run
-with --all: it takes minutes.
+are compiled over the library as they say themselves; that in Rattle is the code of crates/list_rows. `make try` takes a
+minute or more, so this suite begins early.
 
 Lines have at most 120 columns and paragraphs four lines, and what a link of a page names is there."""
 
@@ -14,10 +14,11 @@ import re
 import shutil
 import subprocess
 
-from lib.program import ALL, DWLINE, TOP, Skipped, data, folder, numbered
+from lib.program import DWLINE, TOP, Skipped, data, folder, numbered
 
 PAGES = ["README.md", "CONTRIBUTING.md", "SECURITY.md", "CHANGELOG.md", "examples/README.md", "tests/README.md"]
 PROGRAMS = ["c", "rust", "python", "rattle"]
+FIRST = True
 WIDTH, PARAGRAPH = 120, 4
 
 # How much memory has to be free for `make try`, which takes 3.5 GiB.
@@ -51,8 +52,7 @@ def cases():
     for target in sorted(targets(text)):
         yield f"make {target}".strip(), functools.partial(try_target, target)
     yield "make try with other words", try_words
-    if ALL:
-        yield "what make try prints", try_make
+    yield "what make try prints", try_make
 
 
 def read(path):
