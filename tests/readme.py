@@ -97,10 +97,14 @@ def try_links(page):
 # ---- commands
 
 
+def by_hand():
+    """The environment without what a make around this run has put there."""
+    return {name: value for name, value in os.environ.items() if name not in ("MAKEFLAGS", "MFLAGS", "MAKELEVEL")}
+
+
 def shell(command, folder=TOP):
     """The status of a command and what it prints, standard error among it. `dwline` is the program that is tried."""
-    env = {name: value for name, value in os.environ.items() if name not in ("MAKEFLAGS", "MFLAGS", "MAKELEVEL")}
-    env.update(PATH=f"{programs()}:{os.environ['PATH']}", LC_ALL="C")
+    env = {**by_hand(), "PATH": f"{programs()}:{os.environ['PATH']}", "LC_ALL": "C"}
     done = subprocess.run(["bash", "-c", command], cwd=folder, env=env, stdin=subprocess.DEVNULL,
                           stdout=subprocess.PIPE, stderr=subprocess.STDOUT)
     return done.returncode, done.stdout.decode("utf-8", "replace").rstrip()
@@ -284,6 +288,6 @@ def try_make():
         return Skipped("rt isn't installed")
     if free_memory() < TRY_MEMORY:
         return Skipped(f"{TRY_MEMORY >> 30} GiB of memory aren't free")
-    done = subprocess.run(["make", "--silent", "try"], cwd=TOP, stdin=subprocess.DEVNULL, stdout=subprocess.PIPE,
-                          stderr=subprocess.PIPE)
+    done = subprocess.run(["make", "--silent", "try"], cwd=TOP, env=by_hand(), stdin=subprocess.DEVNULL,
+                          stdout=subprocess.PIPE, stderr=subprocess.PIPE)
     return unlike("make try", data("gcc-O2", "expected.dump"), done.stdout)
